@@ -1,0 +1,85 @@
+-- Laws of `firstOf`: a walk's turn, found and not found; what the number says of the list.
+use Prim.Native.Nat.{ℕ, zero, suc, _≤_, _<_, _+_}
+use mathlib.Core.Path.{_≡_, refl, ap, sym, _∙_}
+use mathlib.Core.List.{List, [], _∷_}
+use mathlib.Core.Bool.{Bool, true, false, cond}
+use native.Mathlib.Omega.{arith}
+use native.Mathlib.Numerals.{add-one}
+use native.Mathlib.Decide.{decLt}
+use lib.ListN.{length, getD, drop, drop-of-length-le, List·getD-eq-default}
+use lib.Dec.{ltb}
+use lib.Seq.{drop-cons}
+use borrow.Author.Tests.{ltb-false, ltb-true, lt-ltb, le-ltb}
+use Rattle.lists.specs.First.{firstOf, any}
+
+-- what a walk that stands at i knows: none before i passes
+abbrev pub Passed : {A : Type 0} → (A → Bool) → List A → ℕ → Type 0
+Passed p l i = firstOf p l ≡ i + firstOf p (drop i l)
+
+module _ {A : Type 0} (p : A → Bool) (l : List A) (d : A) (i : ℕ) where
+  pub first-next : i < length l → Passed p l i → p (getD l i d) ≡ false → Passed p l (i + 1)
+  unfolding firstOf
+  first-next h w e = w ∙ (ap (λ (m : List A). i + firstOf p m) (drop-cons l i d h) ∙ rw (e, add-one) (omega arith))
+
+  pub first-found : i < length l → Passed p l i → p (getD l i d) ≡ true → i ≡ firstOf p l
+  unfolding firstOf
+  first-found h w e = sym (w ∙ (ap (λ (m : List A). i + firstOf p m) (drop-cons l i d h) ∙ rw e (omega arith)))
+
+pub first-none : {A : Type 0} (p : A → Bool) (l : List A) (i n : ℕ) → length l ≡ n → i ≤ n → n ≤ i → Passed p l i → n ≡ firstOf p l
+unfolding firstOf
+first-none p l i n z a b w =
+    let e : drop i l ≡ [] = drop-of-length-le l {i = i} (omega arith) in
+    let w′ : firstOf p l ≡ i + 0 = rw e at w in
+    omega arith
+
+pub first-le : {A : Type 0} (p : A → Bool) (l : List A) → firstOf p l ≤ length l
+unfolding firstOf
+first-le p [] = omega arith
+first-le {A} p (x ∷ xs) = go (p x) (first-le p xs)
+  where
+    go : (b : Bool) → firstOf p xs ≤ length xs → cond b zero (suc (firstOf p xs)) ≤ suc (length xs)
+    go true h = omega arith
+    go false h = omega arith
+
+-- what lies before the first does not pass
+pub first-before : {A : Type 0} (p : A → Bool) (l : List A) (d : A) (i : ℕ) → i < firstOf p l → p (getD l i d) ≡ false
+unfolding firstOf
+first-before p [] d i h = absurd (omega arith)
+first-before {A} p (x ∷ xs) d i h = go (p x) refl i h (λ k. first-before p xs d k)
+  where
+    go : (b : Bool) → p x ≡ b → (i : ℕ) → i < cond b zero (suc (firstOf p xs)) → ((k : ℕ) → k < firstOf p xs → p (getD xs k d) ≡ false) → p (getD (x ∷ xs) i d) ≡ false
+    go true e i h r = absurd (omega arith)
+    go false e ℕ.zero h r = e
+    go false e (suc i) h r = r i (omega arith)
+
+-- and the first does, where there is one
+pub first-passes : {A : Type 0} (p : A → Bool) (l : List A) (d : A) → firstOf p l < length l → p (getD l (firstOf p l) d) ≡ true
+unfolding firstOf
+first-passes p [] d h = absurd (omega arith)
+first-passes {A} p (x ∷ xs) d h = go (p x) refl h (first-passes p xs d)
+  where
+    go : (b : Bool) → p x ≡ b → cond b zero (suc (firstOf p xs)) < suc (length xs) → (firstOf p xs < length xs → p (getD xs (firstOf p xs) d) ≡ true)
+        → p (getD (x ∷ xs) (cond b zero (suc (firstOf p xs))) d) ≡ true
+    go true e h r = e
+    go false e h r = r (omega arith)
+
+-- `any` by the walk's number
+pub any-below : {A : Type 0} (p : A → Bool) (l : List A) (n : ℕ) → length l ≡ n → any p l ≡ ltb (firstOf p l) n
+unfolding any
+any-below p l n z = ap (λ (k : ℕ). ltb (firstOf p l) k) z
+
+-- where none passes, each does not
+pub none-passes : {A : Type 0} (p : A → Bool) (l : List A) (d : A) → any p l ≡ false → (i : ℕ) → i < length l → p (getD l i d) ≡ false
+unfolding any
+none-passes p l d e i h = first-before p l d i (omega (arith, ltb-false (firstOf p l) (length l) e))
+
+-- where each does not, none passes
+pub all-fail : {A : Type 0} (p : A → Bool) (l : List A) (d : A) → ((i : ℕ) → i < length l → p (getD l i d) ≡ false) → any p l ≡ false
+unfolding any
+all-fail p l d f = go (decLt (firstOf p l) (length l))
+  where
+    go : Dec (firstOf p l < length l) → ltb (firstOf p l) (length l) ≡ false
+    go (yes h) =
+        let clash : true ≡ false = sym (first-passes p l d h) ∙ f (firstOf p l) h in
+        lt-ltb (firstOf p l) (length l) h ∙ clash
+    go (no h) = le-ltb (firstOf p l) (length l) (omega arith)
