@@ -1,0 +1,65 @@
+-- Type 11, message: document 01, 'Packet bytes'; 002 (Part 2, rev. 2.1), 4.1 and table 4-2.
+use Prim.Native.Nat.{ℕ, _+_, _-_, _*_, _/_, _%_}
+use mathlib.Core.List.{List, [], _∷_}
+use mathlib.Core.Bool.{Bool, false, cond, _||_}
+use lib.ListN.{length, getD}
+use lib.Dec.{eqb, ltb}
+use Rattle.lists.specs.Bytes.{byte}
+use Rattle.wire.specs.Packet.{header, source}
+use Rattle.wire.specs.declared.MessageSegment.{MessageSegment}
+
+-- byte 5: msglen 4, ssize 4
+abbrev pub msglen : List ℕ → ℕ
+msglen p = byte p header / 16
+
+abbrev pub ssize : List ℕ → ℕ
+ssize p = byte p header % 16
+
+-- byte 6: letter 2, mbox 2, msgseg 4
+abbrev pub letter : List ℕ → ℕ
+letter p = byte p (header + 1) / 64
+
+abbrev pub mbox : List ℕ → ℕ
+mbox p = byte p (header + 1) / 16 % 4
+
+abbrev pub msgseg : List ℕ → ℕ
+msgseg p = byte p (header + 1) % 16
+
+-- data from byte 7
+abbrev pub messageFrom : ℕ
+messageFrom = header + 2
+
+-- what a type 11 packet says
+unfoldable pub messageOf : List ℕ → MessageSegment
+messageOf p = record {
+  source = source p;
+  letter = letter p;
+  mbox = mbox p;
+  msglen = msglen p;
+  ssize = ssize p;
+  msgseg = msgseg p;
+  raw = length p - messageFrom;
+}
+
+-- the bytes that an ssize code means; 0: reserved
+abbrev pub ssizes : List ℕ
+ssizes = 0 ∷ 0 ∷ 0 ∷ 0 ∷ 0 ∷ 0 ∷ 0 ∷ 0 ∷ 0 ∷ 8 ∷ 16 ∷ 32 ∷ 64 ∷ 128 ∷ 256 ∷ 0 ∷ []
+
+unfoldable pub bytesOf : ℕ → ℕ
+bytesOf code = getD ssizes code 0
+
+-- msglen 0: one segment, whose last field is no number but xmbox
+abbrev pub isSingle : MessageSegment → Bool
+isSingle m = eqb (m .msglen) 0
+
+-- segment msglen is the last; with msglen 0 the only one is
+abbrev pub isLast : MessageSegment → Bool
+isLast m = isSingle m || eqb (m .msgseg) (m .msglen)
+
+-- 4 xmbox + mbox for the only segment, else mbox
+abbrev pub mailbox : MessageSegment → ℕ
+mailbox m = cond (isSingle m) (4 * m .msgseg + m .mbox) (m .mbox)
+
+-- 8 to `size` bytes in eights
+unfoldable pub inEights : ℕ → ℕ → Bool
+inEights n size = cond (ltb n 8) false (cond (ltb size n) false (eqb (n % 8) 0))
