@@ -67,3 +67,42 @@ joined-rows k ℕ.zero [] z = refl
 joined-rows k ℕ.zero (_ ∷ w) z = absurd (omega (arith, mul-zero k))
 joined-rows k (suc n) w z =
     ap (λ (l : List ℕ). take k w ++ l) (joined-rows k n (drop k w) (simp length-drop (omega (arith, mul-suc k n)))) ∙ take-append-drop k w
+
+pub joined-front : (k n : ℕ) (w : List ℕ) → k * n ≤ length w → joined (rows k n w) ≡ take (k * n) w
+unfolding rows joined
+joined-front k ℕ.zero w h = rw (mul-zero k)
+joined-front k (suc n) w h =
+    let m = mul-suc k n in
+    ap (λ (l : List ℕ). take k w ++ l) (joined-front k n (drop k w) (simp length-drop (omega arith)))
+    ∙ (sym (take-add k (k * n) w) ∙ ap (λ (j : ℕ). take j w) (step k n))
+
+pub map-set : {A B : Type 0} (f : A → B) (l : List A) (i : ℕ) (a : A) → map f (set l i a) ≡ set (map f l) i (f a)
+map-set f [] i a = refl
+map-set f (x ∷ l) ℕ.zero a = refl
+map-set {A} {B} f (x ∷ l) (suc i) a = ap (λ (m : List B). f x ∷ m) (map-set f l i a)
+
+-- Records kept as rows: `from` reads one out of its words, `to` gives its words.
+module _ {A : Type 0} (k : ℕ) (from : List ℕ → A) (to : A → List ℕ) where
+  -- the words of the records that stand in a table are the table's
+  pub rows-again : ((r : List ℕ) → length r ≡ k → to (from r) ≡ r) → (n : ℕ) (w : List ℕ) → k * n ≤ length w → map to (map from (rows k n w)) ≡ rows k n w
+  unfolding rows
+  rows-again back ℕ.zero w h = refl
+  rows-again back (suc n) w h =
+      let m = mul-suc k n in
+      ap₂ (λ (x : List ℕ) (y : List (List ℕ)). x ∷ y) (back (take k w) (length-take-le k w (omega arith))) (rows-again back n (drop k w) (simp length-drop (omega arith)))
+
+  -- the records of a table made of records are those
+  pub records-again : ((a : A) → length (to a) ≡ k) → ((a : A) → from (to a) ≡ a) → (l : List A) (rest : List ℕ) → map from (rows k (length l) (joined (map to l) ++ rest)) ≡ l
+  unfolding rows joined
+  records-again wide same [] rest = refl
+  records-again wide same (a ∷ l) rest =
+      let front : to a ++ joined (map to l) ++ rest ≡ to a ++ (joined (map to l) ++ rest) = append-assoc (to a) (joined (map to l)) rest in
+      ap (λ (w : List ℕ). map from (take k w ∷ rows k (length l) (drop k w))) front
+      ∙ ap₂ (λ (x : A) (y : List A). x ∷ y)
+      (ap from (take-at (to a) (joined (map to l) ++ rest) k (wide a)) ∙ same a)
+      (ap (λ (w : List ℕ). map from (rows k (length l) w)) (drop-at (to a) (joined (map to l) ++ rest) k (wide a)) ∙ records-again wide same l rest)
+
+  pub length-joined : ((a : A) → length (to a) ≡ k) → (l : List A) → length (joined (map to l)) ≡ k * length l
+  unfolding joined
+  length-joined wide [] = sym (mul-zero k)
+  length-joined wide (a ∷ l) = length-append (to a) (joined (map to l)) ∙ (omega (arith, wide a, length-joined wide l, mul-suc k (length l)))

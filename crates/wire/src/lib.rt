@@ -4,7 +4,7 @@ ghost use mathlib.Core.Bool.{_||_, true};
 ghost use Prim.Native.Nat.{_+_, _<_, _≤_};
 ghost use lib.ListN.{length};
 ghost use Rattle.wire.specs.Packet.{bit as bitOf};
-ghost use Rattle.wire.specs.Type9.{isS, isE, segmentAt, pduLength, dataLength};
+ghost use Rattle.wire.specs.Type9.{isS, isE, sameFlow, segmentAt, badMTU, pduLength, dataLength};
 ghost use Rattle.wire.specs.Type11.{messageOf, bytesOf, inEights};
 ghost use Rattle.wire.specs.Type13.{above as aboveOf, answered};
 ghost use Rattle.wire.specs.Parsed.{parsedFielded, parsedStream, parsedByType, parsed};
@@ -14,7 +14,9 @@ pub const HEADER: usize = 5;
 
 // The statuses of a response.
 pub const DONE: u8 = 0;
+
 pub const RETRY: u8 = 3;
+
 pub const ERROR: u8 = 7;
 
 // A flow: who sends, under which class of service.
@@ -51,6 +53,16 @@ pub enum Parsed {
     Refused(usize),
     Stream(Segment),
     Message(MessageSegment),
+}
+
+// Whether two flows are one: the only place that compares them.
+pub fn same_flow(a: Flow, b: Flow) -> bool
+    ensures { λ r. ⌜ r ≡ sameFlow a b ⌝ }
+{
+    if a.source == b.source {
+        return a.cos == b.cos;
+    }
+    false
 }
 
 // Whether the bit of that weight is set.
@@ -167,6 +179,19 @@ pub fn parse(packet: &[u8], device: usize) -> Parsed
         return Parsed::Refused(3);
     }
     parse_by_type(packet)
+}
+
+// Whether an MTU is no multiple of 4 from 32 to 256.
+pub fn bad_mtu(mtu: usize) -> bool
+    ensures { λ r. ⌜ r ≡ badMTU mtu ⌝ }
+{
+    if mtu < 32 {
+        return true;
+    }
+    if 256 < mtu {
+        return true;
+    }
+    mtu % 4 != 0
 }
 
 // The PDU length that an end's field means.

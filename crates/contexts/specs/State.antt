@@ -1,0 +1,84 @@
+-- The endpoint's state: what setup fixed, 16 stream contexts and 8 message contexts (document 01, 'Cutting and joining PDUs').
+use Prim.Native.Nat.{ℕ}
+use mathlib.Core.List.{List}
+use mathlib.Core.Bool.{Bool, not, _&&_}
+use lib.ListN.{getD, set, replicate}
+use lib.Dec.{eqb}
+use Rattle.lists.specs.First.{firstOf}
+use Rattle.wire.specs.declared.Flow.{Flow}
+use Rattle.wire.specs.Type9.{sameFlow}
+use Rattle.contexts.specs.declared.StreamContext.{StreamContext}
+use Rattle.contexts.specs.declared.MessageContext.{MessageContext}
+
+pub record State : Type 0 where
+  -- our device ID
+  pub device : ℕ
+  pub mtu : ℕ
+  -- R, the bytes of a stream context's room
+  pub room : ℕ
+  -- 16 of them
+  pub streams : List StreamContext
+  -- 8 of them
+  pub messages : List MessageContext
+
+-- a context with all its fields 0
+abbrev pub closedStream : StreamContext
+closedStream = record { live = 0; flow = record { source = 0; cos = 0 }; stream = 0; held = 0 }
+
+abbrev pub closedMessage : MessageContext
+closedMessage = record { live = 0; source = 0; letter = 0; mbox = 0; msglen = 0; ssize = 0; marks = 0; last = 0 }
+
+-- as setup makes it
+abbrev pub fresh : ℕ → ℕ → ℕ → State
+fresh device mtu room = record {
+  device = device;
+  mtu = mtu;
+  room = room;
+  streams = replicate 16 closedStream;
+  messages = replicate 8 closedMessage;
+}
+
+-- context n; a closed one past the last
+abbrev pub streamIn : State → ℕ → StreamContext
+streamIn s n = getD (s .streams) n closedStream
+
+abbrev pub messageIn : State → ℕ → MessageContext
+messageIn s n = getD (s .messages) n closedMessage
+
+-- the state with c as context n; as it was where n is past the last
+abbrev pub withStream : State → ℕ → StreamContext → State
+withStream s n c = record { device = s .device; mtu = s .mtu; room = s .room; streams = set (s .streams) n c; messages = s .messages }
+
+abbrev pub withMessage : State → ℕ → MessageContext → State
+withMessage s n c = record { device = s .device; mtu = s .mtu; room = s .room; streams = s .streams; messages = set (s .messages) n c }
+
+-- free and open contexts: a live word other than 0 counts as open
+unfoldable pub isFreeStream : StreamContext → Bool
+isFreeStream c = eqb (c .live) 0
+
+unfoldable pub isFreeMessage : MessageContext → Bool
+isFreeMessage c = eqb (c .live) 0
+
+-- an open context of that flow
+unfoldable pub isOfFlow : Flow → StreamContext → Bool
+isOfFlow flow c = not (isFreeStream c) && sameFlow (c .flow) flow
+
+-- an open context of that message: known by source, letter and mbox
+unfoldable pub isOfMessage : ℕ → ℕ → ℕ → MessageContext → Bool
+isOfMessage source letter mbox c = not (isFreeMessage c) && (eqb (c .source) source && (eqb (c .letter) letter && eqb (c .mbox) mbox))
+
+-- the flow's open context: of two, the lower number; 16: none
+unfoldable pub flowContext : State → Flow → ℕ
+flowContext s flow = firstOf (isOfFlow flow) (s .streams)
+
+-- the lowest free stream context; 16: none
+unfoldable pub freeStream : State → ℕ
+freeStream s = firstOf isFreeStream (s .streams)
+
+-- the message's open context: of two, the lower number; 8: none
+unfoldable pub messageContext : State → ℕ → ℕ → ℕ → ℕ
+messageContext s source letter mbox = firstOf (isOfMessage source letter mbox) (s .messages)
+
+-- the lowest free message context; 8: none
+unfoldable pub freeMessage : State → ℕ
+freeMessage s = firstOf isFreeMessage (s .messages)

@@ -1,0 +1,46 @@
+-- The segment writer: its refusals in the paper's order, what it answers and what it leaves (document 01, after the table).
+use Prim.Native.Nat.{ℕ}
+use mathlib.Core.List.{List, [], _∷_}
+use mathlib.Core.Bool.{Bool, cond, not, _||_}
+use lib.ListN.{length}
+use lib.Dec.{eqb, ltb}
+use Rattle.lists.specs.Bytes.{written}
+use Rattle.answers.specs.Answers.{Said, refused, wrote}
+use Rattle.answers.specs.Refusals.{Row, row, all, Verdict, refuse, accept, verdict}
+use Rattle.wire.specs.Type9.{badMTU}
+use Rattle.segments.specs.declared.Heading.{Heading}
+use Rattle.segments.specs.Cutting.{segmentCount, packetOf}
+
+-- L is 0 or over 65,536
+unfoldable pub badSize : ℕ → Bool
+badSize size = eqb size 0 || ltb 65536 size
+
+-- in order: 18; 17 priority over 3; 14 L is 0 or over 65,536; 15 segment number not below the count; 16 output shorter than the packet
+unfoldable pub writerTable : List ℕ → Heading → ℕ → List ℕ → ℕ → List Row
+writerTable out h mtu pdu k =
+    row 18 (badMTU mtu) all
+    ∷ row 17 (ltb 3 (h .priority)) all
+    ∷ row 14 (badSize (length pdu)) all
+    ∷ row 15 (not (ltb k (segmentCount mtu (length pdu)))) all
+    ∷ row 16 (ltb (length out) (length (packetOf h mtu pdu k))) all
+    ∷ []
+
+-- what the writer says and the output it leaves
+pub record Wrote : Type 0 where
+  pub says : Said
+  pub out : List ℕ
+
+abbrev pub wroteOf : Said → List ℕ → Wrote
+wroteOf says out = record { says = says; out = out }
+
+abbrev pub wroteBy : List ℕ → List ℕ → Verdict → Wrote
+wroteBy out packet (refuse number leaves) = wroteOf (refused number) out
+wroteBy out packet accept = wroteOf (wrote (length packet)) (written out 0 packet)
+
+-- success answers the packet's length and changes only its bytes; a refusal changes none
+unfoldable pub writing : List ℕ → Heading → ℕ → List ℕ → ℕ → Wrote
+writing out h mtu pdu k = wroteBy out (packetOf h mtu pdu k) (verdict (writerTable out h mtu pdu k))
+
+-- the number of segments of a PDU; 0 where the writer would refuse the MTU or the length
+unfoldable pub countOf : ℕ → ℕ → ℕ
+countOf mtu size = cond (badMTU mtu) 0 (cond (badSize size) 0 (segmentCount mtu size))
