@@ -216,6 +216,14 @@ pub fn free_message(state: &[usize]) -> usize
     8
 }
 
+// Two to the k: the weight of mark k.
+pub fn power(k: usize) -> usize
+    requires { ⌜ k ≤ 16 ⌝ }
+    ensures { λ r. ⌜ (r ≡ 2 ^ k) × (r ≤ 65536) ⌝ }
+{
+    1usize << k
+}
+
 // Whether segment k is marked.
 pub fn marked(marks: u16, k: usize) -> bool
     requires { ⌜ k < 16 ⌝ }
@@ -281,7 +289,7 @@ fn bad_marks(c: MessageContext) -> bool
     ensures { λ r. ⌜ r ≡ badMarks c ⌝ }
 {
     let count = c.msglen + 1;
-    if (1usize << count) <= c.marks {
+    if power(count) <= c.marks {
         return true;
     }
     if c.marks == 0 {

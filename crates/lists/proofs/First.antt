@@ -2,7 +2,7 @@
 use Prim.Native.Nat.{ℕ, zero, suc, _≤_, _<_, _+_}
 use mathlib.Core.Path.{_≡_, refl, ap, sym, _∙_}
 use mathlib.Core.List.{List, [], _∷_}
-use mathlib.Core.Bool.{Bool, true, false, cond}
+use mathlib.Core.Bool.{Bool, true, false, cond, false≢true}
 use native.Mathlib.Omega.{arith}
 use native.Mathlib.Numerals.{add-one}
 use native.Mathlib.Decide.{decLt}
@@ -83,3 +83,19 @@ all-fail p l d f = go (decLt (firstOf p l) (length l))
         let clash : true ≡ false = sym (first-passes p l d h) ∙ f (firstOf p l) h in
         lt-ltb (firstOf p l) (length l) h ∙ clash
     go (no h) = le-ltb (firstOf p l) (length l) (omega arith)
+
+-- one that passes is enough
+pub any-found : {A : Type 0} (p : A → Bool) (l : List A) (d : A) (i : ℕ) → i < length l → p (getD l i d) ≡ true → any p l ≡ true
+unfolding any
+any-found p l d i h e = go (decLt i (firstOf p l))
+  where
+    go : Dec (i < firstOf p l) → ltb (firstOf p l) (length l) ≡ true
+    go (yes b) =
+        let clash : false ≡ true = sym (first-before p l d i b) ∙ e in
+        absurd (false≢true clash)
+    go (no b) = lt-ltb (firstOf p l) (length l) (omega arith)
+
+-- a walk to the end that found none
+pub any-none : {A : Type 0} (p : A → Bool) (l : List A) (i n : ℕ) → length l ≡ n → i ≤ n → n ≤ i → Passed p l i → any p l ≡ false
+unfolding any
+any-none p l i n z a b w = le-ltb (firstOf p l) (length l) (omega (arith, first-none p l i n z a b w))
