@@ -1,3 +1,4 @@
 pub mod Words
 pub mod Marks
 pub mod Found
+pub mod Good

@@ -1,0 +1,55 @@
+-- The tests of rows 6 to 11 of the refusal table, for a type 9 packet and a state (document 01, 'Refusal numbers').
+use Prim.Native.Nat.{ℕ, _+_, _/_, _%_}
+use mathlib.Core.Bool.{Bool, cond, not, _||_, _&&_}
+use lib.Dec.{eqb, ltb}
+use Rattle.wire.specs.declared.Segment.{Segment}
+use Rattle.wire.specs.Type9.{dataLength, pduLength}
+use Rattle.contexts.specs.State.{State, streamIn, flowContext, freeStream}
+
+-- the flow's open context, 16 where it has none, and whether it has one
+abbrev pub foundFor : State → Segment → ℕ
+foundFor s g = flowContext s (g .flow)
+
+abbrev pub flowOpen : State → Segment → Bool
+flowOpen s g = ltb (foundFor s g) 16
+
+-- what the flow's context already holds; a start or single begins anew
+abbrev pub heldBefore : State → Segment → ℕ
+heldBefore s g = cond (g .start) 0 (streamIn s (foundFor s g) .held)
+
+abbrev pub total : State → Segment → ℕ
+total s g = heldBefore s g + dataLength g
+
+-- O=1 exactly if the number of half-words is odd
+abbrev pub wrongO : Segment → Bool
+wrongO g = cond (eqb (g .raw / 2 % 2) 1) (not (g .odd)) (g .odd)
+
+-- 6: no data, odd bytes of data, or O wrong
+unfoldable pub malformed : Segment → Bool
+malformed g = eqb (g .raw) 0 || eqb (g .raw % 2) 1 || wrongO g
+
+-- 7: start or continuation not MTU data bytes (pad not counted); end or single over MTU
+abbrev pub wrongSize : Bool → ℕ → ℕ → Bool
+wrongSize end n mtu = cond end (ltb mtu n) (not (eqb n mtu))
+
+unfoldable pub missized : State → Segment → Bool
+missized s g = wrongSize (g .end) (dataLength g) (s .mtu)
+
+-- 8: continuation or end, flow not open
+unfoldable pub notOpen : State → Segment → Bool
+notOpen s g = not (g .start) && not (flowOpen s g)
+
+-- 9: total would pass R
+unfoldable pub passesRoom : State → Segment → Bool
+passesRoom s g = ltb (s .room) (total s g)
+
+-- 10: start or single, flow not open, no context free
+unfoldable pub noneFree : State → Segment → Bool
+noneFree s g = g .start && (not (flowOpen s g) && not (ltb (freeStream s) 16))
+
+-- 11: end, total differs from PDU length
+abbrev pub wrongLength : Segment → ℕ → Bool
+wrongLength g n = g .end && not (eqb n (pduLength (g .field)))
+
+unfoldable pub lengthDiffers : State → Segment → Bool
+lengthDiffers s g = not (g .start) && wrongLength g (total s g)
