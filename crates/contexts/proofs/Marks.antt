@@ -4,8 +4,9 @@ use mathlib.Core.Path.{_≡_, refl, ap, sym, _∙_}
 use mathlib.Core.Bool.{Bool, true, false, _&&_, and-false}
 use native.Mathlib.Omega.{arith}
 use native.Mathlib.Decide.{ℕ-discrete}
-use native.Mathlib.Nat.{one-mul, mod-eq-of-lt}
-use lib.Pow.{pow-mono}
+use native.Mathlib.Nat.{one-mul, mod-eq-of-lt, mod-lt, zero-div, add-mul, mul-le-mul-right, pow-succ', div-lt-iff-lt-mul, div-add-mod'}
+use borrow.Author.Tests.{eqb-false}
+use lib.Pow.{pow-mono, pow-pos, pow-add}
 use native.Mathlib.Numerals.{add-one}
 use Rattle.contexts.specs.Marks.{marked, allMarked}
 
@@ -30,3 +31,29 @@ power-fits k h =
     let small : 2 ^ k ≤ 65536 = pow-mono h in
     let same : 1 * 2 ^ k % 18446744073709551616 ≡ 2 ^ k = ap (λ (n : ℕ). n % 18446744073709551616) (one-mul (2 ^ k)) ∙ mod-eq-of-lt (omega arith) in
     (same, rw same small)
+
+-- a mark that is not set leaves room for it: with it the marks are still those of segments below w
+pub room-for-mark : (marks k w : ℕ) → marks < 2 ^ w → k < w → marked marks k ≡ false → marks + 2 ^ k < 2 ^ w
+unfolding marked
+room-for-mark marks k w h below e =
+    let d : ℕ = w - suc k in
+    let q : ℕ = marks / 2 ^ k in
+    let even : q % 2 ≡ 1 → ⊥ = eqb-false (q % 2) 1 e in
+    let whole : 2 ^ w ≡ 2 * 2 ^ d * 2 ^ k = split-power w k below in
+    let upper : q < 2 * 2 ^ d = div-lt-iff-lt-mul (pow-pos k) .1 (rw (← whole) h) in
+    let two : q + 2 ≤ 2 * 2 ^ d = omega (arith, upper, even) in
+    let scaled : (q + 2) * 2 ^ k ≤ 2 * 2 ^ d * 2 ^ k = mul-le-mul-right (2 ^ k) two in
+    let parts : (q + 2) * 2 ^ k ≡ q * 2 ^ k + 2 * 2 ^ k = add-mul q 2 (2 ^ k) in
+    let same : q * 2 ^ k + marks % 2 ^ k ≡ marks = div-add-mod' marks (2 ^ k) in
+    let rest : marks % 2 ^ k < 2 ^ k = mod-lt marks (pow-pos k) in
+    rw whole (omega (arith, scaled, parts, same, rest))
+  where
+    split-power : (w k : ℕ) → k < w → 2 ^ w ≡ 2 * 2 ^ (w - suc k) * 2 ^ k
+    split-power w k h =
+        let n : w ≡ suc (w - suc k) + k = omega arith in
+        ap (λ (j : ℕ). 2 ^ j) n ∙ (pow-add 2 (suc (w - suc k)) k ∙ ap (λ (j : ℕ). j * 2 ^ k) (pow-succ' 2 (w - suc k)))
+
+-- without marks nothing is marked
+pub nothing-marked : (k : ℕ) → marked 0 k ≡ false
+unfolding marked
+nothing-marked k = rw (zero-div (2 ^ k))

@@ -1,0 +1,233 @@
+-- Laws of a type 11 step: what each way through the code leaves is what the definition says.
+use Prim.Native.Nat.{ℕ, _≤_, _<_, _+_, _-_, _*_, _^_}
+use mathlib.Core.Path.{_≡_, refl, ap, sym, _∙_}
+use mathlib.Core.List.{List}
+use mathlib.Core.Bool.{Bool, true, false, cond, not, _||_, _&&_, true≢false, false≢true, or-true}
+use native.Mathlib.Omega.{arith}
+use native.Mathlib.Nat.{mul-le-mul-right}
+use lib.Dec.{eqb, ltb}
+use lib.ListN.{length, take, drop, length-drop}
+use lib.Seq.{take-all}
+use lib.Pow.{pow-mono}
+use borrow.Author.Tests.{lt-ltb, le-ltb, eq-eqb, ne-eqb, eqb-true, eqb-false, ltb-false, not-false}
+use Rattle.lists.specs.Bytes.{written}
+use Rattle.answers.specs.Answers.{Said, message}
+use Rattle.wire.specs.declared.MessageSegment.{MessageSegment}
+use Rattle.wire.specs.Type11.{bytesOf, inEights, isSingle, isLast, mailbox}
+use Rattle.wire.specs.Type13.{ERROR, RETRY, DONE, answered}
+use Rattle.wire.proofs.Sizes.{bytes-le, eights-le}
+use Rattle.contexts.specs.declared.MessageContext.{MessageContext}
+use Rattle.contexts.specs.State.{State, messageIn, withMessage, closedMessage, messageContext, freeMessage}
+use Rattle.contexts.specs.Marks.{marked, allMarked}
+use Rattle.contexts.specs.Refusal19.{badLast, namedBy19}
+use Rattle.contexts.specs.Words.{stateOf}
+use Rattle.contexts.proofs.Words.{eight}
+use Rattle.contexts.proofs.Good.{Message, good, message-found}
+use Rattle.messages.specs.Rows.{foundFor, messageOpen, reservedSize, wrongLength, pastLast, otherMessage, alreadyMarked, noneFree}
+use Rattle.messages.specs.Joining.{Joined, joining, alone, dataOf, marksWith, lastWith, contextWith, answerWith, placed, accepted, refusedWith}
+use Rattle.messages.specs.Step.{judged, joined, stepped, Sound, Fits, Kept, Replied}
+
+-- ---- numbers that stay inside
+
+pub product-le : (k size : ℕ) → k < 16 → size ≤ 256 → k * size ≤ 3840
+product-le k size b h =
+    let few : k ≤ 15 = omega arith in
+    let most : k * size ≤ 15 * size = mul-le-mul-right size few in
+    omega arith
+
+-- segment k of room n ends inside the memory
+pub segment-ends : (n k size raw : ℕ) → n < 8 → k < 16 → size ≤ 256 → raw ≤ size → n * 4096 + k * size + raw ≤ 32768
+segment-ends n k size raw a b h r = omega (arith, product-le k size b h)
+
+-- the kept length of the last segment
+pub last-le : (c : MessageContext) → badLast c ≡ false → c .last ≤ 256
+unfolding badLast
+last-le c = go (marked (c .marks) (c .msglen))
+  where
+    go : (b : Bool) → cond b (not (inEights (c .last) (bytesOf (c .ssize)))) (not (eqb (c .last) 0)) ≡ false → c .last ≤ 256
+    go true e = omega (arith, eights-le (c .last) (bytesOf (c .ssize)) (not-false _ e), bytes-le (c .ssize))
+    go false e = omega (arith, eqb-true (c .last) 0 (not-false _ e))
+
+pub marks-le : (marks msglen : ℕ) → msglen < 16 → marks < 2 ^ (msglen + 1) → marks < 65536
+marks-le marks msglen h m =
+    let bound : 2 ^ (msglen + 1) ≤ 65536 = pow-mono {j = 16} (omega arith) in
+    omega arith
+
+pub last-with-le : (m : MessageSegment) (last : ℕ) → last ≤ 256 → m .raw ≤ 256 → lastWith m last ≤ 256
+last-with-le m last h r = go (eqb (m .msgseg) (m .msglen))
+  where
+    go : (b : Bool) → cond b (m .raw) last ≤ 256
+    go true = r
+    go false = h
+
+-- ---- rows 20 to 22
+raw-le : (m : MessageSegment) → wrongLength m ≡ false → m .raw ≤ bytesOf (m .ssize)
+unfolding wrongLength
+raw-le m = go (isLast m)
+  where
+    go : (b : Bool) → cond b (not (inEights (m .raw) (bytesOf (m .ssize)))) (not (eqb (m .raw) (bytesOf (m .ssize)))) ≡ false → m .raw ≤ bytesOf (m .ssize)
+    go true e = eights-le (m .raw) (bytesOf (m .ssize)) (not-false _ e)
+    go false e = omega (arith, eqb-true (m .raw) (bytesOf (m .ssize)) (not-false _ e))
+
+seg-le : (m : MessageSegment) → pastLast m ≡ false → isSingle m ≡ false → m .msgseg ≤ m .msglen
+unfolding pastLast
+seg-le m e s = ltb-false (m .msglen) (m .msgseg) (ap (λ (b : Bool). not b && ltb (m .msglen) (m .msgseg)) (sym s) ∙ e)
+
+pub sound : (m : MessageSegment) → judged m ≡ 0 → Sound m
+unfolding judged
+sound m = go (reservedSize m) (wrongLength m) (pastLast m) refl refl
+  where
+    go : (a b d : Bool) → wrongLength m ≡ b → pastLast m ≡ d → _≡_ {A = ℕ} (cond a 20 (cond b 21 (cond d 22 0))) 0 → Sound m
+    go true b d p q e = absurd (omega arith)
+    go false true d p q e = absurd (omega arith)
+    go false false true p q e = absurd (omega arith)
+    go false false false p q e = record { fits = raw-le m p; past = seg-le m q }
+
+-- the code's numbers are these
+pub judge-length : (m : MessageSegment) → (bytesOf (m .ssize) ≡ 0 → ⊥) → wrongLength m ≡ true → 21 ≡ judged m
+unfolding judged reservedSize
+judge-length m a e = rw (ne-eqb (bytesOf (m .ssize)) 0 a, e)
+
+pub judge-single : (m : MessageSegment) → (bytesOf (m .ssize) ≡ 0 → ⊥) → wrongLength m ≡ false → m .msglen ≡ 0 → 0 ≡ judged m
+unfolding judged reservedSize pastLast
+judge-single m a e s = rw (ne-eqb (bytesOf (m .ssize)) 0 a, e, eq-eqb (m .msglen) 0 s)
+
+pub judge-past : (m : MessageSegment) → (bytesOf (m .ssize) ≡ 0 → ⊥) → wrongLength m ≡ false → (m .msglen ≡ 0 → ⊥) → m .msglen < m .msgseg → 22 ≡ judged m
+unfolding judged reservedSize pastLast
+judge-past m a e s h = rw (ne-eqb (bytesOf (m .ssize)) 0 a, e, ne-eqb (m .msglen) 0 s, lt-ltb (m .msglen) (m .msgseg) h)
+
+pub judge-none : (m : MessageSegment) → (bytesOf (m .ssize) ≡ 0 → ⊥) → wrongLength m ≡ false → (m .msglen ≡ 0 → ⊥) → m .msgseg ≤ m .msglen → 0 ≡ judged m
+unfolding judged reservedSize pastLast
+judge-none m a e s h = rw (ne-eqb (bytesOf (m .ssize)) 0 a, e, ne-eqb (m .msglen) 0 s, le-ltb (m .msglen) (m .msgseg) h)
+
+-- ---- rows 23 to 25
+replying : (s : State) (memory response p : List ℕ) (number status : ℕ) (says : Said) (after : List ℕ)
+    → Replied response p number status says after → joining says s memory after ≡ refusedWith s memory response p number status
+unfolding refusedWith
+replying s memory response p number status says after r = rw (r .answer, r .response)
+
+module _ (s : State) (memory response p : List ℕ) (m : MessageSegment) where
+  -- a single-segment message
+  module _ (t : isSingle m ≡ true) where
+    none-open : foundFor s m ≡ 8
+    unfolding foundFor
+    none-open = rw t
+
+    never : (otherMessage s m ≡ false) × (alreadyMarked s m ≡ false)
+    unfolding otherMessage alreadyMarked
+    never = (rw none-open, rw none-open)
+
+    pub alone-none : {says : Said} {after : List ℕ} → 8 ≤ freeMessage s → Replied response p 25 RETRY says after → joining says s memory after ≡ joined s memory response p m
+    unfolding joined noneFree
+    alone-none h r = replying s memory response p 25 RETRY _ _ r ∙ rw (never .0, never .1, none-open, le-ltb (freeMessage s) 8 h)
+
+    pub alone-taken : freeMessage s < 8 → alone s memory response p m (freeMessage s) ≡ joined s memory response p m
+    unfolding joined noneFree accepted
+    alone-taken h = rw (never .0, never .1, none-open, lt-ltb (freeMessage s) 8 h, t)
+
+  -- one of several
+  module _ (t : isSingle m ≡ false) where
+    found-is : foundFor s m ≡ messageContext s (m .source) (m .letter) (m .mbox)
+    unfolding foundFor
+    found-is = rw t
+
+    -- of an open message
+    module _ (c : MessageContext) (o : messageContext s (m .source) (m .letter) (m .mbox) < 8) (same : c ≡ messageIn s (messageContext s (m .source) (m .letter) (m .mbox))) where
+      opened : messageOpen s m ≡ true
+      opened = rw found-is (lt-ltb (messageContext s (m .source) (m .letter) (m .mbox)) 8 o)
+
+      context : messageIn s (foundFor s m) ≡ c
+      context = rw found-is (sym same)
+
+      other-is : otherMessage s m ≡ (not (eqb (c .msglen) (m .msglen)) || not (eqb (c .ssize) (m .ssize)))
+      unfolding otherMessage
+      other-is = rw (opened, context)
+
+      marked-is : alreadyMarked s m ≡ marked (c .marks) (m .msgseg)
+      unfolding alreadyMarked
+      marked-is = rw (opened, context)
+
+      free-is : noneFree s m ≡ false
+      unfolding noneFree
+      free-is = rw opened
+
+      pub join-msglen : {says : Said} {after : List ℕ} → (c .msglen ≡ m .msglen → ⊥) → Replied response p 23 ERROR says after → joining says s memory after ≡ joined s memory response p m
+      unfolding joined
+      join-msglen d r = replying s memory response p 23 ERROR _ _ r ∙ rw (other-is, ne-eqb (c .msglen) (m .msglen) d)
+
+      pub join-ssize : {says : Said} {after : List ℕ} → (c .ssize ≡ m .ssize → ⊥) → Replied response p 23 ERROR says after → joining says s memory after ≡ joined s memory response p m
+      unfolding joined
+      join-ssize d r = replying s memory response p 23 ERROR _ _ r ∙ rw (other-is, ne-eqb (c .ssize) (m .ssize) d, or-true (not (eqb (c .msglen) (m .msglen))))
+
+      module _ (l : c .msglen ≡ m .msglen) (z : c .ssize ≡ m .ssize) where
+        not-other : otherMessage s m ≡ false
+        not-other = other-is ∙ rw (eq-eqb (c .msglen) (m .msglen) l, eq-eqb (c .ssize) (m .ssize) z)
+
+        pub join-marked : {says : Said} {after : List ℕ} → marked (c .marks) (m .msgseg) ≡ true → Replied response p 24 ERROR says after → joining says s memory after ≡ joined s memory response p m
+        unfolding joined
+        join-marked d r = replying s memory response p 24 ERROR _ _ r ∙ rw (not-other, marked-is, d)
+
+        pub join-placed : marked (c .marks) (m .msgseg) ≡ false
+            → placed s memory response p m (messageContext s (m .source) (m .letter) (m .mbox)) (c .marks) (c .last) ≡ joined s memory response p m
+        unfolding joined accepted
+        join-placed d = rw (not-other, marked-is, d, free-is, t, opened, context, found-is)
+
+    -- of a new message
+    module _ (o : 8 ≤ messageContext s (m .source) (m .letter) (m .mbox)) where
+      shut : messageOpen s m ≡ false
+      shut = rw found-is (le-ltb (messageContext s (m .source) (m .letter) (m .mbox)) 8 o)
+
+      new : (otherMessage s m ≡ false) × (alreadyMarked s m ≡ false)
+      unfolding otherMessage alreadyMarked
+      new = (rw shut, rw shut)
+
+      pub begin-none : {says : Said} {after : List ℕ} → 8 ≤ freeMessage s → Replied response p 25 RETRY says after → joining says s memory after ≡ joined s memory response p m
+      unfolding joined noneFree
+      begin-none h r = replying s memory response p 25 RETRY _ _ r ∙ rw (new .0, new .1, shut, le-ltb (freeMessage s) 8 h)
+
+      pub begin-placed : freeMessage s < 8 → placed s memory response p m (freeMessage s) 0 0 ≡ joined s memory response p m
+      unfolding joined noneFree accepted
+      begin-placed h = rw (new .0, new .1, shut, lt-ltb (freeMessage s) 8 h, t)
+
+  -- ---- the whole step
+  pub step-refused : {says : Said} {after : List ℕ} (number : ℕ) → number ≡ judged m → (number ≡ 0 → ⊥) → Replied response p number ERROR says after → joining says s memory after ≡ stepped s memory response p m
+  unfolding stepped
+  step-refused number j n r = replying s memory response p number ERROR _ _ r ∙ rw (← j, ne-eqb number 0 n)
+
+  pub step-joined : judged m ≡ 0 → joined s memory response p m ≡ stepped s memory response p m
+  unfolding stepped
+  step-joined j = rw j
+
+-- ---- what the stores and the context make
+
+-- all behind the head
+pub data-whole : (p : List ℕ) → take (length p - 7) (drop 7 p) ≡ dataOf p
+data-whole p = take-all (length p - 7) (drop 7 p) (simp length-drop (omega arith))
+
+pub placing : (s : State) (memory response p : List ℕ) (m : MessageSegment) (n marks last size marks′ last′ : ℕ) (says : Said) (state : State) (memory′ response′ : List ℕ)
+    → size ≡ bytesOf (m .ssize)
+    → marks′ ≡ marksWith m marks
+    → last′ ≡ lastWith m last
+    → Kept s m n marks′ last′ says state
+    → memory′ ≡ written memory (n * 4096 + m .msgseg * size) (take (length p - 7) (drop 7 p))
+    → response′ ≡ answered response p DONE
+    → joining says state memory′ response′ ≡ placed s memory response p m n marks last
+unfolding placed
+placing s memory response p m n marks last size marks′ last′ says state memory′ response′ z a b k e r =
+    rw (k .answer, k .state, e, r, a, b, z, data-whole p)
+
+pub taking : (s : State) (memory response p : List ℕ) (m : MessageSegment) (n box : ℕ) (state : State) (memory′ response′ : List ℕ)
+    → box ≡ mailbox m
+    → state ≡ withMessage s n closedMessage
+    → memory′ ≡ written memory (n * 4096) (take (length p - 7) (drop 7 p))
+    → response′ ≡ answered response p DONE
+    → joining (message n (m .source) (m .letter) box (m .raw)) state memory′ response′ ≡ alone s memory response p m n
+unfolding alone
+taking s memory response p m n box state memory′ response′ b a e r = rw (b, a, e, r, data-whole p)
+
+-- what 19 leaves of the message found
+pub found-message : (s : State) (m : MessageSegment) (w : List ℕ) (c : MessageContext) → s ≡ stateOf w → namedBy19 s ≡ false → messageContext s (m .source) (m .letter) (m .mbox) < 8
+    → c ≡ messageIn s (messageContext s (m .source) (m .letter) (m .mbox)) → Message c
+found-message s m w c e g o same =
+    let eight-of : length (s .messages) ≡ 8 = rw e (eight w) in
+    rw same (message-found s (m .source) (m .letter) (m .mbox) (good s g) (omega arith))

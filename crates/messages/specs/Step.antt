@@ -1,0 +1,68 @@
+-- A type 11 packet from row 20 on, in the order of the code; the refusal table (crate endpoint) says the same by rows.
+use Prim.Native.Nat.{ℕ, _≤_, _<_, _+_, _^_}
+use mathlib.Core.Path.{_≡_}
+use mathlib.Core.List.{List}
+use mathlib.Core.Bool.{Bool, false, cond}
+use lib.ListN.{length}
+use lib.Dec.{eqb}
+use Rattle.answers.specs.Answers.{Said, refused}
+use Rattle.wire.specs.declared.MessageSegment.{MessageSegment}
+use Rattle.wire.specs.Type11.{bytesOf, isSingle}
+use Rattle.wire.specs.Type13.{ERROR, RETRY, answered}
+use Rattle.contexts.specs.State.{State, withMessage, messageContext}
+use Rattle.contexts.specs.Words.{stateOf, stateWords}
+use Rattle.contexts.specs.Marks.{marked}
+use Rattle.contexts.specs.Refusal19.{namedBy19}
+use Rattle.messages.specs.Rows.{reservedSize, wrongLength, pastLast, otherMessage, alreadyMarked, noneFree}
+use Rattle.messages.specs.Joining.{Joined, accepted, refusedWith, answerWith, contextWith}
+
+-- rows 20 to 22: the refusal of the packet alone, or 0
+unfoldable pub judged : MessageSegment → ℕ
+judged m = cond (reservedSize m) 20 (cond (wrongLength m) 21 (cond (pastLast m) 22 0))
+
+-- rows 23 to 25
+unfoldable pub joined : State → List ℕ → List ℕ → List ℕ → MessageSegment → Joined
+joined s memory response p m =
+    cond (otherMessage s m) (refusedWith s memory response p 23 ERROR)
+    (cond (alreadyMarked s m) (refusedWith s memory response p 24 ERROR)
+    (cond (noneFree s m) (refusedWith s memory response p 25 RETRY)
+    (accepted s memory response p m)))
+
+unfoldable pub stepped : State → List ℕ → List ℕ → List ℕ → MessageSegment → Joined
+stepped s memory response p m = cond (eqb (judged m) 0) (joined s memory response p m) (refusedWith s memory response p (judged m) ERROR)
+
+-- ---- what the private functions rely on and promise each other
+
+-- words of a state that 19 does not name, buffers that 12 allows, a packet with its head
+pub record Ready (words memory response packet : List ℕ) (m : MessageSegment) : Type 0 where
+  pub whole : length words ≡ stateWords
+  pub good : namedBy19 (stateOf words) ≡ false
+  pub size : length memory ≡ 32768
+  pub reply : 7 ≤ length response
+  pub inside : 7 + m .raw ≡ length packet
+  pub segments : m .msglen < 16
+  pub number : m .msgseg < 16
+  pub boxes : m .mbox < 4
+
+-- rows 20 to 22 passed
+pub record Sound (m : MessageSegment) : Type 0 where
+  pub fits : m .raw ≤ bytesOf (m .ssize)
+  pub past : isSingle m ≡ false → m .msgseg ≤ m .msglen
+
+-- the segment is one more of its message: context n, and marks that leave it out
+pub record Fits (m : MessageSegment) (n marks last : ℕ) : Type 0 where
+  pub context : n < 8
+  pub several : isSingle m ≡ false
+  pub inside : marks < 2 ^ (m .msglen + 1)
+  pub unmarked : marked marks (m .msgseg) ≡ false
+  pub short : last ≤ 256
+
+-- context n delivered or kept
+pub record Kept (s : State) (m : MessageSegment) (n marks last : ℕ) (says : Said) (after : State) : Type 0 where
+  pub answer : says ≡ answerWith m n marks last
+  pub state : after ≡ withMessage s n (contextWith m marks last)
+
+-- a refusal and its response
+pub record Replied (before packet : List ℕ) (number status : ℕ) (says : Said) (after : List ℕ) : Type 0 where
+  pub answer : says ≡ refused number
+  pub response : after ≡ answered before packet status
