@@ -52,20 +52,20 @@ pub fn segment_count(mtu: usize, length: usize) -> usize
     count_of(mtu, length)
 }
 
-// Where a segment's data end, which begin at `from`: MTU bytes on, or with the PDU.
-fn data_end(mtu: usize, size: usize, from: usize) -> usize
-    requires { ⌜ (mtu ≤ 256) × (size ≤ 65536) × (from ≤ size) ⌝ }
-    ensures { λ r. ⌜ r ≡ from + min mtu (size - from) ⌝ }
+// How many bytes of the PDU a segment holds whose data begin at `from`: the MTU, and what is left for the last.
+fn data_length(mtu: usize, size: usize, from: usize) -> usize
+    requires { ⌜ from ≤ size ⌝ }
+    ensures { λ r. ⌜ r ≡ min mtu (size - from) ⌝ }
 {
-    if from + mtu < size {
-        return from + mtu;
+    if mtu < size - from {
+        return mtu;
     }
-    size
+    size - from
 }
 
 // How many bytes stand before the data: a field of two is among them with S or E.
 fn head_length(first: bool, last: bool) -> usize
-    ensures { λ r. ⌜ r ≡ cond first 9 (cond last 9 7) ⌝ }
+    ensures { λ r. ⌜ (r ≡ cond first 9 (cond last 9 7)) × (r ≤ 9) ⌝ }
 {
     if first {
         return 9;
@@ -164,15 +164,15 @@ fn write_fitting(
     let first = number == 0;
     let last = number + 1 == count;
     let from = number * mtu;
-    let to = data_end(mtu, pdu.len(), from);
+    let n = data_length(mtu, pdu.len(), from);
     let front = head_length(first, last);
-    let length = front + (to - from) + (to - from) % 2;
+    let length = front + n + n % 2;
     if out.len() < length {
         return Written::Refused(16);
     }
     let field = field_of(first, heading.stream, pdu.len());
-    let head = head_of(heading, flags(first, last, to - from), field);
-    put(out, &head[..front], &pdu[from..to]);
+    let head = head_of(heading, flags(first, last, n), field);
+    put(out, &head[..front], &pdu[from..from + n]);
     Written::Length(length)
 }
 

@@ -1,4 +1,6 @@
+use mathlib.Core.Path.{sym}
 use native.Mathlib.Omega.{arith}
+use Rattle.segments.proofs.Packet.{length-zeros, put-is}
 use borrow.Author.Needs.{needs}
 use Rattle.segments.proofs.put.Statement.{statement}
 use Rattle.segments.proofs.put.Tie as tie
@@ -25,11 +27,11 @@ array-share-prefix-pad c = search needs
 
 -- src/lib.rt:144:49
 slice-aggregate-store : tie.Need-slice-aggregate-store
-slice-aggregate-store c = ?
+slice-aggregate-store c = sym (length-zeros _)
 
 -- src/lib.rt:144:5
 store-requires-2 : tie.Need-store-requires-2
-store-requires-2 c κs = ?
+store-requires-2 c κs = simp length-zeros (search needs)
 
 -- src/lib.rt:137:1
 same-length : tie.Need-same-length
@@ -37,7 +39,11 @@ same-length c = search needs
 
 -- src/lib.rt:137:1
 returns : tie.Need-returns
-returns c = ?
+returns c =
+    let stored = c .before .before .before .before .before .before .before in
+    let copied = stored .before .before .before .before in
+    let s = copied .before .before .before .before .before in
+    put-is _ (s .args .head .now) (s .args .bytes .now) _ _ _ (s .pre) (copied .copy .ensures) (stored .store .ensures) (c .before .before .store2 .ensures)
 
 pub put-spec : {M : Type 1} → statement M
 put-spec =

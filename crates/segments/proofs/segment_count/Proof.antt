@@ -1,5 +1,7 @@
 use Rattle.segments.specs.Writer.{countOf}
+use mathlib.Core.Path.{sym, _∙_}
 use native.Mathlib.Omega.{arith}
+use Rattle.segments.proofs.Sizes.{good-mtu, good-size}
 use borrow.Author.Needs.{needs}
 use Rattle.segments.proofs.segment_count.Statement.{statement}
 use Rattle.segments.proofs.segment_count.Tie as tie
@@ -29,7 +31,10 @@ returns-2 c = simp (← c .before .before .before .bad-mtu .ensures, c .before .
 
 -- src/lib.rt:52:5
 count-of-requires : tie.Need-count-of-requires
-count-of-requires c κs = ?
+count-of-requires c κs =
+    let m = good-mtu _ (sym (c .before .before .before .bad-mtu .ensures) ∙ c .before .before .if1 .left) in
+    let l = good-size _ (sym (c .before .bad-size .ensures) ∙ c .if2 .left) in
+    (omega arith, omega arith, l)
 
 -- src/lib.rt:43:1
 returns-3 : tie.Need-returns-3

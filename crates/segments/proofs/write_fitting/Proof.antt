@@ -1,15 +1,43 @@
+use Prim.Native.Nat.{ℕ, _<_, _+_, _*_, _%_}
+use mathlib.Core.Path.{_≡_, ap, sym, _∙_}
+use mathlib.Core.List.{List}
+use lib.ListN.{length, take}
+use lib.Seq.{length-take-le}
+use Rattle.lists.specs.Bytes.{written}
+use Rattle.segments.specs.Cutting.{packetOf}
+use Rattle.segments.proofs.Sizes.{begins, length-lent}
+use Rattle.segments.proofs.Packet.{cut-length, cut-bytes}
+use Rattle.segments.proofs.Nested.{short, room}
 use native.Mathlib.Omega.{arith}
 use borrow.Author.Needs.{needs}
 use Rattle.segments.proofs.write_fitting.Statement.{statement}
 use Rattle.segments.proofs.write_fitting.Tie as tie
 use Rattle.segments.proofs.write_fitting.Reads as reads
 use Rattle.segments.proofs.write_fitting.Lts as lts
-use Rattle.segments.proofs.data_end.Reads as data-end-reads
+use Rattle.segments.proofs.data_length.Reads as data-length-reads
 use Rattle.segments.proofs.field_of.Reads as field-of-reads
 use Rattle.segments.proofs.flags.Reads as flags-reads
 use Rattle.segments.proofs.head_length.Reads as head-length-reads
 use Rattle.segments.proofs.head_of.Reads as head-of-reads
 use Rattle.segments.proofs.put.Reads as put-reads
+
+begun : (s : tie.Start) → s .args .number * s .args .mtu < length (s .args .pdu .now)
+begun s = begins (s .args .mtu) (length (s .args .pdu .now)) (s .args .number) (s .pre .0 .1) (omega arith)
+
+abbrev packet : tie.Start → List ℕ
+packet s = packetOf (s .args .heading) (s .args .mtu) (s .args .pdu .now) (s .args .number)
+
+-- the length that is tested and answered is the packet's
+sized : (c : tie.After-head-length) → length (packet (c .before .before .before .before)) ≡ c .head-length .result + c .before .data-length .result + c .before .data-length .result % 2
+sized c =
+    let s = c .before .before .before .before in
+    cut-length (s .args .heading) (s .args .mtu) (s .args .pdu .now) (s .args .number) (s .args .count) _ _ (s .pre .1 .0) (c .before .data-length .ensures) (c .head-length .ensures .0)
+
+-- the front that is lent has the bytes that it is to have
+lent-front : (c : tie.After-head-of) → length (take (c .before .before .before .before .head-length .result) (c .head-of .result)) ≡ c .before .before .before .before .head-length .result
+lent-front c =
+    let nine : length (c .head-of .result) ≡ 9 = ap length (c .head-of .ensures) in
+    length-take-le _ _ (omega (arith, c .before .before .before .before .head-length .ensures .1))
 
 -- src/lib.rt:165:16
 add-last : tie.Need-add-last
@@ -17,43 +45,31 @@ add-last c = search needs
 
 -- src/lib.rt:166:16
 mul-from : tie.Need-mul-from
-mul-from c = ?
+mul-from c = omega (arith, begun (c .before .before))
 
 -- src/lib.rt:167:9
-data-end-requires : tie.Need-data-end-requires
-data-end-requires c κs = ?
+data-length-requires : tie.Need-data-length-requires
+data-length-requires c κs = omega (arith, begun (c .before .before))
 
 -- src/lib.rt:168:9
 head-length-requires : tie.Need-head-length-requires
 head-length-requires c κs = search needs
 
--- src/lib.rt:169:27
-sub-length : tie.Need-sub-length
-sub-length c = search needs
-
 -- src/lib.rt:169:18
 add-length : tie.Need-add-length
-add-length c = ?
-
--- src/lib.rt:169:41
-sub-length-2 : tie.Need-sub-length-2
-sub-length-2 c = search needs
+add-length c = search needs
 
 -- src/lib.rt:169:18
 add-length-2 : tie.Need-add-length-2
-add-length-2 c = ?
+add-length-2 c = search needs
 
 -- src/lib.rt:171:9
 returns : tie.Need-returns
-returns c = ?
+returns c = short _ (packet (c .before .before .before .before .before)) _ (sized (c .before)) (c .if1 .taken)
 
 -- src/lib.rt:173:9
 field-of-requires : tie.Need-field-of-requires
 field-of-requires c κs = search needs
-
--- src/lib.rt:174:52
-sub-flags : tie.Need-sub-flags
-sub-flags c = search needs
 
 -- src/lib.rt:174:33
 flags-requires : tie.Need-flags-requires
@@ -65,11 +81,15 @@ head-of-requires c κs = search needs
 
 -- src/lib.rt:175:14
 array-share-prefix-head : tie.Need-array-share-prefix-head
-array-share-prefix-head c = ?
+array-share-prefix-head c = search needs
 
 -- src/lib.rt:175:14
 slice-aggregate-put : tie.Need-slice-aggregate-put
-slice-aggregate-put c = ?
+slice-aggregate-put c = sym (lent-front (c .before .before))
+
+-- src/lib.rt:175:41
+add-put : tie.Need-add-put
+add-put c = omega (arith, begun (c .before .before .before .before .before .before .before .before .before .before))
 
 -- src/lib.rt:175:30
 sub-put : tie.Need-sub-put
@@ -81,11 +101,15 @@ part-put-start c = search needs
 
 -- src/lib.rt:175:30
 part-put-end : tie.Need-part-put-end
-part-put-end c = ?
+part-put-end c = omega (arith, begun (c .before .before .before .before .before .before .before .before .before .before))
 
 -- src/lib.rt:175:5
 put-requires : tie.Need-put-requires
-put-requires c κs = ?
+put-requires c κs =
+    let s = c .before .before .before .before .before .before .before .before .before .before .before in
+    let front = lent-front (c .before .before .before) in
+    let bytes = length-lent (s .args .mtu) (s .args .pdu .now) (s .args .number) _ (c .before .before .before .before .before .before .before .before .data-length .ensures) in
+    rw (front, bytes) (c .before .before .before .before .before .before .if1 .left)
 
 -- src/lib.rt:148:1
 same-length : tie.Need-same-length
@@ -93,7 +117,12 @@ same-length c = search needs
 
 -- src/lib.rt:148:1
 returns-2 : tie.Need-returns-2
-returns-2 c = ?
+returns-2 c =
+    let made = c .before .before .before .before .before .before in
+    let judged = made .before .before .before in
+    let s = judged .before .before .before .before .before in
+    let bytes = cut-bytes (s .args .heading) (s .args .mtu) (s .args .pdu .now) (s .args .number) (s .args .count) _ _ (s .pre .1 .0) (judged .before .before .data-length .ensures) (judged .before .head-length .ensures .0) _ _ _ (made .before .flags .ensures) (made .before .before .field-of .ensures) (made .head-of .ensures) in
+    room _ _ _ (sized (judged .before)) _ (judged .if1 .left) (c .before .before .put .ensures ∙ ap (written (s .args .out .now) 0) bytes)
 
 pub write-fitting-spec : {M : Type 1} → statement M
 write-fitting-spec =
@@ -101,19 +130,17 @@ write-fitting-spec =
     (tie.spec
     add-last
     mul-from
-    data-end-requires
+    data-length-requires
     head-length-requires
-    sub-length
     add-length
-    sub-length-2
     add-length-2
     returns
     field-of-requires
-    sub-flags
     flags-requires
     head-of-requires
     array-share-prefix-head
     slice-aggregate-put
+    add-put
     sub-put
     part-put-start
     part-put-end
