@@ -103,7 +103,7 @@ pub written-behind : (words first second : List ℕ) (at : ℕ) → at + length 
 unfolding written
 written-behind words first second at fits =
     let front : take (at + length first) (written words at first) ≡ take at words ++ first =
-        take-at (take at words ++ first) _ (at + length first) (simp (length-append, length-take) (omega arith)) in
+    take-at (take at words ++ first) _ (at + length first) (simp (length-append, length-take) (omega arith)) in
     let rest : drop (at + length first + length second) (written words at first) ≡ drop (at + length first + length second) words =
-        drop-behind words first at (omega arith) (at + length first + length second) (omega arith) in
+    drop-behind words first at (omega arith) (at + length first + length second) (omega arith) in
     ap₂ (λ (x y : List ℕ). x ++ second ++ y) front rest ∙ simp (append-assoc, length-append, add-assoc)

@@ -1,3 +1,4 @@
 pub mod Sizes
 pub mod Packet
 pub mod Nested
+pub mod Deterministic

@@ -1,3 +1,5 @@
+-- `segments::write_fitting` meets its contract: the length that it tests and answers is the packet's, and the front, the data and the pad that it puts are the packet's bytes.
+-- A segment below the count begins in the PDU, so the part that is lent lies in it.
 use Prim.Native.Nat.{ℕ, _<_, _+_, _*_, _%_}
 use mathlib.Core.Path.{_≡_, ap, sym, _∙_}
 use mathlib.Core.List.{List}
@@ -12,14 +14,6 @@ use native.Mathlib.Omega.{arith}
 use borrow.Author.Needs.{needs}
 use Rattle.segments.proofs.write_fitting.Statement.{statement}
 use Rattle.segments.proofs.write_fitting.Tie as tie
-use Rattle.segments.proofs.write_fitting.Reads as reads
-use Rattle.segments.proofs.write_fitting.Lts as lts
-use Rattle.segments.proofs.data_length.Reads as data-length-reads
-use Rattle.segments.proofs.field_of.Reads as field-of-reads
-use Rattle.segments.proofs.flags.Reads as flags-reads
-use Rattle.segments.proofs.head_length.Reads as head-length-reads
-use Rattle.segments.proofs.head_of.Reads as head-of-reads
-use Rattle.segments.proofs.put.Reads as put-reads
 
 begun : (s : tie.Start) → s .args .number * s .args .mtu < length (s .args .pdu .now)
 begun s = begins (s .args .mtu) (length (s .args .pdu .now)) (s .args .number) (s .pre .0 .1) (omega arith)
@@ -39,71 +33,54 @@ lent-front c =
     let nine : length (c .head-of .result) ≡ 9 = ap length (c .head-of .ensures) in
     length-take-le _ _ (omega (arith, c .before .before .before .before .head-length .ensures .1))
 
--- src/lib.rt:165:16
 add-last : tie.Need-add-last
 add-last c = search needs
 
--- src/lib.rt:166:16
 mul-from : tie.Need-mul-from
 mul-from c = omega (arith, begun (c .before .before))
 
--- src/lib.rt:167:9
 data-length-requires : tie.Need-data-length-requires
 data-length-requires c κs = omega (arith, begun (c .before .before))
 
--- src/lib.rt:168:9
 head-length-requires : tie.Need-head-length-requires
 head-length-requires c κs = search needs
 
--- src/lib.rt:169:18
 add-length : tie.Need-add-length
 add-length c = search needs
 
--- src/lib.rt:169:18
 add-length-2 : tie.Need-add-length-2
 add-length-2 c = search needs
 
--- src/lib.rt:171:9
 returns : tie.Need-returns
 returns c = short _ (packet (c .before .before .before .before .before)) _ (sized (c .before)) (c .if1 .taken)
 
--- src/lib.rt:173:9
 field-of-requires : tie.Need-field-of-requires
 field-of-requires c κs = search needs
 
--- src/lib.rt:174:33
 flags-requires : tie.Need-flags-requires
 flags-requires c κs = search needs
 
--- src/lib.rt:174:16
 head-of-requires : tie.Need-head-of-requires
 head-of-requires c κs = search needs
 
--- src/lib.rt:175:14
 array-share-prefix-head : tie.Need-array-share-prefix-head
 array-share-prefix-head c = search needs
 
--- src/lib.rt:175:14
 slice-aggregate-put : tie.Need-slice-aggregate-put
 slice-aggregate-put c = sym (lent-front (c .before .before))
 
--- src/lib.rt:175:41
 add-put : tie.Need-add-put
 add-put c = omega (arith, begun (c .before .before .before .before .before .before .before .before .before .before))
 
--- src/lib.rt:175:30
 sub-put : tie.Need-sub-put
 sub-put c = search needs
 
--- src/lib.rt:175:30
 part-put-start : tie.Need-part-put-start
 part-put-start c = search needs
 
--- src/lib.rt:175:30
 part-put-end : tie.Need-part-put-end
 part-put-end c = omega (arith, begun (c .before .before .before .before .before .before .before .before .before .before))
 
--- src/lib.rt:175:5
 put-requires : tie.Need-put-requires
 put-requires c κs =
     let s = c .before .before .before .before .before .before .before .before .before .before .before in
@@ -111,11 +88,9 @@ put-requires c κs =
     let bytes = length-lent (s .args .mtu) (s .args .pdu .now) (s .args .number) _ (c .before .before .before .before .before .before .before .before .data-length .ensures) in
     rw (front, bytes) (c .before .before .before .before .before .before .if1 .left)
 
--- src/lib.rt:148:1
 same-length : tie.Need-same-length
 same-length c = search needs
 
--- src/lib.rt:148:1
 returns-2 : tie.Need-returns-2
 returns-2 c =
     let made = c .before .before .before .before .before .before in
