@@ -5,7 +5,7 @@ use mathlib.Core.Path.{_≡_, ap, sym, _∙_}
 use mathlib.Core.List.{List}
 use Rattle.answers.specs.declared.Written.{Written}
 use Rattle.answers.specs.declared.Written.the-variants as writer
-use Rattle.answers.specs.Answers.{Said, saidOfWriter}
+use Rattle.answers.specs.Answers.{saidOfWriter}
 use Rattle.segments.specs.declared.Heading.{Heading}
 use Rattle.segments.specs.Writer.{Wrote, wroteOf, writing, countOf}
 

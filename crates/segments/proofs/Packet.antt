@@ -1,6 +1,6 @@
--- A segment's packet as the code makes it: the front of nine bytes, the data and the pad, and how long it is.
--- By cases on S and E: a continuation's front stops before the field.
-use Prim.Native.Nat.{ℕ, zero, suc, min, _≤_, _<_, _+_, _-_, _*_, _/_, _%_}
+-- A segment's packet as the code makes it: nine bytes or the first seven of them, the data and the pad; and how long it is.
+-- By cases on S and E, since only a continuation has no field. Stores one behind the other are one store of the whole.
+use Prim.Native.Nat.{ℕ, zero, suc, min, _≤_, _<_, _+_, _-_, _*_, _%_}
 use mathlib.Core.Path.{_≡_, refl, ap, sym, _∙_}
 use mathlib.Core.List.{List, [], _∷_, _++_}
 use mathlib.Core.Bool.{Bool, true, false, cond}
@@ -34,7 +34,7 @@ frontOf first final = cond first 9 (cond final 9 7)
 abbrev pub zeroByte : List ℕ
 zeroByte = 0 ∷ []
 
-pub pad-is : (n : ℕ) → padOf n ≡ take (n % 2) zeroByte
+pad-is : (n : ℕ) → padOf n ≡ take (n % 2) zeroByte
 unfolding padOf
 pad-is n = go (n % 2) (omega arith)
   where
@@ -49,7 +49,7 @@ length-zeros n = length-take-le (n % 2) zeroByte (omega arith)
 length-pad : (n : ℕ) → length (padOf n) ≡ n % 2
 length-pad n = rw pad-is (length-zeros n)
 
-pub length-front : (h : Heading) (flags field : ℕ) (first final : Bool) → length (take (frontOf first final) (headOf h flags field)) ≡ frontOf first final
+length-front : (h : Heading) (flags field : ℕ) (first final : Bool) → length (take (frontOf first final) (headOf h flags field)) ≡ frontOf first final
 length-front h flags field true final = refl
 length-front h flags field false true = refl
 length-front h flags field false false = refl
@@ -63,15 +63,15 @@ front-is h flags size false true = refl
 front-is h flags size false false = refl
 
 module _ (h : Heading) (mtu : ℕ) (pdu : List ℕ) (k : ℕ) where
-  -- the front as the code lends it
-  abbrev pub front : List ℕ
+  -- the front of the packet as the code makes it
+  abbrev front : List ℕ
   front = take (frontOf (isFirst k) (isFinal mtu pdu k)) (headOf h (flagsOf (isFirst k) (isFinal mtu pdu k) (length (dataOf mtu pdu k))) (cond (isFirst k) (h .stream) (length pdu)))
 
-  pub packet-is : packetOf h mtu pdu k ≡ front ++ dataOf mtu pdu k ++ padOf (length (dataOf mtu pdu k))
+  packet-is : packetOf h mtu pdu k ≡ front ++ dataOf mtu pdu k ++ padOf (length (dataOf mtu pdu k))
   unfolding packetOf
   packet-is = ap (λ (l : List ℕ). l ++ dataOf mtu pdu k ++ padOf (length (dataOf mtu pdu k))) (sym (front-is h _ (length pdu) (isFirst k) (isFinal mtu pdu k)))
 
-  pub length-packet : length (packetOf h mtu pdu k) ≡ frontOf (isFirst k) (isFinal mtu pdu k) + length (dataOf mtu pdu k) + length (dataOf mtu pdu k) % 2
+  length-packet : length (packetOf h mtu pdu k) ≡ frontOf (isFirst k) (isFinal mtu pdu k) + length (dataOf mtu pdu k) + length (dataOf mtu pdu k) % 2
   length-packet = ap length packet-is ∙ simp (length-append, length-front, length-pad)
 
 -- the code's three stores

@@ -1,16 +1,16 @@
 -- Numbers of a cutting, for every MTU: what the tests on the MTU and the length leave, where a segment's data begin and how many they are.
 -- A segment below the count begins before the PDU's end, since the count is the length over the MTU, rounded up.
-use Prim.Native.Nat.{ℕ, suc, min, _≤_, _<_, _+_, _-_, _*_, _/_, _%_}
+use Prim.Native.Nat.{ℕ, suc, min, _≤_, _<_, _+_, _-_, _*_}
 use mathlib.Core.Path.{_≡_, refl, ap, sym, _∙_}
-use mathlib.Core.List.{List, [], _∷_}
-use mathlib.Core.Bool.{Bool, true, false, not, _||_}
+use mathlib.Core.List.{List}
+use mathlib.Core.Bool.{Bool, true, false, _||_}
 use native.Mathlib.Omega.{arith}
 use native.Mathlib.Decide.{decLe}
-use native.Mathlib.Nat.{suc-mul, le-div-iff-mul-le, min-eq-left, min-eq-right}
+use native.Mathlib.Nat.{suc-mul, le-div-iff-mul-le, min-eq-left}
 use lib.Dec.{eqb, ltb}
 use lib.ListN.{length, take, drop, length-take, length-drop}
 use lib.Seq.{take-all}
-use borrow.Author.Tests.{ltb-false, eqb-false}
+use borrow.Author.Tests.{ltb-false}
 use Rattle.wire.specs.Type9.{badMTU}
 use Rattle.segments.specs.Cutting.{segmentCount, dataOf}
 use Rattle.segments.specs.Writer.{badSize}
@@ -44,11 +44,11 @@ pub length-data : (mtu : ℕ) (pdu : List ℕ) (k : ℕ) → length (dataOf mtu 
 unfolding dataOf
 length-data mtu pdu k = simp (length-take, length-drop)
 
--- the part of the PDU that the code lends, from the begin to n bytes on
+-- the part of the PDU that the code lends: from there to n bytes on
 abbrev pub lent : ℕ → List ℕ → ℕ → ℕ → List ℕ
 lent mtu pdu k n = take (k * mtu + n - k * mtu) (drop (k * mtu) pdu)
 
--- is the data
+-- it is the data
 pub data-part : (mtu : ℕ) (pdu : List ℕ) (k n : ℕ) → n ≡ min mtu (length pdu - k * mtu) → lent mtu pdu k n ≡ dataOf mtu pdu k
 unfolding dataOf
 data-part mtu pdu k n e =
