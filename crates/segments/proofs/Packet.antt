@@ -16,7 +16,7 @@ use Rattle.segments.proofs.Sizes.{lent, length-data, data-part}
 use Rattle.segments.specs.Cutting.{segmentCount, dataOf, isFirst, isFinal, padOf, flagsOf, fieldOf, packetOf}
 
 -- bytes 0 to 8, with what stands in bytes 6 and 7-8
-abbrev pub headOf : Heading → ℕ → ℕ → List ℕ
+abbrev headOf : Heading → ℕ → ℕ → List ℕ
 headOf h flags field =
     (h .priority * 64 + 0b01 * 16 + 9)
     ∷ high (h .destination) ∷ low (h .destination)
@@ -27,11 +27,11 @@ headOf h flags field =
     ∷ []
 
 -- how many of these the packet has
-abbrev pub frontOf : Bool → Bool → ℕ
+abbrev frontOf : Bool → Bool → ℕ
 frontOf first final = cond first 9 (cond final 9 7)
 
 -- the pad is the front of a byte 0
-abbrev pub zeroByte : List ℕ
+abbrev zeroByte : List ℕ
 zeroByte = 0 ∷ []
 
 pad-is : (n : ℕ) → padOf n ≡ take (n % 2) zeroByte
@@ -43,11 +43,8 @@ pad-is n = go (n % 2) (omega arith)
     go (suc ℕ.zero) h = refl
     go (suc (suc r)) h = absurd (omega arith)
 
-pub length-zeros : (n : ℕ) → length (take (n % 2) zeroByte) ≡ n % 2
-length-zeros n = length-take-le (n % 2) zeroByte (omega arith)
-
 length-pad : (n : ℕ) → length (padOf n) ≡ n % 2
-length-pad n = rw pad-is (length-zeros n)
+length-pad n = rw pad-is (length-take-le (n % 2) zeroByte (omega arith))
 
 length-front : (h : Heading) (flags field : ℕ) (first final : Bool) → length (take (frontOf first final) (headOf h flags field)) ≡ frontOf first final
 length-front h flags field true final = refl

@@ -60,6 +60,3 @@ data-part mtu pdu k n e =
     go (no h) =
         let all = take-all mtu (drop (k * mtu) pdu) (simp length-drop (omega arith)) in
         take-all n (drop (k * mtu) pdu) (simp length-drop (omega arith)) ∙ sym all
-
-pub length-lent : (mtu : ℕ) (pdu : List ℕ) (k n : ℕ) → n ≡ min mtu (length pdu - k * mtu) → length (lent mtu pdu k n) ≡ n
-length-lent mtu pdu k n e = ap length (data-part mtu pdu k n e) ∙ (length-data mtu pdu k ∙ sym e)

@@ -63,7 +63,7 @@ fn data_length(mtu: usize, size: usize, from: usize) -> usize
     size - from
 }
 
-// How many bytes stand before the data: a field of two is among them with S or E.
+// How many bytes stand before the data. With S or E two of them are a field.
 fn head_length(first: bool, last: bool) -> usize
     ensures { λ r. ⌜ (r ≡ cond first 9 (cond last 9 7)) × (r ≤ 9) ⌝ }
 {
@@ -86,7 +86,7 @@ fn field_of(first: bool, stream: u16, size: usize) -> usize
     size
 }
 
-// The bit of that weight where it is set, else 0.
+// The weight of a bit that is set, else 0.
 fn bit_of(set: bool, weight: u8) -> u8
     ensures { λ r. ⌜ (r ≡ cond set weight 0) × (r ≤ weight) ⌝ }
 {
@@ -106,7 +106,7 @@ fn flags(first: bool, last: bool, n: usize) -> u8
     bit_of(first, 0b1000_0000) + bit_of(last, 0b0100_0000) + bit_of(odd, 0b10) + bit_of(pad, 0b1)
 }
 
-// Bytes 0 to 8.
+// Bytes 0 to 8. A continuation has the first seven.
 fn head_of(heading: Heading, flags: u8, field: usize) -> [u8; 9]
     requires { ⌜ heading .priority ≤ 3 ⌝ }
     ensures { λ r. ⌜
@@ -144,7 +144,7 @@ fn put(out: &mut [u8], head: &[u8], bytes: &[u8])
     lists::store(out, head.len() + bytes.len(), &pad[..bytes.len() % 2]);
 }
 
-// Writes a segment that the PDU has, one of `count`, where the output has room for it.
+// Writes a segment that the PDU has, where the output has room for it. `count` is how many the PDU makes.
 fn write_fitting(
     out: &mut [u8],
     heading: Heading,

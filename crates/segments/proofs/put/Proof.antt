@@ -1,6 +1,7 @@
 -- `segments::put` meets its contract: each store stands behind the one before, so the three make one run, and one byte 0 or none of it is the pad.
-use mathlib.Core.Path.{sym}
-use Rattle.segments.proofs.Packet.{length-zeros, put-is}
+use native.Mathlib.Omega.{arith}
+use lib.ListN.{length-take}
+use Rattle.segments.proofs.Packet.{put-is}
 use borrow.Author.Needs.{needs}
 use Rattle.segments.proofs.put.Statement.{statement}
 use Rattle.segments.proofs.put.Tie as tie
@@ -18,10 +19,10 @@ array-share-prefix-pad : tie.Need-array-share-prefix-pad
 array-share-prefix-pad c = search needs
 
 slice-aggregate-store : tie.Need-slice-aggregate-store
-slice-aggregate-store c = sym (length-zeros _)
+slice-aggregate-store c = simp length-take (omega arith)
 
 store-requires-2 : tie.Need-store-requires-2
-store-requires-2 c κs = simp length-zeros (search needs)
+store-requires-2 c κs = simp length-take (omega arith)
 
 same-length : tie.Need-same-length
 same-length c = search needs

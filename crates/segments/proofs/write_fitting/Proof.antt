@@ -1,13 +1,12 @@
 -- `segments::write_fitting` meets its contract: the length that it tests and answers is the packet's, and the front, the data and the pad that it puts are the packet's bytes.
 -- A segment below the count begins in the PDU, so the part that is lent lies in it.
 use Prim.Native.Nat.{ℕ, _<_, _+_, _*_, _%_}
-use mathlib.Core.Path.{_≡_, ap, sym, _∙_}
+use mathlib.Core.Path.{_≡_, ap, _∙_}
 use mathlib.Core.List.{List}
-use lib.ListN.{length, take}
-use lib.Seq.{length-take-le}
+use lib.ListN.{length, length-take, length-drop}
 use Rattle.lists.specs.Bytes.{written}
 use Rattle.segments.specs.Cutting.{packetOf}
-use Rattle.segments.proofs.Sizes.{begins, length-lent}
+use Rattle.segments.proofs.Sizes.{begins}
 use Rattle.segments.proofs.Packet.{cut-length, cut-bytes}
 use Rattle.segments.proofs.Nested.{short, room}
 use native.Mathlib.Omega.{arith}
@@ -27,11 +26,9 @@ sized c =
     let s = c .before .before .before .before in
     cut-length (s .args .heading) (s .args .mtu) (s .args .pdu .now) (s .args .number) (s .args .count) _ _ (s .pre .1 .0) (c .before .data-length .ensures) (c .head-length .ensures .0)
 
--- the front that is lent has the bytes that it is to have
-lent-front : (c : tie.After-head-of) → length (take (c .before .before .before .before .head-length .result) (c .head-of .result)) ≡ c .before .before .before .before .head-length .result
-lent-front c =
-    let nine : length (c .head-of .result) ≡ 9 = ap length (c .head-of .ensures) in
-    length-take-le _ _ (omega (arith, c .before .before .before .before .head-length .ensures .1))
+-- the head has nine bytes
+nine : (c : tie.After-head-of) → length (c .head-of .result) ≡ 9
+nine c = ap length (c .head-of .ensures)
 
 add-last : tie.Need-add-last
 add-last c = search needs
@@ -67,7 +64,7 @@ array-share-prefix-head : tie.Need-array-share-prefix-head
 array-share-prefix-head c = search needs
 
 slice-aggregate-put : tie.Need-slice-aggregate-put
-slice-aggregate-put c = sym (lent-front (c .before .before))
+slice-aggregate-put c = simp length-take (omega (arith, nine (c .before .before)))
 
 add-put : tie.Need-add-put
 add-put c = omega (arith, begun (c .before .before .before .before .before .before .before .before .before .before))
@@ -82,11 +79,7 @@ part-put-end : tie.Need-part-put-end
 part-put-end c = omega (arith, begun (c .before .before .before .before .before .before .before .before .before .before))
 
 put-requires : tie.Need-put-requires
-put-requires c κs =
-    let s = c .before .before .before .before .before .before .before .before .before .before .before in
-    let front = lent-front (c .before .before .before) in
-    let bytes = length-lent (s .args .mtu) (s .args .pdu .now) (s .args .number) _ (c .before .before .before .before .before .before .before .before .data-length .ensures) in
-    rw (front, bytes) (c .before .before .before .before .before .before .if1 .left)
+put-requires c κs = simp (length-take, length-drop) (omega (arith, nine (c .before .before .before)))
 
 same-length : tie.Need-same-length
 same-length c = search needs
