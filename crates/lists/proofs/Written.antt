@@ -1,6 +1,6 @@
 -- Laws of `written`: what a run of bytes leaves before it, behind it and in its own place.
 use Prim.Native.Nat.{ℕ, zero, suc, _≤_, _<_, _+_, _-_}
-use mathlib.Core.Path.{_≡_, refl, ap, sym, _∙_}
+use mathlib.Core.Path.{_≡_, refl, ap, ap₂, sym, _∙_}
 use mathlib.Core.List.{List, [], _∷_, _++_, append-assoc, append-nil}
 use native.Mathlib.Omega.{arith}
 use native.Mathlib.Nat.{zero-add, add-assoc}
@@ -96,3 +96,14 @@ drop-written n words values at fits =
     ∙ (ap (λ (l : List ℕ). l ++ drop (n + at + length values) words) (drop-append-le n (take (n + at) words) values long)
     ∙ (ap (λ (l : List ℕ). l ++ values ++ drop (n + at + length values) words) front
     ∙ ap (λ (l : List ℕ). take at (drop n words) ++ values ++ l) (ap (λ (k : ℕ). drop k words) (add-assoc n at (length values)) ∙ sym (drop-drop (at + length values) n words))))
+
+-- a run written behind another makes one run of the two
+pub written-behind : (words first second : List ℕ) (at : ℕ) → at + length first + length second ≤ length words
+    → written (written words at first) (at + length first) second ≡ written words at (first ++ second)
+unfolding written
+written-behind words first second at fits =
+    let front : take (at + length first) (written words at first) ≡ take at words ++ first =
+    take-at (take at words ++ first) _ (at + length first) (simp (length-append, length-take) (omega arith)) in
+    let rest : drop (at + length first + length second) (written words at first) ≡ drop (at + length first + length second) words =
+    drop-behind words first at (omega arith) (at + length first + length second) (omega arith) in
+    ap₂ (λ (x y : List ℕ). x ++ second ++ y) front rest ∙ simp (append-assoc, length-append, add-assoc)

@@ -1,0 +1,4 @@
+pub mod Sizes
+pub mod Packet
+pub mod Nested
+pub mod Deterministic

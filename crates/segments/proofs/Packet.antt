@@ -1,0 +1,104 @@
+-- A segment's packet as the code makes it: nine bytes or the first seven of them, the data and the pad; and how long it is.
+-- By cases on S and E, since only a continuation has no field. Stores one behind the other are one store of the whole.
+use Prim.Native.Nat.{ℕ, zero, suc, min, _≤_, _<_, _+_, _-_, _*_, _%_}
+use mathlib.Core.Path.{_≡_, refl, ap, sym, _∙_}
+use mathlib.Core.List.{List, [], _∷_, _++_}
+use mathlib.Core.Bool.{Bool, true, false, cond}
+use native.Mathlib.Omega.{arith}
+use native.Mathlib.Nat.{zero-add}
+use lib.Dec.{eqb}
+use lib.ListN.{length, take, length-append}
+use lib.Seq.{length-take-le}
+use Rattle.lists.specs.Bytes.{high, low, written}
+use Rattle.lists.proofs.Written.{written-behind}
+use Rattle.segments.specs.declared.Heading.{Heading}
+use Rattle.segments.proofs.Sizes.{lent, length-data, data-part}
+use Rattle.segments.specs.Cutting.{segmentCount, dataOf, isFirst, isFinal, padOf, flagsOf, fieldOf, packetOf}
+
+-- bytes 0 to 8, with what stands in bytes 6 and 7-8
+abbrev headOf : Heading → ℕ → ℕ → List ℕ
+headOf h flags field =
+    (h .priority * 64 + 0b01 * 16 + 9)
+    ∷ high (h .destination) ∷ low (h .destination)
+    ∷ high (h .source) ∷ low (h .source)
+    ∷ h .cos
+    ∷ flags
+    ∷ high field ∷ low field
+    ∷ []
+
+-- how many of these the packet has
+abbrev frontOf : Bool → Bool → ℕ
+frontOf first final = cond first 9 (cond final 9 7)
+
+-- the pad is the front of a byte 0
+abbrev zeroByte : List ℕ
+zeroByte = 0 ∷ []
+
+pad-is : (n : ℕ) → padOf n ≡ take (n % 2) zeroByte
+unfolding padOf
+pad-is n = go (n % 2) (omega arith)
+  where
+    go : (r : ℕ) → r < 2 → cond (eqb r 1) zeroByte [] ≡ take r zeroByte
+    go ℕ.zero h = refl
+    go (suc ℕ.zero) h = refl
+    go (suc (suc r)) h = absurd (omega arith)
+
+length-pad : (n : ℕ) → length (padOf n) ≡ n % 2
+length-pad n = rw pad-is (length-take-le (n % 2) zeroByte (omega arith))
+
+length-front : (h : Heading) (flags field : ℕ) (first final : Bool) → length (take (frontOf first final) (headOf h flags field)) ≡ frontOf first final
+length-front h flags field true final = refl
+length-front h flags field false true = refl
+length-front h flags field false false = refl
+
+-- the front is seven bytes and the field
+front-is : (h : Heading) (flags size : ℕ) (first final : Bool)
+    → take (frontOf first final) (headOf h flags (cond first (h .stream) size)) ≡ take 7 (headOf h flags 0) ++ fieldOf first final (h .stream) size
+unfolding fieldOf
+front-is h flags size true final = refl
+front-is h flags size false true = refl
+front-is h flags size false false = refl
+
+module _ (h : Heading) (mtu : ℕ) (pdu : List ℕ) (k : ℕ) where
+  -- the front of the packet as the code makes it
+  abbrev front : List ℕ
+  front = take (frontOf (isFirst k) (isFinal mtu pdu k)) (headOf h (flagsOf (isFirst k) (isFinal mtu pdu k) (length (dataOf mtu pdu k))) (cond (isFirst k) (h .stream) (length pdu)))
+
+  packet-is : packetOf h mtu pdu k ≡ front ++ dataOf mtu pdu k ++ padOf (length (dataOf mtu pdu k))
+  unfolding packetOf
+  packet-is = ap (λ (l : List ℕ). l ++ dataOf mtu pdu k ++ padOf (length (dataOf mtu pdu k))) (sym (front-is h _ (length pdu) (isFirst k) (isFinal mtu pdu k)))
+
+  length-packet : length (packetOf h mtu pdu k) ≡ frontOf (isFirst k) (isFinal mtu pdu k) + length (dataOf mtu pdu k) + length (dataOf mtu pdu k) % 2
+  length-packet = ap length packet-is ∙ simp (length-append, length-front, length-pad)
+
+-- the code's three stores
+pub put-is : (out head bytes out₁ out₂ out₃ : List ℕ) → length head + length bytes + length bytes % 2 ≤ length out
+    → out₁ ≡ written out 0 head
+    → out₂ ≡ written out₁ (length head) bytes
+    → out₃ ≡ written out₂ (length head + length bytes) (take (length bytes % 2) zeroByte)
+    → out₃ ≡ written out 0 (head ++ bytes ++ padOf (length bytes))
+put-is out head bytes out₁ out₂ out₃ room e₁ e₂ e₃ =
+    let pad = length-pad (length bytes) in
+    let two : out₂ ≡ written out 0 (head ++ bytes) = e₂ ∙ (rw e₁ (at-end head bytes (omega arith))) in
+    let three : out₃ ≡ written out₂ (length (head ++ bytes)) (padOf (length bytes)) = rw (length-append, pad-is) e₃ in
+    three ∙ rw two (at-end (head ++ bytes) (padOf (length bytes)) (simp length-append (omega arith)))
+  where
+    at-end : (a b : List ℕ) → length a + length b ≤ length out → written (written out 0 a) (length a) b ≡ written out 0 (a ++ b)
+    at-end a b h = ap (λ (i : ℕ). written (written out 0 a) i b) (sym (zero-add (length a))) ∙ written-behind out a b 0 (omega arith)
+
+-- From what the code has of segment k: n bytes of data behind a front of so many bytes, where the PDU makes `count` segments.
+module _ (h : Heading) (mtu : ℕ) (pdu : List ℕ) (k count n front : ℕ)
+    (whole : count ≡ segmentCount mtu (length pdu))
+    (held : n ≡ min mtu (length pdu - k * mtu))
+    (before : front ≡ frontOf (eqb k 0) (eqb (k + 1) count)) where
+  holds : length (dataOf mtu pdu k) ≡ n
+  holds = length-data mtu pdu k ∙ sym held
+
+  pub cut-length : length (packetOf h mtu pdu k) ≡ front + n + n % 2
+  unfolding isFirst isFinal
+  cut-length = length-packet h mtu pdu k ∙ simp (holds, ← whole, ← before)
+
+  pub cut-bytes : (flags field : ℕ) (head : List ℕ) → flags ≡ flagsOf (eqb k 0) (eqb (k + 1) count) n → field ≡ cond (eqb k 0) (h .stream) (length pdu) → head ≡ headOf h flags field
+      → take front head ++ lent mtu pdu k n ++ padOf (length (lent mtu pdu k n)) ≡ packetOf h mtu pdu k
+  unfolding isFirst isFinal
+  cut-bytes flags field head e₁ e₂ e₃ = sym (packet-is h mtu pdu k ∙ simp (holds, ← whole, ← before, ← e₁, ← e₂, ← e₃, data-part mtu pdu k n held))
