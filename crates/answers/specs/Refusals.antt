@@ -15,32 +15,39 @@ pub data Leaves : Type 0 where
   -- all but the response: RETRY is written there
   allRETRY : Leaves
 
-pub record Row : Type 0 where
+-- a row; L is what its last column says
+pub record RowOf (L : Type 0) : Type 0 where
   pub number : ℕ
   pub holds : Bool
-  pub leaves : Leaves
+  pub leaves : L
 
-abbrev pub row : ℕ → Bool → Leaves → Row
+abbrev pub row : {L : Type 0} → ℕ → Bool → L → RowOf L
 row number holds leaves = record { number = number; holds = holds; leaves = leaves }
 
-pub data Verdict : Type 0 where
-  refuse : ℕ → Leaves → Verdict
-  accept : Verdict
+abbrev pub Row : Type 0
+Row = RowOf Leaves
+
+pub data VerdictOf (L : Type 0) : Type 0 where
+  refuse : ℕ → L → VerdictOf L
+  accept : VerdictOf L
+
+abbrev pub Verdict : Type 0
+Verdict = VerdictOf Leaves
 
 -- the first row whose test holds; none: accepted
-unfoldable pub verdict : List Row → Verdict
+unfoldable pub verdict : {L : Type 0} → List (RowOf L) → VerdictOf L
 verdict [] = accept
 verdict (r ∷ rs) = cond (r .holds) (refuse (r .number) (r .leaves)) (verdict rs)
 
 -- no row's test holds
-unfoldable pub none : List Row → Type 0
+unfoldable pub none : {L : Type 0} → List (RowOf L) → Type 0
 none [] = Unit {0}
 none (r ∷ rs) = (r .holds ≡ false) × none rs
 
--- row r of the table: its test holds and no earlier row's does
-pub record Decides (table : List Row) (r : Row) : Type 0 where
-  pub earlier : List Row
-  pub later : List Row
+-- row r of the table decides: its test holds and no earlier row's does
+pub record Decides {L : Type 0} (table : List (RowOf L)) (r : RowOf L) : Type 0 where
+  pub earlier : List (RowOf L)
+  pub later : List (RowOf L)
   pub place : table ≡ earlier ++ (r ∷ later)
   pub before : none earlier
   pub this : r .holds ≡ true

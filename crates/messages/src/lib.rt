@@ -18,7 +18,7 @@ ghost use Rattle.messages.specs.Step.{judged, joined, stepped, Ready, So
 pub const ROOM: usize = 4096;
 
 // A closed context: all its fields 0.
-fn closed() -> MessageContext
+pub fn closed() -> MessageContext
     ensures { λ r. ⌜ r ≡ closedMessage ⌝ }
 {
     MessageContext {

@@ -15,7 +15,7 @@ ghost use Rattle.streams.specs.Joining.{joining, placed};
 ghost use Rattle.streams.specs.Step.{begun, continued, stepped, Ready, Closing, Kept, Fits, Begins, Continues};
 
 // A closed context: all its fields 0.
-fn closed() -> StreamContext
+pub fn closed() -> StreamContext
     ensures { λ r. ⌜ r ≡ closedStream ⌝ }
 {
     let flow = Flow { source: 0, cos: 0 };

@@ -1,0 +1,90 @@
+-- The other calls: setup, abandoning, rooms (document 01, 'Cutting and joining PDUs' and 'Refusal numbers').
+use Prim.Native.Nat.{ℕ, _*_}
+use mathlib.Core.Path.{_≡_}
+use mathlib.Core.List.{List, [], _∷_}
+use mathlib.Core.Bool.{Bool, cond, not, _||_, _&&_}
+use lib.ListN.{length, take, drop, replicate}
+use lib.Dec.{eqb, ltb}
+use Rattle.answers.specs.Answers.{Said, ready, closed, free, refused, saidOfSetup, saidOfAbandon}
+use Rattle.answers.specs.declared.Begun.{Begun}
+use Rattle.answers.specs.declared.Abandoned.{Abandoned}
+use Rattle.answers.specs.Refusals.{RowOf, Row, row, all, VerdictOf, Verdict, refuse, accept, verdict}
+use Rattle.wire.specs.Type9.{badMTU}
+use Rattle.contexts.specs.State.{State, fresh, streamIn, messageIn, withStream, withMessage, closedStream, closedMessage, isFreeStream, isFreeMessage}
+use Rattle.contexts.specs.Words.{stateOf, wordsOf, stateWords}
+use Rattle.contexts.specs.Refusal19.{badRoom, namedBy19}
+
+-- an answer and the words it leaves
+pub record Stands : Type 0 where
+  pub says : Said
+  pub words : List ℕ
+
+abbrev pub stands : Said → List ℕ → Stands
+stands says words = record { says = says; words = words }
+
+-- ---- setup: a buffer that is no state is 12; 18 before 19
+
+-- what a refused setup leaves: the words as they are, or a state of zeros
+pub data SetupLeaves : Type 0 where
+  wordsStay : SetupLeaves
+  stateOfZeros : SetupLeaves
+
+unfoldable pub setupTable : List ℕ → ℕ → ℕ → List (RowOf SetupLeaves)
+setupTable words mtu room =
+    row 12 (not (eqb (length words) stateWords)) wordsStay
+    ∷ row 18 (badMTU mtu) stateOfZeros
+    ∷ row 19 (badRoom mtu room) stateOfZeros
+    ∷ []
+
+abbrev pub setupLeaving : List ℕ → SetupLeaves → List ℕ
+setupLeaving words wordsStay = words
+setupLeaving words stateOfZeros = replicate stateWords 0
+
+abbrev pub setupBy : List ℕ → ℕ → ℕ → ℕ → VerdictOf SetupLeaves → Stands
+setupBy words device mtu room (refuse number leaves) = stands (refused number) (setupLeaving words leaves)
+setupBy words device mtu room accept = stands ready (wordsOf (fresh device mtu room))
+
+unfoldable pub setup : List ℕ → ℕ → ℕ → ℕ → Stands
+setup words device mtu room = setupBy words device mtu room (verdict (setupTable words mtu room))
+
+abbrev pub SetupPromise : List ℕ → ℕ → ℕ → ℕ → Begun → List ℕ → Type 0
+SetupPromise words device mtu room r after = stands (saidOfSetup r) after ≡ setup words device mtu room
+
+-- ---- abandoning: 19 (and 12 for a buffer that is no state), then 13 for a number past the last context; a free context stays as it is
+unfoldable pub abandonTable : List ℕ → ℕ → ℕ → List Row
+abandonTable words contexts n =
+    row 19 (eqb (length words) stateWords && namedBy19 (stateOf words)) all
+    ∷ row 12 (not (eqb (length words) stateWords)) all
+    ∷ row 13 (not (ltb n contexts)) all
+    ∷ []
+
+-- the context was free, or is closed
+abbrev pub abandonBy : List ℕ → Bool → State → Verdict → Stands
+abandonBy words isFree after (refuse number leaves) = stands (refused number) words
+abandonBy words isFree after accept = cond isFree (stands free words) (stands closed (wordsOf after))
+
+unfoldable pub abandonStream : List ℕ → ℕ → Stands
+abandonStream words n =
+    abandonBy words (isFreeStream (streamIn (stateOf words) n)) (withStream (stateOf words) n closedStream) (verdict (abandonTable words 16 n))
+
+unfoldable pub abandonMessage : List ℕ → ℕ → Stands
+abandonMessage words n =
+    abandonBy words (isFreeMessage (messageIn (stateOf words) n)) (withMessage (stateOf words) n closedMessage) (verdict (abandonTable words 8 n))
+
+abbrev pub AbandonPromise : Stands → Abandoned → List ℕ → Type 0
+AbandonPromise promised r after = stands (saidOfAbandon r) after ≡ promised
+
+-- ---- rooms: that part of the caller's own memory; n past the last context, l over the room, memory of another size or a state that 19 names: an empty part
+unfoldable pub noState : List ℕ → Bool
+noState words = not (eqb (length words) stateWords) || namedBy19 (stateOf words)
+
+unfoldable pub partOf : ℕ → ℕ → List ℕ → ℕ → ℕ → List ℕ
+partOf rooms room memory n l =
+    cond (not (eqb (length memory) (rooms * room)) || not (ltb n rooms) || ltb room l) []
+    (take l (drop (n * room) memory))
+
+unfoldable pub streamRoom : List ℕ → List ℕ → ℕ → ℕ → List ℕ
+streamRoom words memory n l = cond (noState words) [] (partOf 16 (stateOf words .room) memory n l)
+
+unfoldable pub messageRoom : List ℕ → List ℕ → ℕ → ℕ → List ℕ
+messageRoom words memory n l = cond (noState words) [] (partOf 8 4096 memory n l)

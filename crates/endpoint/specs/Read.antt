@@ -1,0 +1,69 @@
+-- What reading one packet answers, and what it leaves in the state and in every lent byte.
+use Prim.Native.Nat.{ℕ}
+use mathlib.Core.Path.{_≡_}
+use mathlib.Core.List.{List}
+use mathlib.Core.Bool.{Bool, false, cond}
+use Rattle.answers.specs.Answers.{Said, said, refused}
+use Rattle.answers.specs.declared.Reading.{Reading}
+use Rattle.answers.specs.Refusals.{Leaves, all, flowClosed, allERROR, allRETRY, Verdict, refuse, accept, verdict}
+use Rattle.wire.specs.Type13.{ERROR, RETRY, answered}
+use Rattle.contexts.specs.Words.{wordsOf}
+use Rattle.streams.specs.Joining as stream
+use Rattle.messages.specs.Joining as message
+use Rattle.endpoint.specs.Table.{Lent, stateIn, segmentIn, messageIn, is9, table}
+
+-- the answer, whether this packet closed an open stream context undelivered, and everything lent as it is left
+pub record Left : Type 0 where
+  pub says : Said
+  pub dropped : Bool
+  pub words : List ℕ
+  pub streams : List ℕ
+  pub messages : List ℕ
+  pub response : List ℕ
+
+abbrev pub left : Said → Bool → List ℕ → List ℕ → List ℕ → List ℕ → Left
+left says dropped words streams messages response = record {
+  says = says;
+  dropped = dropped;
+  words = words;
+  streams = streams;
+  messages = messages;
+  response = response;
+}
+
+-- what a type 9 packet leaves; message memory and response stay
+abbrev pub ofStream : Lent → stream.Joined → Left
+ofStream x j = left (j .says) (j .dropped) (wordsOf (j .state)) (j .memory) (x .messages) (x .response)
+
+-- what an accepted type 11 packet leaves; the stream memory stays
+abbrev pub ofMessage : Lent → message.Joined → Left
+ofMessage x j = left (j .says) false (wordsOf (j .state)) (x .streams) (j .memory) (j .response)
+
+-- the table's last column
+abbrev pub leaving : Lent → ℕ → Leaves → Left
+leaving x number all = left (refused number) false (x .words) (x .streams) (x .messages) (x .response)
+leaving x number flowClosed = ofStream x (stream.refusedClosing (stateIn x) (x .streams) (segmentIn x) number)
+leaving x number allERROR = left (refused number) false (x .words) (x .streams) (x .messages) (answered (x .response) (x .packet) ERROR)
+leaving x number allRETRY = left (refused number) false (x .words) (x .streams) (x .messages) (answered (x .response) (x .packet) RETRY)
+
+-- an accepted packet
+abbrev pub accepting : Lent → Left
+accepting x =
+    cond (is9 x)
+    (ofStream x (stream.accepted (stateIn x) (x .streams) (x .packet) (segmentIn x)))
+    (ofMessage x (message.accepted (stateIn x) (x .messages) (x .response) (x .packet) (messageIn x)))
+
+abbrev pub outcome : Lent → Verdict → Left
+outcome x (refuse number leaves) = leaving x number leaves
+outcome x accept = accepting x
+
+-- the first row that holds decides
+unfoldable pub reading : Lent → Left
+reading x = outcome x (verdict (table x))
+
+abbrev pub lent : List ℕ → List ℕ → List ℕ → List ℕ → List ℕ → Lent
+lent words streams messages response packet = record { words = words; streams = streams; messages = messages; response = response; packet = packet }
+
+-- the promise of `read`
+abbrev pub ReadPromise : Lent → Reading → List ℕ → List ℕ → List ℕ → List ℕ → Type 0
+ReadPromise x r words streams messages response = left (said (r .answer)) (r .dropped) words streams messages response ≡ reading x

@@ -1,0 +1,207 @@
+// The endpoint's public calls: setup, reading a packet, abandoning a context, rooms. None asks anything of its caller.
+use answers::Abandoned;
+use answers::Answer;
+use answers::Begun;
+use answers::Reading;
+use wire::Parsed;
+ghost use mathlib.Core.Path.{_≡_};
+ghost use mathlib.Core.Bool.{false};
+ghost use Prim.Native.Nat.{_≤_};
+ghost use lib.ListN.{length};
+ghost use Rattle.contexts.specs.Words.{stateOf, stateWords};
+ghost use Rattle.contexts.specs.Refusal19.{namedBy19};
+ghost use Rattle.endpoint.specs.Table.{wrongSizes};
+ghost use Rattle.endpoint.specs.Read.{lent, ReadPromise};
+ghost use Rattle.endpoint.specs.Step.{Ready, Refusal};
+ghost use Rattle.endpoint.specs.Calls.{SetupPromise, AbandonPromise, abandonStream, abandonMessage, noState, partOf, streamRoom, messageRoom};
+
+// The bytes of the message memory: 8 rooms of 4,096.
+pub const MESSAGES: usize = 32768;
+
+// The words that a state needs.
+pub fn state_length() -> usize
+    ensures { λ r. ⌜ r ≡ stateWords ⌝ }
+{
+    contexts::WORDS
+}
+
+// Makes a state for a device ID, an MTU and rooms of R bytes.
+pub fn setup(state: &mut [usize], device: u16, mtu: usize, room: usize) -> Begun
+    ensures { λ r. ⌜ SetupPromise (now (state .entry)) device mtu room r (now (state .exit)) ⌝ }
+{
+    if state.len() != contexts::WORDS {
+        return Begun::Refused(12);
+    }
+    if wire::bad_mtu(mtu) {
+        contexts::clear(state);
+        return Begun::Refused(18);
+    }
+    if contexts::bad_room(mtu, room) {
+        contexts::clear(state);
+        return Begun::Refused(19);
+    }
+    contexts::begin(state, device as usize, mtu, room);
+    Begun::Ready
+}
+
+// A refusal that changes nothing.
+fn refused(number: usize) -> Reading
+    ensures { λ r. ⌜ Refusal number r ⌝ }
+{
+    Reading {
+        answer: Answer::Refused(number),
+        dropped: false,
+    }
+}
+
+// Row 12, for a state that 19 does not name.
+fn wrong_memory(state: &[usize], streams: &[u8], messages: &[u8], response: &[u8]) -> bool
+    requires { ⌜ (length (now state) ≡ stateWords) × (namedBy19 (stateOf (now state)) ≡ false) ⌝ }
+    ensures { λ r. ⌜ r ≡ wrongSizes (stateOf (now (state .entry))) (now (streams .entry)) (now (messages .entry)) (now (response .entry)) ⌝ }
+{
+    if streams.len() != 16 * contexts::room(state) {
+        return true;
+    }
+    if messages.len() != MESSAGES {
+        return true;
+    }
+    response.len() < 7
+}
+
+// Reads one packet by a state and memories that rows 19 and 12 pass. `read` tests them; a run over many packets tests them once.
+pub fn read_ready(
+    state: &mut [usize],
+    streams: &mut [u8],
+    messages: &mut [u8],
+    response: &mut [u8],
+    packet: &[u8],
+) -> Reading
+    requires { ⌜ Ready (now state) (now streams) (now messages) (now response) ⌝ }
+    ensures { λ r. ⌜ ReadPromise (lent (now (state .entry)) (now (streams .entry)) (now (messages .entry)) (now (response .entry)) (now (packet .entry))) r (now (state .exit)) (now (streams .exit)) (now (messages .exit)) (now (response .exit)) ⌝ }
+{
+    let device = contexts::device(state);
+    match wire::parse(packet, device) {
+        Parsed::Refused(number) => refused(number),
+        Parsed::Stream(g) => streams::step(state, streams, packet, g),
+        Parsed::Message(m) => {
+            let answer = messages::step(state, messages, response, packet, m);
+            Reading {
+                answer,
+                dropped: false,
+            }
+        }
+    }
+}
+
+// Reads one packet.
+pub fn read(
+    state: &mut [usize],
+    streams: &mut [u8],
+    messages: &mut [u8],
+    response: &mut [u8],
+    packet: &[u8],
+) -> Reading
+    ensures { λ r. ⌜ ReadPromise (lent (now (state .entry)) (now (streams .entry)) (now (messages .entry)) (now (response .entry)) (now (packet .entry))) r (now (state .exit)) (now (streams .exit)) (now (messages .exit)) (now (response .exit)) ⌝ }
+{
+    if state.len() != contexts::WORDS {
+        return refused(12);
+    }
+    if contexts::named_by_19(state) {
+        return refused(19);
+    }
+    if wrong_memory(state, streams, messages, response) {
+        return refused(12);
+    }
+    read_ready(state, streams, messages, response, packet)
+}
+
+// Abandons stream context n. A free one stays as it is.
+pub fn abandon_stream(state: &mut [usize], n: usize) -> Abandoned
+    ensures { λ r. ⌜ AbandonPromise (abandonStream (now (state .entry)) n) r (now (state .exit)) ⌝ }
+{
+    if state.len() != contexts::WORDS {
+        return Abandoned::Refused(12);
+    }
+    if contexts::named_by_19(state) {
+        return Abandoned::Refused(19);
+    }
+    if 16 <= n {
+        return Abandoned::Refused(13);
+    }
+    let c = contexts::stream_at(state, n);
+    if c.live == 0 {
+        return Abandoned::WasFree;
+    }
+    contexts::put_stream(state, n, streams::closed());
+    Abandoned::Closed
+}
+
+// Abandons message context n. A free one stays as it is.
+pub fn abandon_message(state: &mut [usize], n: usize) -> Abandoned
+    ensures { λ r. ⌜ AbandonPromise (abandonMessage (now (state .entry)) n) r (now (state .exit)) ⌝ }
+{
+    if state.len() != contexts::WORDS {
+        return Abandoned::Refused(12);
+    }
+    if contexts::named_by_19(state) {
+        return Abandoned::Refused(19);
+    }
+    if 8 <= n {
+        return Abandoned::Refused(13);
+    }
+    let c = contexts::message_at(state, n);
+    if c.live == 0 {
+        return Abandoned::WasFree;
+    }
+    contexts::put_message(state, n, messages::closed());
+    Abandoned::Closed
+}
+
+// Whether a buffer is no state, or one that 19 names.
+fn no_state(state: &[usize]) -> bool
+    ensures { λ r. ⌜ r ≡ noState (now (state .entry)) ⌝ }
+{
+    if state.len() != contexts::WORDS {
+        return true;
+    }
+    contexts::named_by_19(state)
+}
+
+// The first l bytes of room n of a memory of so many rooms, or an empty part.
+fn room_part<'a>(memory: &'a [u8], rooms: usize, room: usize, n: usize, l: usize) -> &'a [u8]
+    requires { ⌜ (rooms ≤ 16) × (room ≤ 65536) ⌝ }
+    ensures { λ r. ⌜ now r ≡ partOf rooms room (now (memory .entry)) n l ⌝ }
+{
+    if memory.len() != rooms * room {
+        return &memory[..0];
+    }
+    if rooms <= n {
+        return &memory[..0];
+    }
+    if room < l {
+        return &memory[..0];
+    }
+    let at = n * room;
+    let end = at + l;
+    &memory[at..end]
+}
+
+// The first l bytes of the room of stream context n, as a part of the caller's own memory; an empty part where there is none.
+pub fn stream_room<'a>(state: &[usize], memory: &'a [u8], n: usize, l: usize) -> &'a [u8]
+    ensures { λ r. ⌜ now r ≡ streamRoom (now (state .entry)) (now (memory .entry)) n l ⌝ }
+{
+    if no_state(state) {
+        return &memory[..0];
+    }
+    room_part(memory, 16, contexts::room(state), n, l)
+}
+
+// The same of message context n.
+pub fn message_room<'a>(state: &[usize], memory: &'a [u8], n: usize, l: usize) -> &'a [u8]
+    ensures { λ r. ⌜ now r ≡ messageRoom (now (state .entry)) (now (memory .entry)) n l ⌝ }
+{
+    if no_state(state) {
+        return &memory[..0];
+    }
+    room_part(memory, 8, messages::ROOM, n, l)
+}
