@@ -1,0 +1,37 @@
+-- Going by cases on a test, and a table read row by row.
+use Prim.Native.Nat.{ℕ}
+use mathlib.Core.Path.{_≡_, refl, ap, _∙_}
+use mathlib.Core.List.{List, [], _∷_}
+use mathlib.Core.Bool.{Bool, true, false, cond}
+use Rattle.answers.specs.Refusals.{Row, row, Leaves, Verdict, verdict}
+use Rattle.contexts.specs.Words.{stateOf, wordsOf, stateWords}
+use Rattle.contexts.proofs.Words.{words-of}
+use Rattle.streams.specs.Joining as stream
+use Rattle.messages.specs.Joining as message
+use Rattle.endpoint.specs.Table.{Lent, table}
+use Rattle.endpoint.specs.Read.{Left, left, leaving, accepting, outcome, reading, ofStream, ofMessage}
+
+pub by-test : {P : Type 0} (b : Bool) → (b ≡ true → P) → (b ≡ false → P) → P
+by-test true yes-case no-case = yes-case refl
+by-test false yes-case no-case = no-case refl
+
+-- what the first row leaves, or what the others do
+pub by-row : (x : Lent) (number : ℕ) (holds : Bool) (leaves : Leaves) (rows : List Row)
+    → outcome x (verdict (row number holds leaves ∷ rows)) ≡ cond holds (leaving x number leaves) (outcome x (verdict rows))
+unfolding verdict
+by-row x number true leaves rows = refl
+by-row x number false leaves rows = refl
+
+-- a choice between two steps is a choice between what they leave
+pub choose-stream : (x : Lent) (b : Bool) (j k : stream.Joined) → ofStream x (cond b j k) ≡ cond b (ofStream x j) (ofStream x k)
+choose-stream x true j k = refl
+choose-stream x false j k = refl
+
+pub choose-message : (x : Lent) (b : Bool) (j k : message.Joined) → ofMessage x (cond b j k) ≡ cond b (ofMessage x j) (ofMessage x k)
+choose-message x true j k = refl
+choose-message x false j k = refl
+
+-- no row left: accepted
+pub by-end : (x : Lent) → outcome x (verdict []) ≡ accepting x
+unfolding verdict
+by-end x = refl

@@ -1,0 +1,6 @@
+pub mod Cases
+pub mod StreamRows
+pub mod MessageRows
+pub mod Rows
+pub mod Packets
+pub mod Calls

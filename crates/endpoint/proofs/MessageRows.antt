@@ -1,0 +1,45 @@
+-- A type 11 step is rows 20 to 25 of the table.
+use Prim.Native.Nat.{ℕ}
+use mathlib.Core.Path.{_≡_, refl, ap, sym, _∙_}
+use mathlib.Core.Bool.{Bool, true, false, cond}
+use lib.ListN.{length}
+use Rattle.answers.specs.Refusals.{allERROR, allRETRY}
+use Rattle.wire.specs.Type13.{ERROR, RETRY}
+use Rattle.contexts.specs.Words.{stateWords}
+use Rattle.contexts.proofs.Words.{words-of}
+use Rattle.messages.specs.Rows.{reservedSize, wrongLength, pastLast, otherMessage, alreadyMarked, noneFree}
+use Rattle.messages.specs.Joining.{accepted, refusedWith}
+use Rattle.messages.specs.Step.{judged, joined, stepped}
+use Rattle.endpoint.specs.Table.{Lent, stateIn, messageIn}
+use Rattle.endpoint.specs.Read.{Left, leaving, ofMessage}
+use Rattle.endpoint.proofs.Cases.{by-test, choose-message}
+
+module _ (x : Lent) (whole : length (x .words) ≡ stateWords) where
+  errs : (number : ℕ) → ofMessage x (refusedWith (stateIn x) (x .messages) (x .response) (x .packet) number ERROR) ≡ leaving x number allERROR
+  unfolding refusedWith
+  errs number = rw (words-of (x .words) whole)
+
+  retries : (number : ℕ) → ofMessage x (refusedWith (stateIn x) (x .messages) (x .response) (x .packet) number RETRY) ≡ leaving x number allRETRY
+  unfolding refusedWith
+  retries number = rw (words-of (x .words) whole)
+
+  -- rows 23 to 25
+  abbrev later : Left
+  later =
+      cond (otherMessage (stateIn x) (messageIn x)) (leaving x 23 allERROR)
+      (cond (alreadyMarked (stateIn x) (messageIn x)) (leaving x 24 allERROR)
+      (cond (noneFree (stateIn x) (messageIn x)) (leaving x 25 allRETRY)
+      (ofMessage x (accepted (stateIn x) (x .messages) (x .response) (x .packet) (messageIn x)))))
+
+  joins : ofMessage x (joined (stateIn x) (x .messages) (x .response) (x .packet) (messageIn x)) ≡ later
+  unfolding joined
+  joins = simp (choose-message, errs 23, errs 24, retries 25)
+
+  -- rows 20 to 25
+  pub message-rows : ofMessage x (stepped (stateIn x) (x .messages) (x .response) (x .packet) (messageIn x))
+      ≡ cond (reservedSize (messageIn x)) (leaving x 20 allERROR) (cond (wrongLength (messageIn x)) (leaving x 21 allERROR) (cond (pastLast (messageIn x)) (leaving x 22 allERROR) later))
+  unfolding stepped judged
+  message-rows =
+      by-test (reservedSize (messageIn x)) (λ a. rw a (errs 20))
+      (λ a. by-test (wrongLength (messageIn x)) (λ b. rw (a, b) (errs 21))
+      (λ b. by-test (pastLast (messageIn x)) (λ d. rw (a, b, d) (errs 22)) (λ d. rw (a, b, d) joins)))
