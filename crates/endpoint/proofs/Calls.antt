@@ -1,1 +1,137 @@
--- 
+-- Laws of the public calls: what each way through the code leaves is what the definition says.
+use Prim.Native.Nat.{ℕ, _≤_, _<_, _+_, _-_, _*_}
+use mathlib.Core.Path.{_≡_, refl, ap, sym, _∙_}
+use mathlib.Core.List.{List, [], _∷_, map}
+use mathlib.Core.Bool.{Bool, true, false, cond, not, _||_, _&&_}
+use native.Mathlib.Omega.{arith}
+use native.Mathlib.Nat.{suc-mul, mul-le-mul-right}
+use lib.Dec.{eqb, ltb}
+use lib.ListN.{length, take, drop, replicate}
+use borrow.Author.Tests.{eq-eqb, ne-eqb, lt-ltb, le-ltb, eqb-true, ltb-false, not-false}
+use Rattle.lists.specs.Rows.{joined}
+use Rattle.answers.specs.Answers.{Said, said, ready, free, closed, refused}
+use Rattle.answers.specs.declared.Reading.{Reading}
+use Rattle.answers.specs.Refusals.{all, verdict}
+use Rattle.wire.specs.Type9.{badMTU}
+use Rattle.contexts.specs.State.{State, fresh, streamIn, messageIn, withStream, withMessage, closedStream, closedMessage}
+use Rattle.contexts.specs.Words.{stateOf, wordsOf, stateWords}
+use Rattle.contexts.specs.Refusal19.{badRoom, namedBy19}
+use Rattle.contexts.proofs.Words.{words-of}
+use Rattle.contexts.proofs.Good.{neither}
+use Rattle.streams.specs.Joining as stream
+use Rattle.messages.specs.Joining as message
+use Rattle.endpoint.specs.Table.{Lent, wrongSizes}
+use Rattle.endpoint.specs.Read.{Left, left, leaving, ofStream, ofMessage, reading, ReadPromise}
+use Rattle.endpoint.specs.Step.{Refusal}
+use Rattle.endpoint.specs.Calls.{Stands, stands, setup, setupTable, abandonTable, abandonBy, noState, partOf}
+
+-- ---- reading
+
+-- a refusal that changes nothing
+pub refusing : (x : Lent) (number : ℕ) (r : Reading) → Refusal number r → leaving x number all ≡ reading x → ReadPromise x r (x .words) (x .streams) (x .messages) (x .response)
+refusing x number r f e = rw (f .answer, f .drop) e
+
+-- what a step leaves in the words
+pub stream-left : (x : Lent) (says : Said) (dropped : Bool) (words memory : List ℕ) (j : stream.Joined) → length words ≡ stateWords
+    → stream.joining says dropped (stateOf words) memory ≡ j → left says dropped words memory (x .messages) (x .response) ≡ ofStream x j
+stream-left x says dropped words memory j z e =
+    ap (λ (w : List ℕ). left says dropped w memory (x .messages) (x .response)) (sym (words-of words z)) ∙ ap (ofStream x) e
+
+pub message-left : (x : Lent) (says : Said) (words memory response : List ℕ) (j : message.Joined) → length words ≡ stateWords
+    → message.joining says (stateOf words) memory response ≡ j → left says false words (x .streams) memory response ≡ ofMessage x j
+message-left x says words memory response j z e =
+    ap (λ (w : List ℕ). left says false w (x .streams) memory response) (sym (words-of words z)) ∙ ap (ofMessage x) e
+
+-- row 12 passed
+pub sizes-right : (s : State) (streams messages response : List ℕ) → length streams ≡ 16 * s .room → length messages ≡ 32768 → 7 ≤ length response → wrongSizes s streams messages response ≡ false
+unfolding wrongSizes
+sizes-right s streams messages response a b d = rw (eq-eqb (length streams) (16 * s .room) a, eq-eqb (length messages) 32768 b, le-ltb (length response) 7 d)
+
+-- ---- setup
+module _ (words : List ℕ) (device mtu room : ℕ) where
+  pub setup-short : (length words ≡ stateWords → ⊥) → stands (refused 12) words ≡ setup words device mtu room
+  unfolding setup setupTable verdict
+  setup-short l = rw (ne-eqb (length words) stateWords l)
+
+  module _ (l : length words ≡ stateWords) where
+    pub setup-mtu : (after : List ℕ) → badMTU mtu ≡ true → after ≡ replicate (length words) 0 → stands (refused 18) after ≡ setup words device mtu room
+    unfolding setup setupTable verdict
+    setup-mtu after b e = rw (e, l, b)
+
+    pub setup-room : (after : List ℕ) → badMTU mtu ≡ false → badRoom mtu room ≡ true → after ≡ replicate (length words) 0 → stands (refused 19) after ≡ setup words device mtu room
+    unfolding setup setupTable verdict
+    setup-room after b d e = rw (e, l, b, d)
+
+    pub setup-ready : (after : List ℕ) → badMTU mtu ≡ false → badRoom mtu room ≡ false → after ≡ device ∷ mtu ∷ room ∷ replicate 144 0 → stands ready after ≡ setup words device mtu room
+    unfolding setup setupTable verdict wordsOf joined
+    setup-ready after b d e = rw (e, eq-eqb (length words) stateWords l, b, d)
+
+-- ---- abandoning, for contexts of either kind
+module _ (words : List ℕ) (contexts n : ℕ) (isFree : Bool) (after : State) where
+  pub abandon-short : (length words ≡ stateWords → ⊥) → stands (refused 12) words ≡ abandonBy words isFree after (verdict (abandonTable words contexts n))
+  unfolding abandonTable verdict
+  abandon-short l = rw (ne-eqb (length words) stateWords l)
+
+  module _ (l : length words ≡ stateWords) where
+    pub abandon-named : namedBy19 (stateOf words) ≡ true → stands (refused 19) words ≡ abandonBy words isFree after (verdict (abandonTable words contexts n))
+    unfolding abandonTable verdict
+    abandon-named h = rw (eq-eqb (length words) stateWords l, h)
+
+    module _ (h : namedBy19 (stateOf words) ≡ false) where
+      pub abandon-past : contexts ≤ n → stands (refused 13) words ≡ abandonBy words isFree after (verdict (abandonTable words contexts n))
+      unfolding abandonTable verdict
+      abandon-past k = rw (eq-eqb (length words) stateWords l, h, le-ltb n contexts k)
+
+      pub abandon-free : n < contexts → isFree ≡ true → stands free words ≡ abandonBy words isFree after (verdict (abandonTable words contexts n))
+      unfolding abandonTable verdict
+      abandon-free k f = rw (eq-eqb (length words) stateWords l, h, lt-ltb n contexts k, f)
+
+      pub abandon-closed : (words′ : List ℕ) → length words′ ≡ stateWords → stateOf words′ ≡ after → n < contexts → isFree ≡ false
+          → stands closed words′ ≡ abandonBy words isFree after (verdict (abandonTable words contexts n))
+      unfolding abandonTable verdict
+      abandon-closed words′ z e k f =
+          rw (eq-eqb (length words) stateWords l, h, lt-ltb n contexts k, f, ← e) (ap (stands closed) (sym (words-of words′ z)))
+
+-- ---- rooms
+module _ (rooms room : ℕ) (memory : List ℕ) (n l : ℕ) where
+  pub other-size : (length memory ≡ rooms * room → ⊥) → [] ≡ partOf rooms room memory n l
+  unfolding partOf
+  other-size a = rw (ne-eqb (length memory) (rooms * room) a)
+
+  module _ (a : length memory ≡ rooms * room) where
+    pub past-last : rooms ≤ n → [] ≡ partOf rooms room memory n l
+    unfolding partOf
+    past-last b = rw (eq-eqb (length memory) (rooms * room) a, le-ltb n rooms b)
+
+    pub over-long : n < rooms → room < l → [] ≡ partOf rooms room memory n l
+    unfolding partOf
+    over-long b d = rw (eq-eqb (length memory) (rooms * room) a, lt-ltb n rooms b, lt-ltb room l d)
+
+    pub a-room : n < rooms → l ≤ room → take (n * room + l - n * room) (drop (n * room) memory) ≡ partOf rooms room memory n l
+    unfolding partOf
+    a-room b d =
+        let same : n * room + l - n * room ≡ l = omega arith in
+        rw (eq-eqb (length memory) (rooms * room) a, lt-ltb n rooms b, le-ltb room l d, same)
+
+-- a room ends inside the memory
+pub room-inside : (rooms room n l : ℕ) → n < rooms → l ≤ room → n * room + l ≤ rooms * room
+room-inside rooms room n l a b = omega (arith, suc-mul n room, mul-le-mul-right room a)
+
+pub room-bound : (rooms room : ℕ) → rooms ≤ 16 → room ≤ 65536 → rooms * room ≤ 1048576
+room-bound rooms room a b = omega (arith, mul-le-mul-right room a)
+
+-- ---- what a passed test says
+
+pub state-there : (words : List ℕ) → noState words ≡ false → (length words ≡ stateWords) × (namedBy19 (stateOf words) ≡ false)
+unfolding noState
+state-there words e =
+    let a = neither (not (eqb (length words) stateWords)) (namedBy19 (stateOf words)) e in
+    (eqb-true (length words) stateWords (not-false _ (a .0)), a .1)
+
+pub sizes-fit : (s : State) (streams messages response : List ℕ) → wrongSizes s streams messages response ≡ false
+    → (length streams ≡ 16 * s .room) × (length messages ≡ 32768) × (7 ≤ length response)
+unfolding wrongSizes
+sizes-fit s streams messages response e =
+    let a = neither (not (eqb (length streams) (16 * s .room)) || not (eqb (length messages) 32768)) (ltb (length response) 7) e in
+    let b = neither (not (eqb (length streams) (16 * s .room))) (not (eqb (length messages) 32768)) (a .0) in
+    (eqb-true (length streams) (16 * s .room) (not-false _ (b .0)), eqb-true (length messages) 32768 (not-false _ (b .1)), ltb-false (length response) 7 (a .1))
