@@ -8,6 +8,7 @@ use native.Mathlib.Nat.{suc-mul, mul-le-mul-right}
 use lib.Dec.{eqb, ltb}
 use lib.ListN.{length, take, drop, replicate}
 use borrow.Author.Tests.{eq-eqb, ne-eqb, lt-ltb, le-ltb, eqb-true, ltb-false, not-false}
+use denote.Ref.{RefT, now}
 use Rattle.lists.specs.Rows.{joined}
 use Rattle.answers.specs.Answers.{Said, said, ready, free, closed, refused}
 use Rattle.answers.specs.declared.Reading.{Reading}
@@ -23,7 +24,7 @@ use Rattle.messages.specs.Joining as message
 use Rattle.endpoint.specs.Table.{Lent, wrongSizes}
 use Rattle.endpoint.specs.Read.{Left, left, leaving, ofStream, ofMessage, reading, ReadPromise}
 use Rattle.endpoint.specs.Step.{Refusal}
-use Rattle.endpoint.specs.Calls.{Stands, stands, setup, setupTable, abandonTable, abandonBy, noState, partOf}
+use Rattle.endpoint.specs.Calls.{Stands, stands, setup, setupTable, abandonTable, abandonBy, noState, Part, part, roomPart, IsPart}
 
 -- ---- reading
 
@@ -93,25 +94,28 @@ module _ (words : List ℕ) (contexts n : ℕ) (isFree : Bool) (after : State) w
           rw (eq-eqb (length words) stateWords l, h, lt-ltb n contexts k, f, ← e) (ap (stands closed) (sym (words-of words′ z)))
 
 -- ---- rooms
-module _ (rooms room : ℕ) (memory : List ℕ) (n l : ℕ) where
-  pub other-size : (length memory ≡ rooms * room → ⊥) → [] ≡ partOf rooms room memory n l
-  unfolding partOf
-  other-size a = rw (ne-eqb (length memory) (rooms * room) a)
+module _ (rooms room size n l : ℕ) where
+  pub other-size : (size ≡ rooms * room → ⊥) → part 0 0 ≡ roomPart rooms room size n l
+  unfolding roomPart
+  other-size a = rw (ne-eqb size (rooms * room) a)
 
-  module _ (a : length memory ≡ rooms * room) where
-    pub past-last : rooms ≤ n → [] ≡ partOf rooms room memory n l
-    unfolding partOf
-    past-last b = rw (eq-eqb (length memory) (rooms * room) a, le-ltb n rooms b)
+  module _ (a : size ≡ rooms * room) where
+    pub past-last : rooms ≤ n → part 0 0 ≡ roomPart rooms room size n l
+    unfolding roomPart
+    past-last b = rw (eq-eqb size (rooms * room) a, le-ltb n rooms b)
 
-    pub over-long : n < rooms → room < l → [] ≡ partOf rooms room memory n l
-    unfolding partOf
-    over-long b d = rw (eq-eqb (length memory) (rooms * room) a, lt-ltb n rooms b, lt-ltb room l d)
+    pub over-long : n < rooms → room < l → part 0 0 ≡ roomPart rooms room size n l
+    unfolding roomPart
+    over-long b d = rw (eq-eqb size (rooms * room) a, lt-ltb n rooms b, lt-ltb room l d)
 
-    pub a-room : n < rooms → l ≤ room → take (n * room + l - n * room) (drop (n * room) memory) ≡ partOf rooms room memory n l
-    unfolding partOf
-    a-room b d =
-        let same : n * room + l - n * room ≡ l = omega arith in
-        rw (eq-eqb (length memory) (rooms * room) a, lt-ltb n rooms b, le-ltb room l d, same)
+    pub a-room : n < rooms → l ≤ room → part (n * room) l ≡ roomPart rooms room size n l
+    unfolding roomPart
+    a-room b d = rw (eq-eqb size (rooms * room) a, lt-ltb n rooms b, le-ltb room l d)
+
+-- the part that a range of the memory is
+pub ranged : (memory r : RefT (List ℕ)) (from end : ℕ) (p : Part)
+    → part from (end - from) ≡ p → r .ptr .0 ≡ memory .ptr .0 → r .ptr .1 ≡ memory .ptr .1 + from → now r ≡ take (end - from) (drop from (now memory)) → IsPart memory p r
+ranged memory r from end p e b o y = rw (← e) (record { block = b; offset = o; bytes = y })
 
 -- a room ends inside the memory
 pub room-inside : (rooms room n l : ℕ) → n < rooms → l ≤ room → n * room + l ≤ rooms * room

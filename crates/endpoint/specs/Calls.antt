@@ -1,10 +1,11 @@
 -- The other calls: setup, abandoning, rooms (document 01, 'Cutting and joining PDUs' and 'Refusal numbers').
-use Prim.Native.Nat.{ℕ, _*_}
+use Prim.Native.Nat.{ℕ, _+_, _*_}
 use mathlib.Core.Path.{_≡_}
 use mathlib.Core.List.{List, [], _∷_}
 use mathlib.Core.Bool.{Bool, cond, not, _||_, _&&_}
 use lib.ListN.{length, take, drop, replicate}
 use lib.Dec.{eqb, ltb}
+use denote.Ref.{RefT, now}
 use Rattle.answers.specs.Answers.{Said, ready, closed, free, refused, saidOfSetup, saidOfAbandon}
 use Rattle.answers.specs.declared.Begun.{Begun}
 use Rattle.answers.specs.declared.Abandoned.{Abandoned}
@@ -74,17 +75,31 @@ abandonMessage words n =
 abbrev pub AbandonPromise : Stands → Abandoned → List ℕ → Type 0
 AbandonPromise promised r after = stands (saidOfAbandon r) after ≡ promised
 
--- ---- rooms: that part of the caller's own memory; n past the last context, l over the room, memory of another size or a state that 19 names: an empty part
+-- ---- rooms: that part of the caller's own memory, from n R; n past the last context, l over the room, memory of another size
+-- or a state that 19 names: an empty part
+
+-- where a part of a memory begins, and its bytes
+pub record Part : Type 0 where
+  pub from : ℕ
+  pub size : ℕ
+
+abbrev pub part : ℕ → ℕ → Part
+part from size = record { from = from; size = size }
+
 unfoldable pub noState : List ℕ → Bool
 noState words = not (eqb (length words) stateWords) || namedBy19 (stateOf words)
 
-unfoldable pub partOf : ℕ → ℕ → List ℕ → ℕ → ℕ → List ℕ
-partOf rooms room memory n l =
-    cond (not (eqb (length memory) (rooms * room)) || not (ltb n rooms) || ltb room l) []
-    (take l (drop (n * room) memory))
+unfoldable pub roomPart : ℕ → ℕ → ℕ → ℕ → ℕ → Part
+roomPart rooms room size n l = cond (not (eqb size (rooms * room)) || not (ltb n rooms) || ltb room l) (part 0 0) (part (n * room) l)
 
-unfoldable pub streamRoom : List ℕ → List ℕ → ℕ → ℕ → List ℕ
-streamRoom words memory n l = cond (noState words) [] (partOf 16 (stateOf words .room) memory n l)
+unfoldable pub streamRoom : List ℕ → ℕ → ℕ → ℕ → Part
+streamRoom words size n l = cond (noState words) (part 0 0) (roomPart 16 (stateOf words .room) size n l)
 
-unfoldable pub messageRoom : List ℕ → List ℕ → ℕ → ℕ → List ℕ
-messageRoom words memory n l = cond (noState words) [] (partOf 8 4096 memory n l)
+unfoldable pub messageRoom : List ℕ → ℕ → ℕ → ℕ → Part
+messageRoom words size n l = cond (noState words) (part 0 0) (roomPart 8 4096 size n l)
+
+-- what is handed back is that part of the memory: it lies there, and holds those bytes
+pub record IsPart (memory : RefT (List ℕ)) (p : Part) (r : RefT (List ℕ)) : Type 0 where
+  pub block : r .ptr .0 ≡ memory .ptr .0
+  pub offset : r .ptr .1 ≡ memory .ptr .1 + p .from
+  pub bytes : now r ≡ take (p .size) (drop (p .from) (now memory))

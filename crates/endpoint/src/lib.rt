@@ -13,7 +13,7 @@ ghost use Rattle.contexts.specs.Refusal19.{namedBy19};
 ghost use Rattle.endpoint.specs.Table.{wrongSizes};
 ghost use Rattle.endpoint.specs.Read.{lent, ReadPromise};
 ghost use Rattle.endpoint.specs.Step.{Ready, Refusal};
-ghost use Rattle.endpoint.specs.Calls.{SetupPromise, AbandonPromise, abandonStream, abandonMessage, noState, partOf, streamRoom, messageRoom};
+ghost use Rattle.endpoint.specs.Calls.{SetupPromise, AbandonPromise, abandonStream, abandonMessage, noState, roomPart, streamRoom, messageRoom, IsPart};
 
 // The bytes of the message memory: 8 rooms of 4,096.
 pub const MESSAGES: usize = 32768;
@@ -167,19 +167,19 @@ fn no_state(state: &[usize]) -> bool
     contexts::named_by_19(state)
 }
 
-// The first l bytes of room n of a memory of so many rooms, or an empty part.
+// The first l bytes of room n of a memory of so many rooms, or an empty part. Every caller knows the sizes to be small.
 fn room_part<'a>(memory: &'a [u8], rooms: usize, room: usize, n: usize, l: usize) -> &'a [u8]
     requires { ⌜ (rooms ≤ 16) × (room ≤ 65536) ⌝ }
-    ensures { λ r. ⌜ now r ≡ partOf rooms room (now (memory .entry)) n l ⌝ }
+    ensures { λ r. ⌜ IsPart (memory .entry) (roomPart rooms room (length (now (memory .entry))) n l) r ⌝ }
 {
     if memory.len() != rooms * room {
-        return &memory[..0];
+        return &memory[0..0];
     }
     if rooms <= n {
-        return &memory[..0];
+        return &memory[0..0];
     }
     if room < l {
-        return &memory[..0];
+        return &memory[0..0];
     }
     let at = n * room;
     let end = at + l;
@@ -188,20 +188,20 @@ fn room_part<'a>(memory: &'a [u8], rooms: usize, room: usize, n: usize, l: usize
 
 // The first l bytes of the room of stream context n, as a part of the caller's own memory; an empty part where there is none.
 pub fn stream_room<'a>(state: &[usize], memory: &'a [u8], n: usize, l: usize) -> &'a [u8]
-    ensures { λ r. ⌜ now r ≡ streamRoom (now (state .entry)) (now (memory .entry)) n l ⌝ }
+    ensures { λ r. ⌜ IsPart (memory .entry) (streamRoom (now (state .entry)) (length (now (memory .entry))) n l) r ⌝ }
 {
     if no_state(state) {
-        return &memory[..0];
+        return &memory[0..0];
     }
     room_part(memory, 16, contexts::room(state), n, l)
 }
 
 // The same of message context n.
 pub fn message_room<'a>(state: &[usize], memory: &'a [u8], n: usize, l: usize) -> &'a [u8]
-    ensures { λ r. ⌜ now r ≡ messageRoom (now (state .entry)) (now (memory .entry)) n l ⌝ }
+    ensures { λ r. ⌜ IsPart (memory .entry) (messageRoom (now (state .entry)) (length (now (memory .entry))) n l) r ⌝ }
 {
     if no_state(state) {
-        return &memory[..0];
+        return &memory[0..0];
     }
     room_part(memory, 8, messages::ROOM, n, l)
 }

@@ -1,4 +1,3 @@
 pub mod Sizes
 pub mod Packet
 pub mod Nested
-pub mod Deterministic

@@ -1,3 +1,4 @@
+use Rattle.endpoint.proofs.Calls.{ranged}
 use Rattle.endpoint.specs.Calls.{messageRoom}
 use mathlib.Core.Path.{_≡_, refl, ap, sym, _∙_}
 use native.Mathlib.Omega.{arith}
@@ -13,14 +14,22 @@ use Rattle.endpoint.proofs.room_part.Reads as room-part-reads
 no-state-requires : tie.Need-no-state-requires
 no-state-requires c κs = search needs
 
--- src/lib.rt:204:9
-slice-aggregate-result : tie.Need-slice-aggregate-result
-slice-aggregate-result c = search needs
+-- src/lib.rt:204:16
+sub-result : tie.Need-sub-result
+sub-result c = search needs
+
+-- src/lib.rt:204:16
+part-result-start : tie.Need-part-result-start
+part-result-start c = search needs
+
+-- src/lib.rt:204:16
+part-result-end : tie.Need-part-result-end
+part-result-end c = search needs
 
 -- src/lib.rt:204:9
 returns : tie.Need-returns
 unfolding messageRoom
-returns c = rw (sym (c .before .before .no-state .ensures) ∙ c .before .if1 .taken)
+returns c = ranged _ _ 0 0 _ (rw (sym (c .before .before .no-state .ensures) ∙ c .before .if1 .taken)) refl (search needs) refl
 
 -- src/lib.rt:206:5
 room-part-requires : tie.Need-room-part-requires
@@ -34,4 +43,11 @@ returns-2 c = rw (sym (c .before .before .no-state .ensures) ∙ c .before .if1 
 pub message-room-spec : {M : Type 1} → statement M
 message-room-spec =
     tie.close
-    (tie.spec no-state-requires slice-aggregate-result returns room-part-requires returns-2)
+    (tie.spec
+    no-state-requires
+    sub-result
+    part-result-start
+    part-result-end
+    returns
+    room-part-requires
+    returns-2)

@@ -1,4 +1,4 @@
-use Rattle.endpoint.proofs.Calls.{state-there}
+use Rattle.endpoint.proofs.Calls.{state-there, ranged}
 use Rattle.endpoint.specs.Calls.{streamRoom}
 use Rattle.contexts.proofs.Good.{good}
 use Rattle.contexts.specs.Words.{stateOf}
@@ -17,14 +17,22 @@ use Rattle.endpoint.proofs.room_part.Reads as room-part-reads
 no-state-requires : tie.Need-no-state-requires
 no-state-requires c κs = search needs
 
--- src/lib.rt:194:9
-slice-aggregate-result : tie.Need-slice-aggregate-result
-slice-aggregate-result c = search needs
+-- src/lib.rt:194:16
+sub-result : tie.Need-sub-result
+sub-result c = search needs
+
+-- src/lib.rt:194:16
+part-result-start : tie.Need-part-result-start
+part-result-start c = search needs
+
+-- src/lib.rt:194:16
+part-result-end : tie.Need-part-result-end
+part-result-end c = search needs
 
 -- src/lib.rt:194:9
 returns : tie.Need-returns
 unfolding streamRoom
-returns c = rw (sym (c .before .before .no-state .ensures) ∙ c .before .if1 .taken)
+returns c = ranged _ _ 0 0 _ (rw (sym (c .before .before .no-state .ensures) ∙ c .before .if1 .taken)) refl (search needs) refl
 
 -- src/lib.rt:196:27
 room-requires : tie.Need-room-requires
@@ -46,7 +54,9 @@ stream-room-spec =
     tie.close
     (tie.spec
     no-state-requires
-    slice-aggregate-result
+    sub-result
+    part-result-start
+    part-result-end
     returns
     room-requires
     room-part-requires

@@ -1,0 +1,49 @@
+-- Any two outcomes that a promise allows are one: each promise is an equation, and an answer is determined by what it says.
+use mathlib.Core.Path.{_≡_, ap, ap₂, sym, _∙_}
+use mathlib.Core.List.{List}
+use mathlib.Core.Bool.{Bool}
+use Prim.Native.Nat.{ℕ}
+use Rattle.answers.specs.declared.Answer.{Answer}
+use Rattle.answers.specs.declared.Reading.{Reading}
+use Rattle.answers.proofs.Once.{said-once, setup-once, abandon-once, writer-once}
+use Rattle.segments.specs.Writer.{Wrote}
+use Rattle.endpoint.specs.Read.{Left}
+use Rattle.endpoint.specs.Calls.{Stands}
+use Rattle.promises.specs.Statements.{ReadOnce, SetupOnce, AbandonOnce, WriteOnce, RoomOnce, NumberOnce}
+
+abbrev made : Answer → Bool → Reading
+made answer dropped = record { answer = answer; dropped = dropped }
+
+same-reading : (r r′ : Reading) → r .answer ≡ r′ .answer → r .dropped ≡ r′ .dropped → r ≡ r′
+same-reading r r′ a d = ap₂ made a d
+
+pub read-once : ReadOnce
+read-once x r r′ words words′ streams streams′ messages messages′ response response′ p q =
+    let e = p ∙ sym q in (
+      same-reading r r′ (said-once (r .answer) (r′ .answer) (ap (λ (l : Left). l .says) e)) (ap (λ (l : Left). l .dropped) e),
+      ap (λ (l : Left). l .words) e,
+      ap (λ (l : Left). l .streams) e,
+      ap (λ (l : Left). l .messages) e,
+      ap (λ (l : Left). l .response) e,
+    )
+
+pub once-set-up : SetupOnce
+once-set-up words device mtu room r r′ after after′ p q =
+    let e = p ∙ sym q in
+    (setup-once r r′ (ap (λ (l : Stands). l .says) e), ap (λ (l : Stands). l .words) e)
+
+pub once-abandoned : AbandonOnce
+once-abandoned promised r r′ after after′ p q =
+    let e = p ∙ sym q in
+    (abandon-once r r′ (ap (λ (l : Stands). l .says) e), ap (λ (l : Stands). l .words) e)
+
+pub once-written : WriteOnce
+once-written out h mtu pdu k r r′ after after′ p q =
+    let e = p ∙ sym q in
+    (writer-once r r′ (ap (λ (l : Wrote). l .says) e), ap (λ (l : Wrote). l .out) e)
+
+pub once-a-room : RoomOnce
+once-a-room memory p r r′ a b = (a .block ∙ sym (b .block), a .offset ∙ sym (b .offset), a .bytes ∙ sym (b .bytes))
+
+pub once-a-number : NumberOnce
+once-a-number promised r r′ p q = p ∙ sym q
