@@ -98,9 +98,9 @@ unfolding readStep
 by-steps x =
     flat x
     ∙ by-test (isState x)
-        (λ l. by-test (namedBy19 (stateIn x)) (λ h. rw (l, h))
-        (λ h. by-test (wrongMemory x) (λ m. rw (l, h, m)) (λ m. rw (l, h, m) (packet-rows x (eqb-true (length (x .words)) stateWords l) h))))
-        (λ l. rw l)
+    (λ l. by-test (namedBy19 (stateIn x)) (λ h. rw (l, h))
+    (λ h. by-test (wrongMemory x) (λ m. rw (l, h, m)) (λ m. rw (l, h, m) (packet-rows x (eqb-true (length (x .words)) stateWords l) h))))
+    (λ l. rw l)
 
 -- what remains once rows 19 and 12 have passed
 pub by-packet : (x : Lent) → length (x .words) ≡ stateWords → namedBy19 (stateIn x) ≡ false → wrongMemory x ≡ false → reading x ≡ byParsed x (parsed (stateIn x .device) (x .packet))

@@ -29,34 +29,27 @@ no-refusal says = (number : ℕ) → says ≡ refused number → ⊥
 held-no : no-refusal held
 held-no number e = let z : _≡_ {A = ℕ} 0 1 = cc in omega arith
 
-one-of : (b : Bool) (s t : Said) → no-refusal s → no-refusal t → no-refusal (cond b s t)
-one-of true s t a b = a
-one-of false s t a b = b
+-- of two chosen from, each is no refusal
+chosen : {A : Type 0} (P : A → Type 0) (b : Bool) (x y : A) → P x → P y → P (cond b x y)
+chosen P true x y a b = a
+chosen P false x y a b = b
 
 stream-no : (x : Lent) → no-refusal (stream.accepted (stateIn x) (x .streams) (x .packet) (segmentIn x) .says)
 unfolding stream.accepted stream.placed
-stream-no x = one-of (segmentIn x .end) _ held (λ number e. let z : _≡_ {A = ℕ} 0 1 = cc in omega arith) held-no
+stream-no x = chosen no-refusal (segmentIn x .end) _ held (λ number e. let z : _≡_ {A = ℕ} 0 1 = cc in omega arith) held-no
 
 placed-no : (x : Lent) (n marks last : ℕ) → no-refusal (message.placed (stateIn x) (x .messages) (x .response) (x .packet) (messageIn x) n marks last .says)
 unfolding message.placed
-placed-no x n marks last = one-of (message.complete (messageIn x) (message.marksWith (messageIn x) marks)) _ held (λ number e. let z : _≡_ {A = ℕ} 0 1 = cc in omega arith) held-no
-
-either : (b : Bool) (j k : message.Joined) → no-refusal (j .says) → no-refusal (k .says) → no-refusal (cond b j k .says)
-either true j k a b = a
-either false j k a b = b
-
-either-left : (b : Bool) (j k : Left) → no-refusal (j .says) → no-refusal (k .says) → no-refusal (cond b j k .says)
-either-left true j k a b = a
-either-left false j k a b = b
+placed-no x n marks last = chosen no-refusal (message.complete (messageIn x) (message.marksWith (messageIn x) marks)) _ held (λ number e. let z : _≡_ {A = ℕ} 0 1 = cc in omega arith) held-no
 
 message-no : (x : Lent) → no-refusal (message.accepted (stateIn x) (x .messages) (x .response) (x .packet) (messageIn x) .says)
 unfolding message.accepted message.alone
 message-no x =
-    either (isSingle (messageIn x)) _ _ (λ number e. let z : _≡_ {A = ℕ} 0 1 = cc in omega arith)
-    (either (messageOpen (stateIn x) (messageIn x)) _ _ (placed-no x _ _ _) (placed-no x _ 0 0))
+    chosen (λ (j : message.Joined). no-refusal (j .says)) (isSingle (messageIn x)) _ _ (λ number e. let z : _≡_ {A = ℕ} 0 1 = cc in omega arith)
+    (chosen (λ (j : message.Joined). no-refusal (j .says)) (messageOpen (stateIn x) (messageIn x)) _ _ (placed-no x _ _ _) (placed-no x _ 0 0))
 
 accepted-no : (x : Lent) → no-refusal (accepting x .says)
-accepted-no x = either-left (is9 x) _ _ (stream-no x) (message-no x)
+accepted-no x = chosen (λ (l : Left). no-refusal (l .says)) (is9 x) _ _ (stream-no x) (message-no x)
 
 pub refused-exactly : RefusedExactly
 unfolding reading

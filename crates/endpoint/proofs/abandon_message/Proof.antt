@@ -71,7 +71,7 @@ same-length-4 c = search needs
 -- src/lib.rt:140:1
 returns-5 : tie.Need-returns-5
 unfolding abandonMessage isFreeMessage
-returns-5 c = 
+returns-5 c =
     let s = c .before .before .before .before .before .before .before .before .before .before .before .before .before .before .before in
     let p = c .before .before .put-message in
     abandon-closed (c .before .before .before .before .before .before .before .before .before .before .before .before .before .before .before .args .state .now) 8 (c .before .before .before .before .before .before .before .before .before .before .before .before .before .before .before .args .n) (isFreeMessage (messageIn (stateOf (c .before .before .before .before .before .before .before .before .before .before .before .before .before .before .before .args .state .now)) (c .before .before .before .before .before .before .before .before .before .before .before .before .before .before .before .args .n))) (withMessage (stateOf (c .before .before .before .before .before .before .before .before .before .before .before .before .before .before .before .args .state .now)) (c .before .before .before .before .before .before .before .before .before .before .before .before .before .before .before .args .n) closedMessage) (c .before .before .before .before .before .before .before .before .before .before .before .before .before .if1 .left) (sym (c .before .before .before .before .before .before .before .before .before .before .before .named-by-19 .ensures) ∙ c .before .before .before .before .before .before .before .before .before .before .if2 .left) (p .last .0) (p .kept .0 ∙ c .before .before .before .before .before .before .before .before .before .before .before .before .before .if1 .left)

@@ -20,7 +20,7 @@ refused-requires c κs = search needs
 
 -- src/lib.rt:107:9
 returns : tie.Need-returns
-returns c = 
+returns c =
     let s = c .before .before .before .before .before .before .before in
     let x = lent (s .args .state .now) (s .args .streams .now) (s .args .messages .now) (s .args .response .now) (s .args .packet .now) in
     refusing x 12 _ (c .refused .ensures) (no-words x (c .before .if1 .taken))
@@ -39,7 +39,7 @@ same-length c = search needs
 
 -- src/lib.rt:110:9
 returns-2 : tie.Need-returns-2
-returns-2 c = 
+returns-2 c =
     let s = c .before .before .before .before .before .before .before .before .before .before in
     let x = lent (s .args .state .now) (s .args .streams .now) (s .args .messages .now) (s .args .response .now) (s .args .packet .now) in
     refusing x 19 _ (c .refused2 .ensures) (named x (c .before .before .before .before .if1 .left) (sym (c .before .before .named-by-19 .ensures) ∙ c .before .if2 .taken))
@@ -70,14 +70,14 @@ same-length-5 c = search needs
 
 -- src/lib.rt:113:9
 returns-3 : tie.Need-returns-3
-returns-3 c = 
+returns-3 c =
     let s = c .before .before .before .before .before .before .before .before .before .before .before .before .before .before .before .before in
     let x = lent (s .args .state .now) (s .args .streams .now) (s .args .messages .now) (s .args .response .now) (s .args .packet .now) in
     refusing x 12 _ (c .refused3 .ensures) (missized x (c .before .before .before .before .before .before .before .before .before .before .if1 .left) (sym (c .before .before .before .before .before .before .before .before .named-by-19 .ensures) ∙ c .before .before .before .before .before .before .before .if2 .left) (sym (c .before .before .wrong-memory .ensures) ∙ c .before .if3 .taken))
 
 -- src/lib.rt:115:5
 read-ready-requires : tie.Need-read-ready-requires
-read-ready-requires c κs = 
+read-ready-requires c κs =
     let s = c .before .before .before .before .before .before .before .before .before .before .before .before .before .before .before .before .before .before .before in
     let x = lent (s .args .state .now) (s .args .streams .now) (s .args .messages .now) (s .args .response .now) (s .args .packet .now) in
     let fit = sizes-fit (stateOf (s .args .state .now)) (s .args .streams .now) (s .args .messages .now) (s .args .response .now) (sym (c .before .before .before .before .before .wrong-memory .ensures) ∙ c .before .before .before .before .if3 .left) in

@@ -42,7 +42,7 @@ enum-known-g c = search needs
 
 -- src/lib.rt:85:30
 step-requires : tie.Need-step-requires
-step-requires c κs = 
+step-requires c κs =
     let s = c .before .before .before .before .before .before .before .before .before .before .before .before .before in
     let l = stream-parsed (s .args .packet .now) _ _ (sym (c .before .before .before .before .before .parse .ensures) ∙ c .before .before .before .g .given .1) in
     record { whole = s .pre .whole; good = s .pre .good; size = s .pre .rooms; inside = l .1 }
@@ -53,7 +53,7 @@ enum-known-m c = search needs
 
 -- src/lib.rt:87:17
 step-requires-2 : tie.Need-step-requires-2
-step-requires-2 c κs = 
+step-requires-2 c κs =
     let s = c .before .before .before .before .before .before .before .before .before .before .before .before .before .before in
     let p = s .args .packet .now in
     let l = message-parsed p _ _ (sym (c .before .before .before .before .before .before .parse .ensures) ∙ c .before .before .before .before .m .given .1) in
@@ -69,7 +69,7 @@ same-length c = search needs
 
 -- src/lib.rt:72:1
 returns : tie.Need-returns
-returns c = 
+returns c =
     let s = c .before .before .before .before .before .before .before .before .before .before .before .before in
     let x = lent (s .args .state .now) (s .args .streams .now) (s .args .messages .now) (s .args .response .now) (s .args .packet .now) in
     let e = (ap (λ (d : ℕ). parsed d (s .args .packet .now)) (sym (c .before .before .before .before .before .device .ensures)) ∙ (sym (c .before .before .before .before .parse .ensures) ∙ c .before .before .number .given .1)) in
@@ -85,7 +85,7 @@ same-length-3 c = search needs
 
 -- src/lib.rt:72:1
 returns-2 : tie.Need-returns-2
-returns-2 c = 
+returns-2 c =
     let s = c .before .before .before .before .before .before .before .before .before .before .before .before .before .before .before .before .before .before in
     let x = lent (s .args .state .now) (s .args .streams .now) (s .args .messages .now) (s .args .response .now) (s .args .packet .now) in
     let e = (ap (λ (d : ℕ). parsed d (s .args .packet .now)) (sym (c .before .before .before .before .before .before .before .before .before .before .before .device .ensures)) ∙ (sym (c .before .before .before .before .before .before .before .before .before .before .parse .ensures) ∙ c .before .before .before .before .before .before .before .before .g .given .1)) in
@@ -106,7 +106,7 @@ same-length-6 c = search needs
 
 -- src/lib.rt:72:1
 returns-3 : tie.Need-returns-3
-returns-3 c = 
+returns-3 c =
     let s = c .before .before .before .before .before .before .before .before .before .before .before .before .before .before .before .before .before .before .before .before .before in
     let x = lent (s .args .state .now) (s .args .streams .now) (s .args .messages .now) (s .args .response .now) (s .args .packet .now) in
     let e = (ap (λ (d : ℕ). parsed d (s .args .packet .now)) (sym (c .before .before .before .before .before .before .before .before .before .before .before .before .before .before .device .ensures)) ∙ (sym (c .before .before .before .before .before .before .before .before .before .before .before .before .before .parse .ensures) ∙ c .before .before .before .before .before .before .before .before .before .before .before .m .given .1)) in

@@ -64,13 +64,13 @@ returns-3 c = ranged _ _ 0 0 _ (over-long (c .before .before .before .before .ar
 
 -- src/lib.rt:184:14
 mul-at : tie.Need-mul-at
-mul-at c = 
+mul-at c =
     let s = c .before .before .before in
     omega (arith, room-inside (s .args .rooms) (s .args .room) (s .args .n) (s .args .l) (c .before .if2 .left) (c .if3 .left), room-bound (s .args .rooms) (s .args .room) (s .pre .0) (s .pre .1))
 
 -- src/lib.rt:185:15
 add-end : tie.Need-add-end
-add-end c = 
+add-end c =
     let s = c .before .before .before in
     omega (arith, room-inside (s .args .rooms) (s .args .room) (s .args .n) (s .args .l) (c .before .if2 .left) (c .if3 .left), room-bound (s .args .rooms) (s .args .room) (s .pre .0) (s .pre .1))
 
@@ -84,13 +84,13 @@ part-result-start-4 c = search needs
 
 -- src/lib.rt:186:5
 part-result-end-4 : tie.Need-part-result-end-4
-part-result-end-4 c = 
+part-result-end-4 c =
     let s = c .before .before .before in
     omega (arith, room-inside (s .args .rooms) (s .args .room) (s .args .n) (s .args .l) (c .before .if2 .left) (c .if3 .left), c .before .before .if1 .left)
 
 -- src/lib.rt:171:1
 returns-4 : tie.Need-returns-4
-returns-4 c = 
+returns-4 c =
     let s = c .before .before .before .before in
     let size : s .args .n * s .args .room + s .args .l - s .args .n * s .args .room ≡ s .args .l = omega arith in
     ranged _ _ (s .args .n * s .args .room) (s .args .n * s .args .room + s .args .l) _ (ap (part (s .args .n * s .args .room)) size ∙ a-room (c .before .before .before .before .args .rooms) (c .before .before .before .before .args .room) (length (c .before .before .before .before .args .memory .now)) (c .before .before .before .before .args .n) (c .before .before .before .before .args .l) (c .before .before .before .if1 .left) (c .before .before .if2 .left) (c .before .if3 .left)) refl (search needs) refl

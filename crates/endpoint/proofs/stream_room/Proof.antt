@@ -40,7 +40,7 @@ room-requires c κs = state-there (c .before .before .before .before .args .stat
 
 -- src/lib.rt:196:5
 room-part-requires : tie.Need-room-part-requires
-room-part-requires c κs = 
+room-part-requires c κs =
     let t = state-there (c .before .before .before .before .before .args .state .now) (sym (c .before .before .no-state .ensures) ∙ c .before .if1 .left) in
     (omega arith, rw (c .room .ensures) (good (stateOf (c .before .before .before .before .before .args .state .now)) (t .1) .room))
 

@@ -16,7 +16,7 @@ room-requires c κs = search needs
 
 -- src/lib.rt:62:25
 mul-if1 : tie.Need-mul-if1
-mul-if1 c = 
+mul-if1 c =
     let s = c .before .before .before .before .before in
     let g = good (stateOf (s .args .state .now)) (s .pre .1) in
     omega (arith, g .room, c .room .ensures)
