@@ -4,3 +4,4 @@ pub mod MessageRows
 pub mod Rows
 pub mod Packets
 pub mod Calls
+pub mod Kept

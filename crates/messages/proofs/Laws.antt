@@ -69,7 +69,7 @@ raw-le m = go (isLast m)
     go true e = eights-le (m .raw) (bytesOf (m .ssize)) (not-false _ e)
     go false e = omega (arith, eqb-true (m .raw) (bytesOf (m .ssize)) (not-false _ e))
 
-seg-le : (m : MessageSegment) → pastLast m ≡ false → isSingle m ≡ false → m .msgseg ≤ m .msglen
+pub seg-le : (m : MessageSegment) → pastLast m ≡ false → isSingle m ≡ false → m .msgseg ≤ m .msglen
 unfolding pastLast
 seg-le m e s = ltb-false (m .msglen) (m .msgseg) (ap (λ (b : Bool). not b && ltb (m .msglen) (m .msgseg)) (sym s) ∙ e)
 

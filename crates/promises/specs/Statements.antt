@@ -1,9 +1,9 @@
 -- What holds of the public calls, as statements. Each is proved in proofs/; nothing here is part of a proof.
-use Prim.Native.Nat.{ℕ}
+use Prim.Native.Nat.{ℕ, _<_}
 use mathlib.Core.Path.{_≡_}
 use mathlib.Core.Logic.{_↔_}
 use mathlib.Core.List.{List}
-use mathlib.Core.Bool.{Bool}
+use lib.ListN.{length}
 use denote.Ref.{RefT, now}
 use Rattle.answers.specs.declared.Reading.{Reading}
 use Rattle.answers.specs.declared.Begun.{Begun}
@@ -11,10 +11,13 @@ use Rattle.answers.specs.declared.Abandoned.{Abandoned}
 use Rattle.answers.specs.declared.Written.{Written}
 use Rattle.answers.specs.Answers.{saidOfWriter, refused}
 use Rattle.answers.specs.Refusals.{Row, Decides, none}
+use Rattle.lists.specs.Bytes.{byte}
+use Rattle.contexts.specs.Words.{stateWords}
+use Rattle.contexts.specs.Refusal19.{namedBy19}
 use Rattle.segments.specs.declared.Heading.{Heading}
 use Rattle.segments.specs.Writer.{wroteOf, writing}
-use Rattle.endpoint.specs.Table.{Lent, table}
-use Rattle.endpoint.specs.Read.{ReadPromise, reading, accepting}
+use Rattle.endpoint.specs.Table.{Lent, stateIn, table}
+use Rattle.endpoint.specs.Read.{ReadPromise, reading, accepting, Settled}
 use Rattle.endpoint.specs.Calls.{Stands, SetupPromise, AbandonPromise, Part, IsPart}
 
 -- ---- the refusal table: a number is answered exactly if a row of that number has a test that holds and no earlier row has
@@ -25,6 +28,16 @@ RefusedExactly = (x : Lent) (number : ℕ) → (reading x .says ≡ refused numb
 -- and a packet is accepted exactly if no row's test holds
 abbrev pub AcceptedExactly : Type 0
 AcceptedExactly = (x : Lent) → none (table x) → reading x ≡ accepting x
+
+-- ---- a state that 19 does not name is left so by every packet, with the same device, MTU and R: a run over many packets tests it once
+
+abbrev pub StaysGood : Type 0
+StaysGood =
+    (x : Lent)
+    → length (x .words) ≡ stateWords
+    → namedBy19 (stateIn x) ≡ false
+    → ((i : ℕ) → byte (x .packet) i < 256)
+    → Settled (stateIn x) (reading x .words)
 
 -- ---- demand 1, determinism: any two outcomes that a call's promise allows are one, in the answer, the state and every lent byte
 

@@ -1,0 +1,120 @@
+-- Reading leaves a state that 19 does not name, where it found one, with the same device, MTU and R: so a run over many packets tests the state once.
+use Prim.Native.Nat.{ℕ, _<_, _/_}
+use mathlib.Core.Path.{_≡_, refl, ap, sym, _∙_}
+use mathlib.Core.List.{List}
+use mathlib.Core.Bool.{Bool, true, false, cond, not, _||_, _&&_, true≢false, false≢true}
+use native.Mathlib.Omega.{arith}
+use lib.ListN.{length, getD, length-set}
+use Rattle.answers.specs.Refusals.{Leaves, all, flowClosed, allERROR, allRETRY, Verdict, refuse, accept, verdict, none}
+use Rattle.answers.proofs.Exactly.{none-held}
+use Rattle.wire.specs.Type11.{messageOf, isSingle}
+use Rattle.contexts.specs.State.{State, freeMessage}
+use Rattle.contexts.specs.Words.{stateOf, wordsOf, stateWords}
+use Rattle.contexts.specs.Refusal19.{namedBy19}
+use Rattle.contexts.proofs.Words.{sixteen, eight, state-of, length-words}
+use Rattle.streams.specs.Joining as stream
+use Rattle.messages.specs.Joining as message
+use Rattle.messages.specs.Rows.{messageOpen, foundFor}
+use Rattle.streams.proofs.Kept as streams
+use Rattle.messages.proofs.Kept as messages
+use Rattle.endpoint.specs.Table.{Lent, stateIn, segmentIn, messageIn, is9, is11, table}
+use Rattle.endpoint.specs.Read.{reading, outcome, leaving, Settled}
+use Rattle.endpoint.proofs.Cases.{by-test}
+
+-- the words of a state with as many contexts
+record Same (s t : State) : Type 0 where
+  device : t .device ≡ s .device
+  mtu : t .mtu ≡ s .mtu
+  room : t .room ≡ s .room
+  streams : length (t .streams) ≡ length (s .streams)
+  messages : length (t .messages) ≡ length (s .messages)
+
+settled : (w : List ℕ) (t : State) → Same (stateOf w) t → namedBy19 t ≡ false → Settled (stateOf w) (wordsOf t)
+settled w t e g =
+    let back : stateOf (wordsOf t) ≡ t = state-of t (e .streams ∙ sixteen w) (e .messages ∙ eight w) in
+    record {
+      whole = length-words t (e .streams ∙ sixteen w) (e .messages ∙ eight w);
+      good = ap namedBy19 back ∙ g;
+      device = ap (λ (s : State). s .device) back ∙ e .device;
+      mtu = ap (λ (s : State). s .mtu) back ∙ e .mtu;
+      room = ap (λ (s : State). s .room) back ∙ e .room;
+    }
+
+unchanged : (w : List ℕ) → length w ≡ stateWords → namedBy19 (stateOf w) ≡ false → Settled (stateOf w) w
+unchanged w l g = record { whole = l; good = g; device = refl; mtu = refl; room = refl }
+
+module _ (x : Lent) where
+  closing-same : (number : ℕ) → Same (stateIn x) (stream.refusedClosing (stateIn x) (x .streams) (segmentIn x) number .state)
+  unfolding stream.refusedClosing
+  closing-same number = record { device = refl; mtu = refl; room = refl; streams = simp length-set; messages = refl }
+
+  stream-same : Same (stateIn x) (stream.accepted (stateIn x) (x .streams) (x .packet) (segmentIn x) .state)
+  unfolding stream.accepted stream.placed
+  stream-same = record { device = refl; mtu = refl; room = refl; streams = simp length-set; messages = refl }
+
+  placed-same : (n marks last : ℕ) → Same (stateIn x) (message.placed (stateIn x) (x .messages) (x .response) (x .packet) (messageIn x) n marks last .state)
+  unfolding message.placed
+  placed-same n marks last = record { device = refl; mtu = refl; room = refl; streams = refl; messages = simp length-set }
+
+  alone-same : (n : ℕ) → Same (stateIn x) (message.alone (stateIn x) (x .messages) (x .response) (x .packet) (messageIn x) n .state)
+  unfolding message.alone
+  alone-same n = record { device = refl; mtu = refl; room = refl; streams = refl; messages = simp length-set }
+
+  message-same : Same (stateIn x) (message.accepted (stateIn x) (x .messages) (x .response) (x .packet) (messageIn x) .state)
+  unfolding message.accepted
+  message-same =
+      by-test (isSingle (messageIn x)) (λ t. rw t (alone-same (freeMessage (stateIn x))))
+      (λ t. by-test (messageOpen (stateIn x) (messageIn x))
+      (λ o. rw (t, o) (placed-same (foundFor (stateIn x) (messageIn x)) _ _))
+      (λ o. rw (t, o) (placed-same (freeMessage (stateIn x)) 0 0)))
+
+  -- every row of an accepted packet has failed
+  abbrev Passed : Type 0
+  Passed = none (table x)
+
+  -- under a type that the packet has, a row's own test failed
+  of-type : (type b : Bool) → type ≡ true → (type && b) ≡ false → b ≡ false
+  of-type true b t e = e
+  of-type false b t e = absurd (false≢true t)
+
+  module _ (whole : length (x .words) ≡ stateWords) (fine : namedBy19 (stateIn x) ≡ false) (small : getD (x .packet) 5 0 < 256) where
+    stream-settled : Passed → is9 x ≡ true → Settled (stateIn x) (wordsOf (stream.accepted (stateIn x) (x .streams) (x .packet) (segmentIn x) .state))
+    unfolding none table
+    stream-settled n t =
+        settled (x .words) _ stream-same
+        (streams.accepted-kept (stateIn x) (x .streams) (x .packet) (segmentIn x) fine (of-type (is9 x) _ t (n .1 .1 .1 .1 .1 .1 .1 .1 .1 .0)) (of-type (is9 x) _ t (n .1 .1 .1 .1 .1 .1 .1 .1 .1 .1 .1 .1 .0)))
+
+    few : messageIn x .msglen < 16
+    unfolding messageOf
+    few = omega (arith, small)
+
+    -- an accepted packet that is not of type 9 is of type 11
+    other-type : (a b : Bool) → not (a || b) ≡ false → a ≡ false → b ≡ true
+    other-type true b e f = absurd (true≢false f)
+    other-type false true e f = refl
+    other-type false false e f = absurd (true≢false e)
+
+    message-settled : Passed → is9 x ≡ false → Settled (stateIn x) (wordsOf (message.accepted (stateIn x) (x .messages) (x .response) (x .packet) (messageIn x) .state))
+    unfolding none table
+    message-settled n f =
+        let t : is11 x ≡ true = other-type (is9 x) (is11 x) (n .1 .1 .1 .1 .1 .0) f in
+        settled (x .words) _ message-same
+        (messages.accepted-kept (stateIn x) (x .messages) (x .response) (x .packet) (messageIn x) fine (eight (x .words)) few (of-type (is11 x) _ t (n .1 .1 .1 .1 .1 .1 .1 .1 .1 .1 .1 .1 .1 .1 .1 .0))
+        (of-type (is11 x) _ t (n .1 .1 .1 .1 .1 .1 .1 .1 .1 .1 .1 .1 .1 .1 .1 .1 .0)) (of-type (is11 x) _ t (n .1 .1 .1 .1 .1 .1 .1 .1 .1 .1 .1 .1 .1 .1 .1 .1 .1 .0)) (of-type (is11 x) _ t (n .1 .1 .1 .1 .1 .1 .1 .1 .1 .1 .1 .1 .1 .1 .1 .1 .1 .1 .0)) (of-type (is11 x) _ t (n .1 .1 .1 .1 .1 .1 .1 .1 .1 .1 .1 .1 .1 .1 .1 .1 .1 .1 .1 .0)))
+
+    pub stays-good : Settled (stateIn x) (reading x .words)
+    unfolding reading
+    stays-good = by-verdict (verdict (table x)) refl
+      where
+        by-leaves : (number : ℕ) (leaves : Leaves) → Settled (stateIn x) (leaving x number leaves .words)
+        by-leaves number all = unchanged (x .words) whole fine
+        by-leaves number flowClosed = settled (x .words) _ (closing-same number) (streams.closing-kept (stateIn x) (x .streams) (x .packet) (segmentIn x) fine number)
+        by-leaves number allERROR = unchanged (x .words) whole fine
+        by-leaves number allRETRY = unchanged (x .words) whole fine
+
+        by-verdict : (v : Verdict) → verdict (table x) ≡ v → Settled (stateIn x) (outcome x v .words)
+        by-verdict (refuse number leaves) e = by-leaves number leaves
+        by-verdict accept e =
+            by-test (is9 x)
+            (λ t. rw t (stream-settled (none-held (table x) e) t))
+            (λ t. rw t (message-settled (none-held (table x) e) t))

@@ -1,0 +1,46 @@
+-- A type 9 packet leaves a state that 19 does not name, where it found one.
+use Prim.Native.Nat.{ℕ, _≤_, _<_, _+_, _-_, _%_}
+use mathlib.Core.Path.{_≡_, refl, ap, sym, _∙_}
+use mathlib.Core.List.{List}
+use mathlib.Core.Bool.{Bool, true, false, cond, _||_}
+use native.Mathlib.Omega.{arith}
+use lib.Dec.{eqb}
+use lib.ListN.{length, length-set}
+use borrow.Author.Tests.{eqb-false, ltb-false}
+use Rattle.wire.specs.declared.Segment.{Segment}
+use Rattle.wire.specs.Type9.{dataLength}
+use Rattle.contexts.specs.declared.StreamContext.{StreamContext}
+use Rattle.contexts.specs.State.{State, withStream, closedStream}
+use Rattle.contexts.specs.Refusal19.{badStream, namedBy19}
+use Rattle.contexts.proofs.Good.{neither}
+use Rattle.contexts.proofs.Kept.{closed-stream, held-stream, stream-kept}
+use Rattle.streams.specs.Rows.{malformed, wrongO, passesRoom, heldBefore, total}
+use Rattle.streams.specs.Joining.{accepted, placed, refusedClosing, contextFor, streamID}
+
+-- row 6 passed: there is at least one byte besides a pad
+pub data-there : (g : Segment) → malformed g ≡ false → 0 < dataLength g
+unfolding malformed dataLength
+data-there g e =
+    let a = neither (eqb (g .raw) 0 || eqb (g .raw % 2) 1) (wrongO g) e in
+    let b = neither (eqb (g .raw) 0) (eqb (g .raw % 2) 1) (a .0) in
+    go (g .pad) (eqb-false (g .raw) 0 (b .0)) (eqb-false (g .raw % 2) 1 (b .1))
+  where
+    go : (b : Bool) → (g .raw ≡ 0 → ⊥) → (g .raw % 2 ≡ 1 → ⊥) → 0 < cond b (g .raw - 1) (g .raw)
+    go true z o = omega arith
+    go false z o = omega arith
+
+module _ (s : State) (memory p : List ℕ) (g : Segment) (fine : namedBy19 s ≡ false) where
+  pub accepted-kept : malformed g ≡ false → passesRoom s g ≡ false → namedBy19 (accepted s memory p g .state) ≡ false
+  unfolding accepted placed passesRoom
+  accepted-kept a b =
+      stream-kept s (contextFor s g) _ fine
+      (go (g .end) (record { live = 1; flow = g .flow; stream = streamID s g; held = total s g })
+      (held-stream (s .room) (record { live = 1; flow = g .flow; stream = streamID s g; held = total s g }) (omega (arith, data-there g a)) (ltb-false (s .room) (total s g) b)))
+    where
+      go : (b : Bool) (c : StreamContext) → badStream (s .room) c ≡ false → badStream (s .room) (cond b closedStream c) ≡ false
+      go true c h = closed-stream (s .room)
+      go false c h = h
+
+  pub closing-kept : (number : ℕ) → namedBy19 (refusedClosing s memory g number .state) ≡ false
+  unfolding refusedClosing
+  closing-kept number = stream-kept s _ closedStream fine (closed-stream (s .room))
