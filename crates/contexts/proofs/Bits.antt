@@ -31,7 +31,7 @@ module _ (marks k : ℕ) where
         let e : k ≡ suc d + j = omega arith in
         let whole : 2 ^ k ≡ 2 * 2 ^ d * 2 ^ j = ap (λ (i : ℕ). 2 ^ i) e ∙ (pow-add 2 (suc d) j ∙ ap (λ (i : ℕ). i * 2 ^ j) (pow-succ' 2 d)) in
         let quotient : (marks + 2 ^ k) / 2 ^ j ≡ marks / 2 ^ j + 2 * 2 ^ d =
-            ap (λ (i : ℕ). (marks + i) / 2 ^ j) whole ∙ add-mul-div-right marks (2 * 2 ^ d) (pow-pos j) in
+        ap (λ (i : ℕ). (marks + i) / 2 ^ j) whole ∙ add-mul-div-right marks (2 * 2 ^ d) (pow-pos j) in
         rw quotient (omega arith)
 
     -- above k nothing is carried
