@@ -49,7 +49,7 @@ stream-put w i c h z =
     let values : List ℕ = wordsOfStream c in
     let fits : 3 + 5 * i + 5 ≤ length w = omega arith in
     let table : rows 5 16 (drop 3 (written w (3 + 5 * i) values)) ≡ set (rows 5 16 (drop 3 w)) i values =
-        ap (rows 5 16) (drop-written 3 w values (5 * i) fits) ∙ row-written 5 16 i (drop 3 w) values refl h (simp length-drop (omega arith)) in
+    ap (rows 5 16) (drop-written 3 w values (5 * i) fits) ∙ row-written 5 16 i (drop 3 w) values refl h (simp length-drop (omega arith)) in
     ap (λ (l : List ℕ). stateOf l) (stream-written w (3 + 5 * i) c fits)
     ∙ simp (
       getD-before w values (3 + 5 * i) fits 0 (omega arith),
@@ -96,10 +96,10 @@ message-put w i c h z =
     let place : 83 + 8 * i ≡ 3 + (80 + 8 * i) = omega arith in
     let fits3 : 3 + (80 + 8 * i) + 8 ≤ length w = omega arith in
     let streams : rows 5 16 (drop 3 (written w (83 + 8 * i) values)) ≡ rows 5 16 (drop 3 w) =
-        ap (λ (at : ℕ). rows 5 16 (drop 3 (written w at values))) place
-        ∙ (ap (rows 5 16) (drop-written 3 w values (80 + 8 * i) fits3) ∙ rows-before 5 16 (80 + 8 * i) (drop 3 w) values (omega arith) (simp length-drop (omega arith))) in
+    ap (λ (at : ℕ). rows 5 16 (drop 3 (written w at values))) place
+    ∙ (ap (rows 5 16) (drop-written 3 w values (80 + 8 * i) fits3) ∙ rows-before 5 16 (80 + 8 * i) (drop 3 w) values (omega arith) (simp length-drop (omega arith))) in
     let table : rows 8 8 (drop 83 (written w (83 + 8 * i) values)) ≡ set (rows 8 8 (drop 83 w)) i values =
-        ap (rows 8 8) (drop-written 83 w values (8 * i) fits) ∙ row-written 8 8 i (drop 83 w) values refl h (simp length-drop (omega arith)) in
+    ap (rows 8 8) (drop-written 83 w values (8 * i) fits) ∙ row-written 8 8 i (drop 83 w) values refl h (simp length-drop (omega arith)) in
     ap (λ (l : List ℕ). stateOf l) (message-written w (83 + 8 * i) c fits)
     ∙ simp (
       getD-before w values (83 + 8 * i) fits 0 (omega arith),
@@ -162,13 +162,13 @@ state-of s a b =
     let rest : List ℕ = joined (map wordsOfMessage (s .messages)) in
     let size : length front ≡ 80 = length-joined 5 streamFrom wordsOfStream (λ c. refl) (s .streams) ∙ ap (λ (n : ℕ). 5 * n) a in
     let streams : map streamFrom (rows 5 16 (front ++ rest)) ≡ s .streams =
-        ap (λ (n : ℕ). map streamFrom (rows 5 n (front ++ rest))) (sym a) ∙ records-again 5 streamFrom wordsOfStream (λ c. refl) (λ c. refl) (s .streams) rest in
+    ap (λ (n : ℕ). map streamFrom (rows 5 n (front ++ rest))) (sym a) ∙ records-again 5 streamFrom wordsOfStream (λ c. refl) (λ c. refl) (s .streams) rest in
     let tail : drop 80 (front ++ rest) ≡ rest = drop-at front rest 80 size in
     let messages : map messageFrom (rows 8 8 (drop 80 (front ++ rest))) ≡ s .messages =
-        ap (λ (l : List ℕ). map messageFrom (rows 8 8 l)) tail
-        ∙ (ap (λ (n : ℕ). map messageFrom (rows 8 n rest)) (sym b)
-        ∙ (ap (λ (l : List ℕ). map messageFrom (rows 8 (length (s .messages)) l)) (sym (append-nil rest))
-        ∙ records-again 8 messageFrom wordsOfMessage (λ c. refl) (λ c. refl) (s .messages) [])) in
+    ap (λ (l : List ℕ). map messageFrom (rows 8 8 l)) tail
+    ∙ (ap (λ (n : ℕ). map messageFrom (rows 8 n rest)) (sym b)
+    ∙ (ap (λ (l : List ℕ). map messageFrom (rows 8 (length (s .messages)) l)) (sym (append-nil rest))
+    ∙ records-again 8 messageFrom wordsOfMessage (λ c. refl) (λ c. refl) (s .messages) [])) in
     ap₂ (λ (x : List StreamContext) (y : List MessageContext). record { device = s .device; mtu = s .mtu; room = s .room; streams = x; messages = y }) streams messages
 
 pub length-words : (s : State) → length (s .streams) ≡ 16 → length (s .messages) ≡ 8 → length (wordsOf s) ≡ stateWords

@@ -157,7 +157,11 @@ fn place(
 {
     let size = wire::bytes_of(m.ssize);
     let with_this = marks + contexts::power(m.msgseg);
-    lists::store(memory, n * ROOM + m.msgseg * size, &packet[wire::HEADER + 2..]);
+    lists::store(
+        memory,
+        n * ROOM + m.msgseg * size,
+        &packet[wire::HEADER + 2..],
+    );
     wire::respond(response, packet, wire::DONE);
     keep(state, m, n, with_this, last_with(m, last))
 }

@@ -203,7 +203,17 @@ fn go_on(
     if length_differs(g, total) {
         return refused_closing(state, found, 11);
     }
-    place(state, memory, packet, g, found, c.held, c.stream, count, false)
+    place(
+        state,
+        memory,
+        packet,
+        g,
+        found,
+        c.held,
+        c.stream,
+        count,
+        false,
+    )
 }
 
 // A type 9 packet from row 6 on. The endpoint has tested the state, the memory's size and the packet's head.

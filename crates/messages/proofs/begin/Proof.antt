@@ -33,7 +33,7 @@ same-length-2 c = search needs
 
 -- src/lib.rt:233:9
 returns : tie.Need-returns
-returns c = 
+returns c =
     let s = c .before .before .before .before .before .before .before .before .before .before .before in
     let st = stateOf (s .args .state .now) in
     let mem = s .args .memory .now in
@@ -44,7 +44,7 @@ returns c =
 
 -- src/lib.rt:235:5
 place-requires : tie.Need-place-requires
-place-requires c κs = 
+place-requires c κs =
     let s = c .before .before .before .before .before .before .before .before .before .before in
     let st = stateOf (s .args .state .now) in
     let mem = s .args .memory .now in
@@ -67,7 +67,7 @@ same-length-5 c = search needs
 
 -- src/lib.rt:220:1
 returns-2 : tie.Need-returns-2
-returns-2 c = 
+returns-2 c =
     let s = c .before .before .before .before .before .before .before .before .before .before .before .before .before .before .before .before .before in
     let st = stateOf (s .args .state .now) in
     let mem = s .args .memory .now in

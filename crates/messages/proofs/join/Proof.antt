@@ -32,7 +32,7 @@ same-length-2 c = search needs
 
 -- src/lib.rt:208:9
 returns : tie.Need-returns
-returns c = 
+returns c =
     let s = c .before .before .before .before .before .before .before .before .before .before .before .before .before in
     let st = stateOf (s .args .state .now) in
     let mem = s .args .memory .now in
@@ -55,7 +55,7 @@ same-length-4 c = search needs
 
 -- src/lib.rt:211:9
 returns-2 : tie.Need-returns-2
-returns-2 c = 
+returns-2 c =
     let s = c .before .before .before .before .before .before .before .before .before .before .before .before .before .before .before .before in
     let st = stateOf (s .args .state .now) in
     let mem = s .args .memory .now in
@@ -66,7 +66,7 @@ returns-2 c =
 
 -- src/lib.rt:213:25
 cast-marked : tie.Need-cast-marked
-cast-marked c = 
+cast-marked c =
     let s = c .before .before .before .before .before .before .before .before .before .before .before .before .before in
     let st = stateOf (s .args .state .now) in
     let mem = s .args .memory .now in
@@ -82,7 +82,7 @@ marked-requires c κs = c .before .before .before .before .before .before .befor
 
 -- src/lib.rt:214:9
 refuse-requires-3 : tie.Need-refuse-requires-3
-refuse-requires-3 c κs = 
+refuse-requires-3 c κs =
     let s = c .before .before .before .before .before .before .before .before .before .before .before .before .before .before .before .before in
     let st = stateOf (s .args .state .now) in
     let mem = s .args .memory .now in
@@ -101,7 +101,7 @@ same-length-6 c = search needs
 
 -- src/lib.rt:214:9
 returns-3 : tie.Need-returns-3
-returns-3 c = 
+returns-3 c =
     let s = c .before .before .before .before .before .before .before .before .before .before .before .before .before .before .before .before .before .before .before in
     let st = stateOf (s .args .state .now) in
     let mem = s .args .memory .now in
@@ -112,21 +112,26 @@ returns-3 c =
 
 -- src/lib.rt:216:5
 place-requires : tie.Need-place-requires
-place-requires c κs = 
+place-requires c κs =
     let s = c .before .before .before .before .before .before .before .before .before .before .before .before .before .before .before .before .before .before in
     let st = stateOf (s .args .state .now) in
     let mem = s .args .memory .now in
     let rep = s .args .response .now in
     let p = s .args .packet .now in
     let m = s .args .m in
-    let g = found-message st m (s .args .state .now) (c .before .before .before .before .before .before .before .before .before .before .before .before .message-at .result) refl (s .pre .0 .good) (rw (← s .pre .1 .3) (s .pre .1 .2)) (rw (← s .pre .1 .3) (c .before .before .before .before .before .before .before .before .before .before .before .before .message-at .ensures)) in
-    (s .pre .0, (s .pre .1 .0, record {
-      context = s .pre .1 .2;
-      several = s .pre .1 .1;
-      inside = rw (← c .before .before .before .before .before .before .before .before .before .if1 .left) (g .inside);
-      unmarked = sym (c .before .before .before .before .marked .ensures) ∙ c .before .before .before .if3 .left;
-      short = last-le _ (g .kept);
-    }))
+    let g = found-message st m (s .args .state .now) (c .before .before .before .before .before .before .before .before .before .before .before .before .message-at .result) refl (s .pre .0 .good) (rw (← s .pre .1 .3) (s .pre .1 .2)) (rw (← s .pre .1 .3) (c .before .before .before .before .before .before .before .before .before .before .before .before .message-at .ensures)) in (
+      s .pre .0,
+      (
+        s .pre .1 .0,
+        record {
+          context = s .pre .1 .2;
+          several = s .pre .1 .1;
+          inside = rw (← c .before .before .before .before .before .before .before .before .before .if1 .left) (g .inside);
+          unmarked = sym (c .before .before .before .before .marked .ensures) ∙ c .before .before .before .if3 .left;
+          short = last-le _ (g .kept);
+        },
+      ),
+    )
 
 -- src/lib.rt:194:1
 same-length-7 : tie.Need-same-length-7
@@ -142,7 +147,7 @@ same-length-9 c = search needs
 
 -- src/lib.rt:194:1
 returns-4 : tie.Need-returns-4
-returns-4 c = 
+returns-4 c =
     let s = c .before .before .before .before .before .before .before .before .before .before .before .before .before .before .before .before .before .before .before .before .before .before .before .before .before in
     let st = stateOf (s .args .state .now) in
     let mem = s .args .memory .now in

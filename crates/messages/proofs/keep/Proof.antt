@@ -47,14 +47,14 @@ bytes-of-requires c κs = search needs
 
 -- src/lib.rt:122:21
 mul-t15 : tie.Need-mul-t15
-mul-t15 c = 
+mul-t15 c =
     let s = c .before .before .before .before .before .before .before .before .before .before .before .before in
     let z : c .before .bytes-of .result ≤ 256 = rw (c .before .bytes-of .ensures) (bytes-le _) in
     omega (arith, product-le _ _ (s .pre .1 .2) z)
 
 -- src/lib.rt:122:21
 add-t16 : tie.Need-add-t16
-add-t16 c = 
+add-t16 c =
     let s = c .before .before .before .before .before .before .before .before .before .before .before .before in
     let z : c .before .bytes-of .result ≤ 256 = rw (c .before .bytes-of .ensures) (bytes-le _) in
     omega (arith, product-le _ _ (s .pre .1 .2) z, s .pre .1 .1)
@@ -65,7 +65,7 @@ same-length c = search needs
 
 -- src/lib.rt:117:9
 returns : tie.Need-returns
-returns c = 
+returns c =
     let s = c .before .before .before .before .before .before .before .before .before .before .before .before in
     let e = sym (c .before .before .before .before .before .before .before .before .before .all-marked .ensures) ∙ c .before .before .before .before .before .before .before .before .if1 .taken in
     record {
@@ -83,7 +83,7 @@ same-length-2 c = search needs
 
 -- src/lib.rt:110:1
 returns-2 : tie.Need-returns-2
-returns-2 c = 
+returns-2 c =
     let e = sym (c .before .before .before .before .before .all-marked .ensures) ∙ c .before .before .before .before .if1 .left in
     record { answer = rw e; state = rw e (c .before .before .put-message2 .ensures) }
 

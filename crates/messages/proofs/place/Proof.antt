@@ -28,7 +28,7 @@ power-requires c κs = search needs
 
 -- src/lib.rt:159:21
 add-with-this : tie.Need-add-with-this
-add-with-this c = 
+add-with-this c =
     let s = c .before .before .before .before .before .before in
     let m = s .args .m in
     let f = s .pre .1 .1 in
@@ -41,14 +41,14 @@ mul-store c = search needs
 
 -- src/lib.rt:160:37
 mul-store-2 : tie.Need-mul-store-2
-mul-store-2 c = 
+mul-store-2 c =
     let s = c .before .before .before .before .before .before .before .before in
     let z : c .before .before .before .bytes-of .result ≤ 256 = rw (c .before .before .before .bytes-of .ensures) (bytes-le _) in
     omega (arith, product-le _ _ (s .pre .0 .number) z)
 
 -- src/lib.rt:160:26
 add-store : tie.Need-add-store
-add-store c = 
+add-store c =
     let s = c .before .before .before .before .before .before .before .before in
     let z : c .before .before .before .bytes-of .result ≤ 256 = rw (c .before .before .before .bytes-of .ensures) (bytes-le _) in
     omega (arith, product-le _ _ (s .pre .0 .number) z, s .pre .1 .1 .context)
@@ -71,7 +71,7 @@ part-store-end c = search needs
 
 -- src/lib.rt:160:5
 store-requires : tie.Need-store-requires
-store-requires c κs = 
+store-requires c κs =
     let s = c .before .before .before .before .before .before .before .before .before in
     let z = c .before .before .before .before .bytes-of .ensures in
     let e = segment-ends _ _ _ _ (s .pre .1 .1 .context) (s .pre .0 .number) (bytes-le (s .args .m .ssize)) (s .pre .1 .0 .fits) in
@@ -87,7 +87,7 @@ last-with-requires c κs = search needs
 
 -- src/lib.rt:162:5
 keep-requires : tie.Need-keep-requires
-keep-requires c κs = 
+keep-requires c κs =
     let s = c .before .before .before .before .before .before .before .before .before .before .before .before .before .before .before .before .before .before in
     let m = s .args .m in
     let f = s .pre .1 .1 in
@@ -109,7 +109,7 @@ same-length-3 c = search needs
 
 -- src/lib.rt:143:1
 returns : tie.Need-returns
-returns c = 
+returns c =
     let s = c .before .before .before .before .before .before .before .before .before .before .before .before .before .before .before .before .before .before .before .before .before in
     placing (stateOf (s .args .state .now)) (s .args .memory .now) (s .args .response .now) (s .args .packet .now) (s .args .m) (s .args .n) (s .args .marks) (s .args .last)
     (c .before .before .before .before .before .before .before .before .before .before .before .before .before .before .before .before .bytes-of .result) _ _ _ _ _ _

@@ -29,7 +29,7 @@ same-length c = search needs
 
 -- src/lib.rt:251:9
 returns : tie.Need-returns
-returns c = 
+returns c =
     let s = c .before .before .before .before .before .before .before .before .before .before in
     let st = stateOf (s .args .state .now) in
     let mem = s .args .memory .now in
@@ -40,7 +40,7 @@ returns c =
 
 -- src/lib.rt:254:9
 take-alone-requires : tie.Need-take-alone-requires
-take-alone-requires c κs = 
+take-alone-requires c κs =
     let s = c .before .before .before .before .before .before .before .before .before .before .before in
     let st = stateOf (s .args .state .now) in
     let mem = s .args .memory .now in
@@ -63,7 +63,7 @@ same-length-4 c = search needs
 
 -- src/lib.rt:254:9
 returns-2 : tie.Need-returns-2
-returns-2 c = 
+returns-2 c =
     let s = c .before .before .before .before .before .before .before .before .before .before .before .before .before .before .before .before .before .before in
     let st = stateOf (s .args .state .now) in
     let mem = s .args .memory .now in
@@ -78,7 +78,7 @@ find-message-requires c κs = search needs
 
 -- src/lib.rt:258:9
 join-requires : tie.Need-join-requires
-join-requires c κs = 
+join-requires c κs =
     let s = c .before .before .before .before .before .before .before .before .before .before .before .before .before .before in
     let st = stateOf (s .args .state .now) in
     let mem = s .args .memory .now in
@@ -101,7 +101,7 @@ same-length-7 c = search needs
 
 -- src/lib.rt:258:9
 returns-3 : tie.Need-returns-3
-returns-3 c = 
+returns-3 c =
     let s = c .before .before .before .before .before .before .before .before .before .before .before .before .before .before .before .before .before .before .before .before .before in
     let st = stateOf (s .args .state .now) in
     let mem = s .args .memory .now in
@@ -112,7 +112,7 @@ returns-3 c =
 
 -- src/lib.rt:260:5
 begin-requires : tie.Need-begin-requires
-begin-requires c κs = 
+begin-requires c κs =
     let s = c .before .before .before .before .before .before .before .before .before .before .before .before .before .before in
     let st = stateOf (s .args .state .now) in
     let mem = s .args .memory .now in
@@ -135,7 +135,7 @@ same-length-10 c = search needs
 
 -- src/lib.rt:239:1
 returns-4 : tie.Need-returns-4
-returns-4 c = 
+returns-4 c =
     let s = c .before .before .before .before .before .before .before .before .before .before .before .before .before .before .before .before .before .before .before .before .before in
     let st = stateOf (s .args .state .now) in
     let mem = s .args .memory .now in

@@ -39,7 +39,7 @@ same-length-2 c = search needs
 
 -- src/lib.rt:179:9
 returns : tie.Need-returns
-returns c = 
+returns c =
     let s = c .before .before .before .before .before .before .before .before .before .before .before in
     let st = stateOf (s .args .state .now) in
     let mem = s .args .memory .now in
@@ -70,7 +70,7 @@ part-store-end c = search needs
 
 -- src/lib.rt:181:5
 store-requires : tie.Need-store-requires
-store-requires c κs = 
+store-requires c κs =
     let s = c .before .before .before .before .before .before .before .before .before in
     simp (length-take, length-drop) (omega (arith, c .before .before .if1 .left, s .pre .0 .size, s .pre .0 .inside, s .pre .1 .0 .fits, bytes-le (s .args .m .ssize)))
 
@@ -104,7 +104,7 @@ same-length-5 c = search needs
 
 -- src/lib.rt:166:1
 returns-2 : tie.Need-returns-2
-returns-2 c = 
+returns-2 c =
     let s = c .before .before .before .before .before .before .before .before .before .before .before .before .before .before .before .before .before .before .before .before .before .before in
     let st = stateOf (s .args .state .now) in
     let mem = s .args .memory .now in

@@ -21,7 +21,7 @@ use Rattle.streams.proofs.place.Reads as place-reads
 
 -- src/lib.rt:167:9
 place-requires : tie.Need-place-requires
-place-requires c κs = 
+place-requires c κs =
     let s = c .before .before .before .before .before .before in
     let st = stateOf (s .args .state .now) in
     let m = s .args .memory .now in
@@ -41,7 +41,7 @@ same-length-2 c = search needs
 
 -- src/lib.rt:167:9
 returns : tie.Need-returns
-returns c = 
+returns c =
     let s = c .before .before .before .before .before .before .before .before .before .before .before in
     let st = stateOf (s .args .state .now) in
     let m = s .args .memory .now in
@@ -56,7 +56,7 @@ free-stream-requires c κs = search needs
 
 -- src/lib.rt:171:9
 place-requires-2 : tie.Need-place-requires-2
-place-requires-2 c κs = 
+place-requires-2 c κs =
     let s = c .before .before .before .before .before .before .before .before .before in
     let st = stateOf (s .args .state .now) in
     let m = s .args .memory .now in
@@ -76,7 +76,7 @@ same-length-4 c = search needs
 
 -- src/lib.rt:171:9
 returns-2 : tie.Need-returns-2
-returns-2 c = 
+returns-2 c =
     let s = c .before .before .before .before .before .before .before .before .before .before .before .before .before .before in
     let st = stateOf (s .args .state .now) in
     let m = s .args .memory .now in
@@ -93,7 +93,7 @@ same-length-5 c = search needs
 -- src/lib.rt:153:1
 returns-3 : tie.Need-returns-3
 unfolding refusedStaying
-returns-3 c = 
+returns-3 c =
     let s = c .before .before .before .before .before .before .before in
     let st = stateOf (s .args .state .now) in
     let m = s .args .memory .now in

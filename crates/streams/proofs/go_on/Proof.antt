@@ -27,7 +27,7 @@ use Rattle.streams.proofs.refused_closing.Reads as refused-closing-read
 -- src/lib.rt:193:9
 returns : tie.Need-returns
 unfolding refusedStaying
-returns c = 
+returns c =
     let s = c .before .before .before .before in
     let st = stateOf (s .args .state .now) in
     let m = s .args .memory .now in
@@ -42,7 +42,7 @@ stream-at-requires c κs = search needs
 
 -- src/lib.rt:199:17
 add-total : tie.Need-add-total
-add-total c = 
+add-total c =
     let s = c .before .before .before .before .before .before .before in
     let st = stateOf (s .args .state .now) in
     let m = s .args .memory .now in
@@ -68,7 +68,7 @@ same-length c = search needs
 
 -- src/lib.rt:201:9
 returns-2 : tie.Need-returns-2
-returns-2 c = 
+returns-2 c =
     let s = c .before .before .before .before .before .before .before .before .before .before .before .before .before .before in
     let st = stateOf (s .args .state .now) in
     let m = s .args .memory .now in
@@ -93,7 +93,7 @@ same-length-2 c = search needs
 
 -- src/lib.rt:204:9
 returns-3 : tie.Need-returns-3
-returns-3 c = 
+returns-3 c =
     let s = c .before .before .before .before .before .before .before .before .before .before .before .before .before .before .before .before in
     let st = stateOf (s .args .state .now) in
     let m = s .args .memory .now in
@@ -107,7 +107,7 @@ returns-3 c =
 
 -- src/lib.rt:206:5
 place-requires : tie.Need-place-requires
-place-requires c κs = 
+place-requires c κs =
     let s = c .before .before .before .before .before .before .before .before .before .before .before .before .before .before in
     let st = stateOf (s .args .state .now) in
     let m = s .args .memory .now in
@@ -126,7 +126,7 @@ same-length-4 c = search needs
 
 -- src/lib.rt:180:1
 returns-4 : tie.Need-returns-4
-returns-4 c = 
+returns-4 c =
     let s = c .before .before .before .before .before .before .before .before .before .before .before .before .before .before .before .before .before .before .before in
     let st = stateOf (s .args .state .now) in
     let m = s .args .memory .now in

@@ -25,7 +25,7 @@ same-length c = search needs
 
 -- src/lib.rt:102:9
 returns : tie.Need-returns
-returns c = 
+returns c =
     let s = c .before .before .before .before .before .before .before .before in
     record {
       answer = rw (c .before .before .before .before .before .if1 .taken);
@@ -43,7 +43,7 @@ same-length-2 c = search needs
 
 -- src/lib.rt:88:1
 returns-2 : tie.Need-returns-2
-returns-2 c = 
+returns-2 c =
     record { answer = rw (c .before .before .before .before .if1 .left); drop = refl; state = rw (c .before .before .before .before .if1 .left) (c .before .before .put-stream2 .ensures) }
 
 pub keep-spec : {M : Type 1} → statement M

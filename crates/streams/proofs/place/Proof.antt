@@ -28,14 +28,14 @@ add-to c = search needs
 
 -- src/lib.rt:148:26
 mul-store : tie.Need-mul-store
-mul-store c = 
+mul-store c =
     let s = c .before .before .before .before .before .before in
     let g = good (stateOf (s .args .state .now)) (s .pre .0 .good) in
     omega (arith, mul-le-mul-right (c .before .room .result) (le-of-lt (s .pre .1 .context)), g .room, c .before .room .ensures)
 
 -- src/lib.rt:148:26
 add-store : tie.Need-add-store
-add-store c = 
+add-store c =
     let s = c .before .before .before .before .before .before in
     let g = good (stateOf (s .args .state .now)) (s .pre .0 .good) in
     omega (arith, mul-le-mul-right (c .before .room .result) (le-of-lt (s .pre .1 .context)), g .room, s .pre .1 .behind, c .before .room .ensures)
@@ -54,7 +54,7 @@ part-store-end c = search needs
 
 -- src/lib.rt:148:5
 store-requires : tie.Need-store-requires
-store-requires c κs = 
+store-requires c κs =
     let s = c .before .before .before .before .before .before .before in
     let f = room-ends _ _ _ _ (s .pre .1 .context) (s .pre .1 .behind) in
     let z = s .pre .0 .size in
@@ -78,7 +78,7 @@ same-length-2 c = search needs
 
 -- src/lib.rt:130:1
 returns : tie.Need-returns
-returns c = 
+returns c =
     let s = c .before .before .before .before .before .before .before .before .before .before .before .before .before .before in
     placing (stateOf (s .args .state .now)) (s .args .memory .now) _ (s .args .packet .now) (s .args .g) (s .args .n) (s .args .base) (s .args .stream) (s .args .count) (s .args .dropped) _ _ _
     (s .pre .1)

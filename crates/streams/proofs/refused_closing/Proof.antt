@@ -28,7 +28,7 @@ same-length c = search needs
 
 -- src/lib.rt:76:9
 returns : tie.Need-returns
-returns c = 
+returns c =
     let s = c .before .before .before .before .before .before .before in
     record {
       answer = refl;
@@ -38,7 +38,7 @@ returns c =
 
 -- src/lib.rt:70:1
 returns-2 : tie.Need-returns-2
-returns-2 c = 
+returns-2 c =
     let s = c .before .before in
     record { answer = refl; drop = sym (le-ltb _ _ (c .if1 .left)); state = put-nowhere (stateOf (s .args .state .now)) (s .args .found) (sixteen (s .args .state .now)) (c .if1 .left) }
 

@@ -31,7 +31,7 @@ is-malformed-requires c κs = search needs
 
 -- src/lib.rt:217:9
 refused-closing-requires : tie.Need-refused-closing-requires
-refused-closing-requires c κs = 
+refused-closing-requires c κs =
     let s = c .before .before .before .before .before .before .before .before .before in
     (s .pre .whole, rw (c .before .before .before .find-stream .ensures) (found-le (stateOf (s .args .state .now)) (s .args .g) (sixteen (s .args .state .now))))
 
@@ -41,7 +41,7 @@ same-length c = search needs
 
 -- src/lib.rt:217:9
 returns : tie.Need-returns
-returns c = 
+returns c =
     let s = c .before .before .before .before .before .before .before .before .before .before .before .before in
     let st = stateOf (s .args .state .now) in
     let m = s .args .memory .now in
@@ -64,7 +64,7 @@ is-missized-requires c κs = search needs
 
 -- src/lib.rt:222:9
 refused-closing-requires-2 : tie.Need-refused-closing-requires-2
-refused-closing-requires-2 c κs = 
+refused-closing-requires-2 c κs =
     let s = c .before .before .before .before .before .before .before .before .before .before .before .before .before .before in
     (s .pre .whole, rw (c .before .before .before .before .before .before .before .before .find-stream .ensures) (found-le (stateOf (s .args .state .now)) (s .args .g) (sixteen (s .args .state .now))))
 
@@ -74,7 +74,7 @@ same-length-2 c = search needs
 
 -- src/lib.rt:222:9
 returns-2 : tie.Need-returns-2
-returns-2 c = 
+returns-2 c =
     let s = c .before .before .before .before .before .before .before .before .before .before .before .before .before .before .before .before .before in
     let st = stateOf (s .args .state .now) in
     let m = s .args .memory .now in
@@ -86,7 +86,7 @@ returns-2 c =
 
 -- src/lib.rt:225:9
 begin-requires : tie.Need-begin-requires
-begin-requires c κs = 
+begin-requires c κs =
     let s = c .before .before .before .before .before .before .before .before .before .before .before .before .before .before .before .before in
     let st = stateOf (s .args .state .now) in
     let m = s .args .memory .now in
@@ -105,7 +105,7 @@ same-length-4 c = search needs
 
 -- src/lib.rt:225:9
 returns-3 : tie.Need-returns-3
-returns-3 c = 
+returns-3 c =
     let s = c .before .before .before .before .before .before .before .before .before .before .before .before .before .before .before .before .before .before .before .before .before in
     let st = stateOf (s .args .state .now) in
     let m = s .args .memory .now in
@@ -117,7 +117,7 @@ returns-3 c =
 
 -- src/lib.rt:227:5
 go-on-requires : tie.Need-go-on-requires
-go-on-requires c κs = 
+go-on-requires c κs =
     let s = c .before .before .before .before .before .before .before .before .before .before .before .before .before .before .before .before in
     let st = stateOf (s .args .state .now) in
     let m = s .args .memory .now in
@@ -136,7 +136,7 @@ same-length-6 c = search needs
 
 -- src/lib.rt:210:1
 returns-4 : tie.Need-returns-4
-returns-4 c = 
+returns-4 c =
     let s = c .before .before .before .before .before .before .before .before .before .before .before .before .before .before .before .before .before .before .before .before .before in
     let st = stateOf (s .args .state .now) in
     let m = s .args .memory .now in
