@@ -58,7 +58,9 @@ cast-marked c =
     omega (arith, marks-le _ _ (omega (arith, g .most)) (g .inside))
 
 marked-requires : tie.Need-marked-requires
-marked-requires c κs = c .before .before .before .before .before .before .before .before .before .before .before .before .before .pre .0 .number
+marked-requires c κs =
+    let r = c .before .before .before .before .before .before .before .before .before .before .before .before .before .pre .0 in
+    omega arith
 
 refuse-requires-3 : tie.Need-refuse-requires-3
 refuse-requires-3 c κs =

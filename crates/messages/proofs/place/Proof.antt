@@ -56,7 +56,7 @@ store-requires c κs =
     let s = c .before .before .before .before .before .before .before .before .before in
     let z = c .before .before .before .before .bytes-of .ensures in
     let e = segment-ends _ _ _ _ (s .pre .1 .1 .context) (s .pre .0 .number) (bytes-le (s .args .m .ssize)) (s .pre .1 .0 .fits) in
-    rw z (simp (length-take, length-drop) (omega (arith, e, s .pre .0 .size, s .pre .0 .inside)))
+    simp (z, length-take, length-drop) (omega (arith, e, s .pre .0 .size, s .pre .0 .inside))
 
 respond-requires : tie.Need-respond-requires
 respond-requires c κs = search needs

@@ -56,7 +56,7 @@ returns-2 c =
     let q = s .pre .1 .passed in
     let e = c .before .before .before .before .before .before .before .before .stream-at .ensures in
     closing st m g _ 9 _ _ _ (q .flow) (c .before .before .refused-closing .ensures)
-    ∙ go-passes st m p g (s .pre .1 .start) (rw (← q .flow) (c .before .before .before .before .before .before .before .before .before .before .if1 .left)) (rw (← q .flow, ← e, ← q .size, ← c .before .before .before .before .before .room .ensures) (c .before .before .before .before .if2 .taken))
+    ∙ go-passes st m p g (s .pre .1 .start) (rw (← q .flow) (c .before .before .before .before .before .before .before .before .before .before .if1 .left)) (rw (← q .flow, ← e, ← q .size, ← c .before .before .before .before .before .room .ensures) (omega (arith, c .before .before .before .before .if2 .taken)))
 
 length-differs-requires : tie.Need-length-differs-requires
 length-differs-requires c κs = search needs
