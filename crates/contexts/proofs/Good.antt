@@ -1,20 +1,20 @@
 -- What is known of a state that 19 does not name.
 use Prim.Native.Nat.{ℕ, _≤_, _<_, _+_, _%_, _^_}
-use mathlib.Core.Path.{_≡_, refl, sym, _∙_}
-use mathlib.Core.Bool.{Bool, true, false, not, cond, _||_, _&&_, false≢true, true≢false}
+use mathlib.Core.Path.{_≡_, refl}
+use mathlib.Core.Bool.{Bool, true, false, not, _||_, _&&_, false≢true, true≢false}
 use native.Mathlib.Omega.{arith}
 use lib.Dec.{eqb, ltb, leb}
-use lib.ListN.{length, getD}
-use borrow.Author.Tests.{eqb-true, eqb-false, ltb-false, leb-false, not-true}
+use lib.ListN.{length}
+use borrow.Author.Tests.{eqb-false, ltb-false, leb-false, not-true}
 use Rattle.lists.specs.First.{firstOf, any}
-use Rattle.lists.proofs.First.{first-passes, none-passes, all-fail}
+use Rattle.lists.proofs.First.{first-passes, none-passes}
 use Rattle.wire.specs.declared.Flow.{Flow}
-use Rattle.wire.specs.Type9.{badMTU, sameFlow}
-use Rattle.wire.specs.Type11.{bytesOf, inEights}
+use Rattle.wire.specs.Type9.{badMTU}
+use Rattle.wire.specs.Type11.{bytesOf}
 use Rattle.contexts.specs.declared.StreamContext.{StreamContext}
 use Rattle.contexts.specs.declared.MessageContext.{MessageContext}
-use Rattle.contexts.specs.State.{State, streamIn, messageIn, closedStream, closedMessage, isFreeStream, isFreeMessage, isOfFlow, isOfMessage, flowContext, freeStream, messageContext, freeMessage}
-use Rattle.contexts.specs.Marks.{marked, allMarked}
+use Rattle.contexts.specs.State.{State, streamIn, messageIn, closedStream, closedMessage, isFreeStream, isFreeMessage, isOfFlow, isOfMessage, flowContext, messageContext}
+use Rattle.contexts.specs.Marks.{allMarked}
 use Rattle.contexts.specs.Refusal19.{badRoom, badStream, badLast, badMarks, badMessage, namedBy19}
 
 -- ---- tests that failed

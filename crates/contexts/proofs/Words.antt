@@ -1,13 +1,13 @@
 -- Laws between a state and its words: reading and writing one context, and that a state is its words and no more.
-use Prim.Native.Nat.{ℕ, suc, _≤_, _<_, _+_, _*_}
+use Prim.Native.Nat.{ℕ, _≤_, _<_, _+_, _*_}
 use mathlib.Core.Path.{_≡_, refl, ap, ap₂, sym, _∙_}
 use mathlib.Core.List.{List, [], _∷_, _++_, map, append-nil}
 use native.Mathlib.Omega.{arith}
 use native.Mathlib.Nat.{add-zero}
 use native.Mathlib.Numerals.{towards-suc}
 use borrow.Author.Fill.{fill-more}
-use lib.ListN.{length, getD, take, drop, drop-of-length-le, replicate, set, length-set, length-drop, length-map, length-append, take-append-drop, List·getD-map}
-use lib.Seq.{drop-drop, getD-drop, getD-take, sets, drop-at}
+use lib.ListN.{length, getD, take, drop, drop-of-length-le, replicate, set, length-drop, length-map, length-append, take-append-drop, List·getD-map}
+use lib.Seq.{drop-drop, getD-drop, getD-take, drop-at}
 use Rattle.lists.specs.Bytes.{written}
 use Rattle.lists.specs.Rows.{rows, joined}
 use Rattle.lists.proofs.Written.{stores, getD-before, drop-behind, drop-written}

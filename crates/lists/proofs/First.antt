@@ -6,10 +6,10 @@ use mathlib.Core.Bool.{Bool, true, false, cond, false≢true}
 use native.Mathlib.Omega.{arith}
 use native.Mathlib.Numerals.{add-one}
 use native.Mathlib.Decide.{decLt}
-use lib.ListN.{length, getD, drop, drop-of-length-le, List·getD-eq-default}
+use lib.ListN.{length, getD, drop, drop-of-length-le}
 use lib.Dec.{ltb}
 use lib.Seq.{drop-cons}
-use borrow.Author.Tests.{ltb-false, ltb-true, lt-ltb, le-ltb}
+use borrow.Author.Tests.{ltb-false, lt-ltb, le-ltb}
 use Rattle.lists.specs.First.{firstOf, any}
 
 -- what a walk that stands at i knows: none before i passes

@@ -3,9 +3,9 @@ use Prim.Native.Nat.{ℕ, zero, suc, _≤_, _<_, _+_, _-_, _*_}
 use mathlib.Core.Path.{_≡_, refl, ap, ap₂, sym, _∙_}
 use mathlib.Core.List.{List, [], _∷_, _++_, map, append-assoc}
 use native.Mathlib.Omega.{arith}
-use native.Mathlib.Nat.{mul-suc, mul-zero, mul-le-mul-left, add-comm, zero-add}
-use lib.ListN.{length, getD, take, drop, set, length-take, length-drop, take-append-drop, length-append, length-map}
-use lib.Seq.{drop-drop, take-at, drop-at, take-add, length-take-le, take-all}
+use native.Mathlib.Nat.{mul-suc, mul-zero, mul-le-mul-left, add-comm}
+use lib.ListN.{length, getD, take, drop, set, length-drop, take-append-drop, length-append}
+use lib.Seq.{drop-drop, take-at, drop-at, take-add, length-take-le}
 use Rattle.lists.specs.Bytes.{written}
 use Rattle.lists.specs.Rows.{rows, joined}
 use Rattle.lists.proofs.Written.{drop-written, take-before, part-written, drop-behind}

@@ -2,14 +2,14 @@
 use Prim.Native.Nat.{ℕ, _≤_, _<_, _+_, _-_, _*_, _^_}
 use mathlib.Core.Path.{_≡_, refl, ap, sym, _∙_}
 use mathlib.Core.List.{List}
-use mathlib.Core.Bool.{Bool, true, false, cond, not, _||_, _&&_, true≢false, false≢true, or-true}
+use mathlib.Core.Bool.{Bool, true, false, cond, not, _||_, _&&_, or-true}
 use native.Mathlib.Omega.{arith}
 use native.Mathlib.Nat.{mul-le-mul-right}
 use lib.Dec.{eqb, ltb}
 use lib.ListN.{length, take, drop, length-drop}
 use lib.Seq.{take-all}
 use lib.Pow.{pow-mono}
-use borrow.Author.Tests.{lt-ltb, le-ltb, eq-eqb, ne-eqb, eqb-true, eqb-false, ltb-false, not-false}
+use borrow.Author.Tests.{lt-ltb, le-ltb, eq-eqb, ne-eqb, eqb-true, ltb-false, not-false}
 use Rattle.lists.specs.Bytes.{written}
 use Rattle.answers.specs.Answers.{Said, message}
 use Rattle.wire.specs.declared.MessageSegment.{MessageSegment}
@@ -18,14 +18,14 @@ use Rattle.wire.specs.Type13.{ERROR, RETRY, DONE, answered}
 use Rattle.wire.proofs.Sizes.{bytes-le, eights-le}
 use Rattle.contexts.specs.declared.MessageContext.{MessageContext}
 use Rattle.contexts.specs.State.{State, messageIn, withMessage, closedMessage, messageContext, freeMessage}
-use Rattle.contexts.specs.Marks.{marked, allMarked}
+use Rattle.contexts.specs.Marks.{marked}
 use Rattle.contexts.specs.Refusal19.{badLast, namedBy19}
 use Rattle.contexts.specs.Words.{stateOf}
 use Rattle.contexts.proofs.Words.{eight}
 use Rattle.contexts.proofs.Good.{Message, good, message-found}
 use Rattle.messages.specs.Rows.{foundFor, messageOpen, reservedSize, wrongLength, pastLast, otherMessage, alreadyMarked, noneFree}
-use Rattle.messages.specs.Joining.{Joined, joining, alone, dataOf, marksWith, lastWith, contextWith, answerWith, placed, accepted, refusedWith}
-use Rattle.messages.specs.Step.{judged, joined, stepped, Sound, Fits, Kept, Replied}
+use Rattle.messages.specs.Joining.{joining, alone, dataOf, marksWith, lastWith, placed, accepted, refusedWith}
+use Rattle.messages.specs.Step.{judged, joined, stepped, Sound, Kept, Replied}
 
 -- ---- numbers that stay inside
 

@@ -1,12 +1,12 @@
 -- Laws of a type 9 step: what each way through the code leaves is what the definition says.
-use Prim.Native.Nat.{ℕ, _≤_, _<_, _+_, _-_, _*_, _/_, _%_}
-use mathlib.Core.Path.{_≡_, refl, ap, sym, _∙_}
+use Prim.Native.Nat.{ℕ, _≤_, _<_, _+_, _-_, _*_, _%_}
+use mathlib.Core.Path.{_≡_, ap, sym, _∙_}
 use mathlib.Core.List.{List}
-use mathlib.Core.Bool.{Bool, true, false, cond, not, _||_, _&&_, true≢false}
+use mathlib.Core.Bool.{Bool, true, false, cond, not, _||_, _&&_}
 use native.Mathlib.Omega.{arith}
 use native.Mathlib.Nat.{suc-mul, mul-le-mul-right}
 use lib.Dec.{eqb, ltb}
-use lib.ListN.{length, take, drop, set}
+use lib.ListN.{length, take, drop}
 use lib.Seq.{set-out}
 use borrow.Author.Tests.{lt-ltb, le-ltb, eqb-false, eqb-true, ltb-false, not-false}
 use Rattle.lists.specs.Bytes.{written}
@@ -18,7 +18,7 @@ use Rattle.contexts.specs.declared.StreamContext.{StreamContext}
 use Rattle.contexts.specs.State.{State, streamIn, withStream, closedStream, flowContext, freeStream}
 use Rattle.contexts.proofs.Good.{neither}
 use Rattle.streams.specs.Rows.{foundFor, total, malformed, wrongO, missized, notOpen, passesRoom, noneFree, wrongLength, lengthDiffers, wrongSize}
-use Rattle.streams.specs.Joining.{Joined, joining, placed, dataOf, accepted, refusedClosing, refusedStaying}
+use Rattle.streams.specs.Joining.{joining, placed, accepted, refusedClosing, refusedStaying}
 use Rattle.streams.specs.Step.{begun, continued, stepped, Closing, Kept, Fits}
 
 -- room n ends inside the memory

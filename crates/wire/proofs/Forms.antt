@@ -1,5 +1,5 @@
 -- Laws of the layouts: which of the two forms a type 9 packet has.
-use Prim.Native.Nat.{ℕ, _+_}
+use Prim.Native.Nat.{ℕ}
 use mathlib.Core.Path.{_≡_}
 use mathlib.Core.List.{List}
 use mathlib.Core.Bool.{true, false, _||_}

@@ -1,9 +1,8 @@
 -- `contexts::all_marked` meets its contract: the walk stands at k and all before it are marked. The marks that are left fall.
 use Prim.Native.Nat.{_≤_, _-_}
 use mathlib.Core.Path.{_≡_, sym, _∙_, ap}
-use mathlib.Core.Bool.{Bool, true, _&&_}
+use mathlib.Core.Bool.{true}
 use native.Mathlib.Omega.{arith}
-use native.Mathlib.Numerals.{add-one}
 use borrow.Author.Needs.{needs}
 use Rattle.contexts.specs.Marks.{allMarked}
 use Rattle.contexts.proofs.Marks.{one-missing, one-more}

@@ -2,44 +2,32 @@ use Rattle.contexts.specs.Refusal19.{badMarks, badMessage}
 use Rattle.contexts.specs.State.{isFreeMessage}
 use Rattle.wire.specs.Type11.{bytesOf}
 use borrow.Author.Tests.{eq-eqb, le-ltb, lt-ltb, ne-eqb}
-use native.Mathlib.Omega.{arith}
 use borrow.Author.Needs.{needs}
 use Rattle.contexts.proofs.bad_message.Statement.{statement}
 use Rattle.contexts.proofs.bad_message.Tie as tie
-use Rattle.contexts.proofs.bad_message.Reads as reads
-use Rattle.contexts.proofs.bad_message.Lts as lts
-use Rattle.contexts.proofs.bad_marks.Reads as bad-marks-reads
-use Rattle.wire.proofs.bytes_of.Reads as bytes-of-reads
 
--- src/lib.rt:300:9
 returns : tie.Need-returns
 unfolding badMessage badMarks isFreeMessage bytesOf
 returns c = simp (eq-eqb _ _ (c .if1 .taken))
 
--- src/lib.rt:302:8
 bytes-of-requires : tie.Need-bytes-of-requires
 bytes-of-requires c κs = search needs
 
--- src/lib.rt:303:9
 returns-2 : tie.Need-returns-2
 unfolding badMessage badMarks isFreeMessage bytesOf
 returns-2 c = simp (ne-eqb _ _ (c .before .before .if1 .left), ← c .before .bytes-of .ensures, eq-eqb _ _ (c .if2 .taken))
 
--- src/lib.rt:306:9
 returns-3 : tie.Need-returns-3
 unfolding badMessage badMarks isFreeMessage bytesOf
 returns-3 c = simp (ne-eqb _ _ (c .before .before .before .before .if1 .left), ← c .before .before .before .bytes-of .ensures, ne-eqb _ _ (c .before .before .if2 .left), eq-eqb _ _ (c .if3 .taken))
 
--- src/lib.rt:309:9
 returns-4 : tie.Need-returns-4
 unfolding badMessage badMarks isFreeMessage bytesOf
 returns-4 c = simp (ne-eqb _ _ (c .before .before .before .before .before .before .if1 .left), ← c .before .before .before .before .before .bytes-of .ensures, ne-eqb _ _ (c .before .before .before .before .if2 .left), ne-eqb _ _ (c .before .before .if3 .left), lt-ltb _ _ (c .if4 .taken))
 
--- src/lib.rt:311:5
 bad-marks-requires : tie.Need-bad-marks-requires
 bad-marks-requires c κs = search needs
 
--- src/lib.rt:296:1
 returns-5 : tie.Need-returns-5
 unfolding badMessage badMarks isFreeMessage bytesOf
 returns-5 c = simp (ne-eqb _ _ (c .before .before .before .before .before .before .before .if1 .left), ← c .before .before .before .before .before .before .bytes-of .ensures, ne-eqb _ _ (c .before .before .before .before .before .if2 .left), ne-eqb _ _ (c .before .before .before .if3 .left), le-ltb _ _ (c .before .if4 .left), ← c .bad-marks .ensures)

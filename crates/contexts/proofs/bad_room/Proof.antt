@@ -1,18 +1,12 @@
 use Rattle.contexts.specs.Refusal19.{badRoom}
 use borrow.Author.Tests.{le-ltb, lt-ltb}
-use borrow.Author.Needs.{needs}
-use native.Mathlib.Omega.{arith}
 use Rattle.contexts.proofs.bad_room.Statement.{statement}
 use Rattle.contexts.proofs.bad_room.Tie as tie
-use Rattle.contexts.proofs.bad_room.Reads as reads
-use Rattle.contexts.proofs.bad_room.Lts as lts
 
--- src/lib.rt:248:9
 returns : tie.Need-returns
 unfolding badRoom
 returns c = simp (lt-ltb _ _ (c .if1 .taken))
 
--- src/lib.rt:244:1
 returns-2 : tie.Need-returns-2
 unfolding badRoom
 returns-2 c = simp (le-ltb _ _ (c .if1 .left))

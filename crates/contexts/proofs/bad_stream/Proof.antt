@@ -1,24 +1,17 @@
 use Rattle.contexts.specs.Refusal19.{badStream}
 use Rattle.contexts.specs.State.{isFreeStream}
 use borrow.Author.Tests.{eq-eqb, ne-eqb}
-use borrow.Author.Needs.{needs}
-use native.Mathlib.Omega.{arith}
 use Rattle.contexts.proofs.bad_stream.Statement.{statement}
 use Rattle.contexts.proofs.bad_stream.Tie as tie
-use Rattle.contexts.proofs.bad_stream.Reads as reads
-use Rattle.contexts.proofs.bad_stream.Lts as lts
 
--- src/lib.rt:257:9
 returns : tie.Need-returns
 unfolding badStream isFreeStream
 returns c = simp (eq-eqb _ _ (c .if1 .taken))
 
--- src/lib.rt:260:9
 returns-2 : tie.Need-returns-2
 unfolding badStream isFreeStream
 returns-2 c = simp (ne-eqb _ _ (c .before .before .if1 .left), eq-eqb _ _ (c .if2 .taken))
 
--- src/lib.rt:253:1
 returns-3 : tie.Need-returns-3
 unfolding badStream isFreeStream
 returns-3 c = simp (ne-eqb _ _ (c .before .before .before .if1 .left), ne-eqb _ _ (c .before .if2 .left))

@@ -1,11 +1,11 @@
 -- `contexts::clear` meets its contract: at i the first i words are 0 and the rest as they were. What is left falls.
 use Prim.Native.Nat.{_≤_, _-_}
-use mathlib.Core.Path.{_≡_, ap, _∙_}
-use mathlib.Core.List.{List, _++_, append-nil}
+use mathlib.Core.Path.{_≡_}
+use mathlib.Core.List.{_++_}
 use native.Mathlib.Omega.{arith}
 use borrow.Author.Needs.{needs, scaled-fits}
 use borrow.Author.Fill.{fill-none}
-use lib.ListN.{length, drop, replicate, drop-of-length-le, length-set}
+use lib.ListN.{length, drop, replicate, length-set}
 use Rattle.contexts.proofs.Words.{filled, fill-next}
 use Rattle.contexts.proofs.clear.Statement.{statement}
 use Rattle.contexts.proofs.clear.Tie as tie

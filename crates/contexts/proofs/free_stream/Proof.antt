@@ -1,6 +1,5 @@
 -- `contexts::free_stream` meets its contract: the walk stands at i and no context before it is free. The contexts that are left fall.
 use Prim.Native.Nat.{_≤_, _-_}
-use mathlib.Core.Path.{sym, _∙_}
 use borrow.Author.Needs.{needs}
 use borrow.Author.Tests.{eq-eqb, ne-eqb}
 use Rattle.lists.proofs.First.{Passed, first-next, first-found, first-none}

@@ -1,24 +1,17 @@
 use Rattle.contexts.specs.State.{isFreeStream, isOfFlow}
 use Rattle.wire.specs.Type9.{sameFlow}
 use borrow.Author.Tests.{eq-eqb, ne-eqb}
-use native.Mathlib.Omega.{arith}
 use borrow.Author.Needs.{needs}
 use Rattle.contexts.proofs.is_of_flow.Statement.{statement}
 use Rattle.contexts.proofs.is_of_flow.Tie as tie
-use Rattle.contexts.proofs.is_of_flow.Reads as reads
-use Rattle.contexts.proofs.is_of_flow.Lts as lts
-use Rattle.wire.proofs.same_flow.Reads as same-flow-reads
 
--- src/lib.rt:136:9
 returns : tie.Need-returns
 unfolding isOfFlow isFreeStream sameFlow
 returns c = simp (eq-eqb _ _ (c .if1 .taken))
 
--- src/lib.rt:139:5
 same-flow-requires : tie.Need-same-flow-requires
 same-flow-requires c κs = search needs
 
--- src/lib.rt:132:1
 returns-2 : tie.Need-returns-2
 unfolding isOfFlow isFreeStream sameFlow
 returns-2 c = simp (ne-eqb _ _ (c .before .before .if1 .left), ← c .same-flow .ensures)

@@ -1,29 +1,21 @@
 use Rattle.contexts.proofs.Found.{of-message}
 use Rattle.contexts.specs.State.{isFreeMessage, isOfMessage}
 use borrow.Author.Tests.{eq-eqb, ne-eqb}
-use borrow.Author.Needs.{needs}
-use native.Mathlib.Omega.{arith}
 use Rattle.contexts.proofs.is_of_message.Statement.{statement}
 use Rattle.contexts.proofs.is_of_message.Tie as tie
-use Rattle.contexts.proofs.is_of_message.Reads as reads
-use Rattle.contexts.proofs.is_of_message.Lts as lts
 
--- src/lib.rt:177:9
 returns : tie.Need-returns
 unfolding isOfMessage isFreeMessage
 returns c = simp (eq-eqb _ _ (c .if1 .taken))
 
--- src/lib.rt:180:9
 returns-2 : tie.Need-returns-2
 unfolding isOfMessage isFreeMessage
 returns-2 c = simp (ne-eqb _ _ (c .before .before .if1 .left), ne-eqb _ _ (c .if2 .taken))
 
--- src/lib.rt:183:9
 returns-3 : tie.Need-returns-3
 unfolding isOfMessage isFreeMessage
 returns-3 c = simp (ne-eqb _ _ (c .before .before .before .before .if1 .left), eq-eqb _ _ (c .before .before .if2 .left), ne-eqb _ _ (c .if3 .taken))
 
--- src/lib.rt:173:1
 returns-4 : tie.Need-returns-4
 returns-4 c = of-message (c .before .before .before .before .before .before .before .args .c) (c .before .before .before .before .before .before .before .args .source) (c .before .before .before .before .before .before .before .args .letter) (c .before .before .before .before .before .before .before .args .mbox) (c .before .before .before .before .before .if1 .left) (c .before .before .before .if2 .left) (c .before .if3 .left)
 

@@ -1,112 +1,83 @@
 use Rattle.contexts.proofs.Words.{message-read}
-use native.Mathlib.Omega.{arith}
 use borrow.Author.Needs.{needs}
 use Rattle.contexts.proofs.message_at.Statement.{statement}
 use Rattle.contexts.proofs.message_at.Tie as tie
-use Rattle.contexts.proofs.message_at.Reads as reads
-use Rattle.contexts.proofs.message_at.Lts as lts
 
--- src/lib.rt:103:25
 mul-at : tie.Need-mul-at
 mul-at c = search needs
 
--- src/lib.rt:103:14
 add-at : tie.Need-add-at
 add-at c = search needs
 
--- src/lib.rt:105:15
 mul-t4 : tie.Need-mul-t4
 mul-t4 c = search needs
 
--- src/lib.rt:105:15
 shared-slice-read-t6 : tie.Need-shared-slice-read-t6
 shared-slice-read-t6 c = search needs
 
--- src/lib.rt:106:23
 add-t7 : tie.Need-add-t7
 add-t7 c = search needs
 
--- src/lib.rt:106:17
 mul-t8 : tie.Need-mul-t8
 mul-t8 c = search needs
 
--- src/lib.rt:106:17
 shared-slice-read-t10 : tie.Need-shared-slice-read-t10
 shared-slice-read-t10 c = search needs
 
--- src/lib.rt:107:23
 add-t11 : tie.Need-add-t11
 add-t11 c = search needs
 
--- src/lib.rt:107:17
 mul-t12 : tie.Need-mul-t12
 mul-t12 c = search needs
 
--- src/lib.rt:107:17
 shared-slice-read-t14 : tie.Need-shared-slice-read-t14
 shared-slice-read-t14 c = search needs
 
--- src/lib.rt:108:21
 add-t15 : tie.Need-add-t15
 add-t15 c = search needs
 
--- src/lib.rt:108:15
 mul-t16 : tie.Need-mul-t16
 mul-t16 c = search needs
 
--- src/lib.rt:108:15
 shared-slice-read-t18 : tie.Need-shared-slice-read-t18
 shared-slice-read-t18 c = search needs
 
--- src/lib.rt:109:23
 add-t19 : tie.Need-add-t19
 add-t19 c = search needs
 
--- src/lib.rt:109:17
 mul-t20 : tie.Need-mul-t20
 mul-t20 c = search needs
 
--- src/lib.rt:109:17
 shared-slice-read-t22 : tie.Need-shared-slice-read-t22
 shared-slice-read-t22 c = search needs
 
--- src/lib.rt:110:22
 add-t23 : tie.Need-add-t23
 add-t23 c = search needs
 
--- src/lib.rt:110:16
 mul-t24 : tie.Need-mul-t24
 mul-t24 c = search needs
 
--- src/lib.rt:110:16
 shared-slice-read-t26 : tie.Need-shared-slice-read-t26
 shared-slice-read-t26 c = search needs
 
--- src/lib.rt:111:22
 add-t27 : tie.Need-add-t27
 add-t27 c = search needs
 
--- src/lib.rt:111:16
 mul-t28 : tie.Need-mul-t28
 mul-t28 c = search needs
 
--- src/lib.rt:111:16
 shared-slice-read-t30 : tie.Need-shared-slice-read-t30
 shared-slice-read-t30 c = search needs
 
--- src/lib.rt:112:21
 add-t31 : tie.Need-add-t31
 add-t31 c = search needs
 
--- src/lib.rt:112:15
 mul-t32 : tie.Need-mul-t32
 mul-t32 c = search needs
 
--- src/lib.rt:112:15
 shared-slice-read-t34 : tie.Need-shared-slice-read-t34
 shared-slice-read-t34 c = search needs
 
--- src/lib.rt:99:1
 returns : tie.Need-returns
 returns c = message-read _ _ (c .before .before .before .before .before .before .before .before .pre .0)
 

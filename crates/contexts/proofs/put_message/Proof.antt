@@ -4,114 +4,85 @@ use native.Mathlib.Omega.{arith}
 use borrow.Author.Needs.{needs}
 use Rattle.contexts.proofs.put_message.Statement.{statement}
 use Rattle.contexts.proofs.put_message.Tie as tie
-use Rattle.contexts.proofs.put_message.Reads as reads
-use Rattle.contexts.proofs.put_message.Lts as lts
 
--- src/lib.rt:121:25
 mul-at : tie.Need-mul-at
 mul-at c = search needs
 
--- src/lib.rt:121:14
 add-at : tie.Need-add-at
 add-at c = search needs
 
--- src/lib.rt:122:5
 mul-state : tie.Need-mul-state
 mul-state c = search needs
 
--- src/lib.rt:122:5
 slice-write-state : tie.Need-slice-write-state
 slice-write-state c = search needs
 
--- src/lib.rt:123:11
 add-state : tie.Need-add-state
 add-state c = search needs
 
--- src/lib.rt:123:5
 mul-state-2 : tie.Need-mul-state-2
 mul-state-2 c = search needs
 
--- src/lib.rt:123:5
 slice-write-state-2 : tie.Need-slice-write-state-2
 slice-write-state-2 c = simp length-set (omega arith)
 
--- src/lib.rt:124:11
 add-state-2 : tie.Need-add-state-2
 add-state-2 c = search needs
 
--- src/lib.rt:124:5
 mul-state-3 : tie.Need-mul-state-3
 mul-state-3 c = search needs
 
--- src/lib.rt:124:5
 slice-write-state-3 : tie.Need-slice-write-state-3
 slice-write-state-3 c = simp length-set (omega arith)
 
--- src/lib.rt:125:11
 add-state-3 : tie.Need-add-state-3
 add-state-3 c = search needs
 
--- src/lib.rt:125:5
 mul-state-4 : tie.Need-mul-state-4
 mul-state-4 c = search needs
 
--- src/lib.rt:125:5
 slice-write-state-4 : tie.Need-slice-write-state-4
 slice-write-state-4 c = simp length-set (omega arith)
 
--- src/lib.rt:126:11
 add-state-4 : tie.Need-add-state-4
 add-state-4 c = search needs
 
--- src/lib.rt:126:5
 mul-state-5 : tie.Need-mul-state-5
 mul-state-5 c = search needs
 
--- src/lib.rt:126:5
 slice-write-state-5 : tie.Need-slice-write-state-5
 slice-write-state-5 c = simp length-set (omega arith)
 
--- src/lib.rt:127:11
 add-state-5 : tie.Need-add-state-5
 add-state-5 c = search needs
 
--- src/lib.rt:127:5
 mul-state-6 : tie.Need-mul-state-6
 mul-state-6 c = search needs
 
--- src/lib.rt:127:5
 slice-write-state-6 : tie.Need-slice-write-state-6
 slice-write-state-6 c = simp length-set (omega arith)
 
--- src/lib.rt:128:11
 add-state-6 : tie.Need-add-state-6
 add-state-6 c = search needs
 
--- src/lib.rt:128:5
 mul-state-7 : tie.Need-mul-state-7
 mul-state-7 c = search needs
 
--- src/lib.rt:128:5
 slice-write-state-7 : tie.Need-slice-write-state-7
 slice-write-state-7 c = simp length-set (omega arith)
 
--- src/lib.rt:129:11
 add-state-7 : tie.Need-add-state-7
 add-state-7 c = search needs
 
--- src/lib.rt:129:5
 mul-state-8 : tie.Need-mul-state-8
 mul-state-8 c = search needs
 
--- src/lib.rt:129:5
 slice-write-state-8 : tie.Need-slice-write-state-8
 slice-write-state-8 c = simp length-set (omega arith)
 
--- src/lib.rt:117:1
 same-length : tie.Need-same-length
 same-length c = search needs
 
--- src/lib.rt:117:1
 returns : tie.Need-returns
 returns c = message-put _ _ (c .args .c) (c .pre .0) (c .pre .1)
 

@@ -4,78 +4,58 @@ use native.Mathlib.Omega.{arith}
 use borrow.Author.Needs.{needs}
 use Rattle.contexts.proofs.put_stream.Statement.{statement}
 use Rattle.contexts.proofs.put_stream.Tie as tie
-use Rattle.contexts.proofs.put_stream.Reads as reads
-use Rattle.contexts.proofs.put_stream.Lts as lts
 
--- src/lib.rt:89:24
 mul-at : tie.Need-mul-at
 mul-at c = search needs
 
--- src/lib.rt:89:14
 add-at : tie.Need-add-at
 add-at c = search needs
 
--- src/lib.rt:91:5
 mul-state : tie.Need-mul-state
 mul-state c = search needs
 
--- src/lib.rt:91:5
 slice-write-state : tie.Need-slice-write-state
 slice-write-state c = search needs
 
--- src/lib.rt:92:11
 add-state : tie.Need-add-state
 add-state c = search needs
 
--- src/lib.rt:92:5
 mul-state-2 : tie.Need-mul-state-2
 mul-state-2 c = search needs
 
--- src/lib.rt:92:5
 slice-write-state-2 : tie.Need-slice-write-state-2
 slice-write-state-2 c = simp length-set (omega arith)
 
--- src/lib.rt:93:11
 add-state-2 : tie.Need-add-state-2
 add-state-2 c = search needs
 
--- src/lib.rt:93:5
 mul-state-3 : tie.Need-mul-state-3
 mul-state-3 c = search needs
 
--- src/lib.rt:93:5
 slice-write-state-3 : tie.Need-slice-write-state-3
 slice-write-state-3 c = simp length-set (omega arith)
 
--- src/lib.rt:94:11
 add-state-3 : tie.Need-add-state-3
 add-state-3 c = search needs
 
--- src/lib.rt:94:5
 mul-state-4 : tie.Need-mul-state-4
 mul-state-4 c = search needs
 
--- src/lib.rt:94:5
 slice-write-state-4 : tie.Need-slice-write-state-4
 slice-write-state-4 c = simp length-set (omega arith)
 
--- src/lib.rt:95:11
 add-state-4 : tie.Need-add-state-4
 add-state-4 c = search needs
 
--- src/lib.rt:95:5
 mul-state-5 : tie.Need-mul-state-5
 mul-state-5 c = search needs
 
--- src/lib.rt:95:5
 slice-write-state-5 : tie.Need-slice-write-state-5
 slice-write-state-5 c = simp length-set (omega arith)
 
--- src/lib.rt:85:1
 same-length : tie.Need-same-length
 same-length c = search needs
 
--- src/lib.rt:85:1
 returns : tie.Need-returns
 returns c = stream-put _ _ (c .before .args .c) (c .before .pre .0) (c .before .pre .1)
 

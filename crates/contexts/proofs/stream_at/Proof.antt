@@ -1,76 +1,56 @@
 use Rattle.contexts.proofs.Words.{stream-read}
-use native.Mathlib.Omega.{arith}
 use borrow.Author.Needs.{needs}
 use Rattle.contexts.proofs.stream_at.Statement.{statement}
 use Rattle.contexts.proofs.stream_at.Tie as tie
-use Rattle.contexts.proofs.stream_at.Reads as reads
-use Rattle.contexts.proofs.stream_at.Lts as lts
 
--- src/lib.rt:71:24
 mul-at : tie.Need-mul-at
 mul-at c = search needs
 
--- src/lib.rt:71:14
 add-at : tie.Need-add-at
 add-at c = search needs
 
--- src/lib.rt:73:23
 add-t5 : tie.Need-add-t5
 add-t5 c = search needs
 
--- src/lib.rt:73:17
 mul-t6 : tie.Need-mul-t6
 mul-t6 c = search needs
 
--- src/lib.rt:73:17
 shared-slice-read-t8 : tie.Need-shared-slice-read-t8
 shared-slice-read-t8 c = search needs
 
--- src/lib.rt:74:20
 add-t9 : tie.Need-add-t9
 add-t9 c = search needs
 
--- src/lib.rt:74:14
 mul-t10 : tie.Need-mul-t10
 mul-t10 c = search needs
 
--- src/lib.rt:74:14
 shared-slice-read-t12 : tie.Need-shared-slice-read-t12
 shared-slice-read-t12 c = search needs
 
--- src/lib.rt:77:15
 mul-t5 : tie.Need-mul-t5
 mul-t5 c = search needs
 
--- src/lib.rt:77:15
 shared-slice-read-t12-2 : tie.Need-shared-slice-read-t12-2
 shared-slice-read-t12-2 c = search needs
 
--- src/lib.rt:79:23
 add-t10 : tie.Need-add-t10
 add-t10 c = search needs
 
--- src/lib.rt:79:17
 mul-t9 : tie.Need-mul-t9
 mul-t9 c = search needs
 
--- src/lib.rt:79:17
 shared-slice-read-t8-2 : tie.Need-shared-slice-read-t8-2
 shared-slice-read-t8-2 c = search needs
 
--- src/lib.rt:80:21
 add-t6 : tie.Need-add-t6
 add-t6 c = search needs
 
--- src/lib.rt:80:15
 mul-t15 : tie.Need-mul-t15
 mul-t15 c = search needs
 
--- src/lib.rt:80:15
 shared-slice-read-t17 : tie.Need-shared-slice-read-t17
 shared-slice-read-t17 c = search needs
 
--- src/lib.rt:67:1
 returns : tie.Need-returns
 returns c = stream-read _ _ (c .before .before .before .before .before .pre .0)
 

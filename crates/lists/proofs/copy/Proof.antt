@@ -1,5 +1,5 @@
 -- `lists::copy` meets its contract: at i the first i bytes are copied and the rest of the memory is as it was. What is left of the bytes falls.
-use Prim.Native.Nat.{ℕ, _≤_, _-_}
+use Prim.Native.Nat.{_≤_, _-_}
 use mathlib.Core.Path.{_≡_, _∙_, ap}
 use native.Mathlib.Omega.{arith}
 use borrow.Author.Needs.{needs}

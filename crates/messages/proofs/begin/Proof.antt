@@ -4,34 +4,24 @@ use Rattle.contexts.proofs.Marks.{nothing-marked}
 use lib.Pow.{pow-pos}
 use Prim.Native.Nat.{ℕ, _+_}
 use Rattle.contexts.specs.Words.{stateOf}
-use mathlib.Core.Path.{_≡_, refl, ap, sym, _∙_}
+use mathlib.Core.Path.{ap, _∙_}
 use native.Mathlib.Omega.{arith}
 use borrow.Author.Needs.{needs}
 use Rattle.messages.proofs.begin.Statement.{statement}
 use Rattle.messages.proofs.begin.Tie as tie
-use Rattle.messages.proofs.begin.Reads as reads
-use Rattle.messages.proofs.begin.Lts as lts
-use Rattle.contexts.proofs.free_message.Reads as free-message-reads
-use Rattle.messages.proofs.place.Reads as place-reads
-use Rattle.messages.proofs.refuse.Reads as refuse-reads
 
--- src/lib.rt:231:9
 free-message-requires : tie.Need-free-message-requires
 free-message-requires c κs = search needs
 
--- src/lib.rt:233:9
 refuse-requires : tie.Need-refuse-requires
 refuse-requires c κs = search needs
 
--- src/lib.rt:233:9
 same-length : tie.Need-same-length
 same-length c = search needs
 
--- src/lib.rt:233:9
 same-length-2 : tie.Need-same-length-2
 same-length-2 c = search needs
 
--- src/lib.rt:233:9
 returns : tie.Need-returns
 returns c =
     let s = c .before .before .before .before .before .before .before .before .before .before .before in
@@ -42,30 +32,21 @@ returns c =
     let m = s .args .m in
     begin-none st mem rep p m (s .pre .1 .1) (s .pre .1 .2) (rw (← c .before .before .before .before .before .free-message .ensures) (c .before .before .before .before .if1 .taken)) (c .before .before .refuse .ensures)
 
--- src/lib.rt:235:5
 place-requires : tie.Need-place-requires
 place-requires c κs =
     let s = c .before .before .before .before .before .before .before .before .before .before in
-    let st = stateOf (s .args .state .now) in
-    let mem = s .args .memory .now in
-    let rep = s .args .response .now in
-    let p = s .args .packet .now in
     let m = s .args .m in
     (s .pre .0, (s .pre .1 .0, record { context = c .before .before .before .if1 .left; several = s .pre .1 .1; inside = pow-pos (m .msglen + 1); unmarked = nothing-marked (m .msgseg); short = omega arith }))
 
--- src/lib.rt:220:1
 same-length-3 : tie.Need-same-length-3
 same-length-3 c = search needs
 
--- src/lib.rt:220:1
 same-length-4 : tie.Need-same-length-4
 same-length-4 c = search needs
 
--- src/lib.rt:220:1
 same-length-5 : tie.Need-same-length-5
 same-length-5 c = search needs
 
--- src/lib.rt:220:1
 returns-2 : tie.Need-returns-2
 returns-2 c =
     let s = c .before .before .before .before .before .before .before .before .before .before .before .before .before .before .before .before .before in

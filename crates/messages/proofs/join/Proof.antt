@@ -1,36 +1,25 @@
 use Rattle.messages.proofs.Laws.{join-msglen, join-ssize, join-marked, join-placed, found-message, marks-le, last-le}
 use Rattle.messages.specs.Joining.{placed}
-use Prim.Native.Nat.{ℕ, _+_}
+use Prim.Native.Nat.{ℕ}
 use Rattle.contexts.specs.Words.{stateOf}
-use mathlib.Core.Path.{_≡_, refl, ap, sym, _∙_}
+use mathlib.Core.Path.{refl, ap, sym, _∙_}
 use native.Mathlib.Omega.{arith}
 use borrow.Author.Needs.{needs}
 use Rattle.messages.proofs.join.Statement.{statement}
 use Rattle.messages.proofs.join.Tie as tie
-use Rattle.messages.proofs.join.Reads as reads
-use Rattle.messages.proofs.join.Lts as lts
-use Rattle.contexts.proofs.marked.Reads as marked-reads
-use Rattle.contexts.proofs.message_at.Reads as message-at-reads
-use Rattle.messages.proofs.place.Reads as place-reads
-use Rattle.messages.proofs.refuse.Reads as refuse-reads
 
--- src/lib.rt:206:9
 message-at-requires : tie.Need-message-at-requires
 message-at-requires c κs = search needs
 
--- src/lib.rt:208:9
 refuse-requires : tie.Need-refuse-requires
 refuse-requires c κs = search needs
 
--- src/lib.rt:208:9
 same-length : tie.Need-same-length
 same-length c = search needs
 
--- src/lib.rt:208:9
 same-length-2 : tie.Need-same-length-2
 same-length-2 c = search needs
 
--- src/lib.rt:208:9
 returns : tie.Need-returns
 returns c =
     let s = c .before .before .before .before .before .before .before .before .before .before .before .before .before in
@@ -41,19 +30,15 @@ returns c =
     let m = s .args .m in
     join-msglen st mem rep p m (s .pre .1 .1) (c .before .before .before .before .before .before .before .message-at .result) (rw (← s .pre .1 .3) (s .pre .1 .2)) (rw (← s .pre .1 .3) (c .before .before .before .before .before .before .before .message-at .ensures)) (c .before .before .before .before .if1 .taken) (c .before .before .refuse .ensures)
 
--- src/lib.rt:211:9
 refuse-requires-2 : tie.Need-refuse-requires-2
 refuse-requires-2 c κs = search needs
 
--- src/lib.rt:211:9
 same-length-3 : tie.Need-same-length-3
 same-length-3 c = search needs
 
--- src/lib.rt:211:9
 same-length-4 : tie.Need-same-length-4
 same-length-4 c = search needs
 
--- src/lib.rt:211:9
 returns-2 : tie.Need-returns-2
 returns-2 c =
     let s = c .before .before .before .before .before .before .before .before .before .before .before .before .before .before .before .before in
@@ -64,42 +49,30 @@ returns-2 c =
     let m = s .args .m in
     join-ssize st mem rep p m (s .pre .1 .1) (c .before .before .before .before .before .before .before .before .before .before .message-at .result) (rw (← s .pre .1 .3) (s .pre .1 .2)) (rw (← s .pre .1 .3) (c .before .before .before .before .before .before .before .before .before .before .message-at .ensures)) (c .before .before .before .before .if2 .taken) (c .before .before .refuse2 .ensures)
 
--- src/lib.rt:213:25
 cast-marked : tie.Need-cast-marked
 cast-marked c =
     let s = c .before .before .before .before .before .before .before .before .before .before .before .before .before in
     let st = stateOf (s .args .state .now) in
-    let mem = s .args .memory .now in
-    let rep = s .args .response .now in
-    let p = s .args .packet .now in
     let m = s .args .m in
     let g = found-message st m (s .args .state .now) (c .before .before .before .before .before .before .before .message-at .result) refl (s .pre .0 .good) (rw (← s .pre .1 .3) (s .pre .1 .2)) (rw (← s .pre .1 .3) (c .before .before .before .before .before .before .before .message-at .ensures)) in
     omega (arith, marks-le _ _ (omega (arith, g .most)) (g .inside))
 
--- src/lib.rt:213:8
 marked-requires : tie.Need-marked-requires
-marked-requires c κs = c .before .before .before .before .before .before .before .before .before .before .before .before .before .pre .0 .number
+marked-requires c κs =
+    let r = c .before .before .before .before .before .before .before .before .before .before .before .before .before .pre .0 in
+    omega arith
 
--- src/lib.rt:214:9
 refuse-requires-3 : tie.Need-refuse-requires-3
 refuse-requires-3 c κs =
     let s = c .before .before .before .before .before .before .before .before .before .before .before .before .before .before .before .before in
-    let st = stateOf (s .args .state .now) in
-    let mem = s .args .memory .now in
-    let rep = s .args .response .now in
-    let p = s .args .packet .now in
-    let m = s .args .m in
     (s .pre .0 .reply, omega (arith, s .pre .0 .inside), omega arith)
 
--- src/lib.rt:214:9
 same-length-5 : tie.Need-same-length-5
 same-length-5 c = search needs
 
--- src/lib.rt:214:9
 same-length-6 : tie.Need-same-length-6
 same-length-6 c = search needs
 
--- src/lib.rt:214:9
 returns-3 : tie.Need-returns-3
 returns-3 c =
     let s = c .before .before .before .before .before .before .before .before .before .before .before .before .before .before .before .before .before .before .before in
@@ -110,14 +83,10 @@ returns-3 c =
     let m = s .args .m in
     join-marked st mem rep p m (s .pre .1 .1) (c .before .before .before .before .before .before .before .before .before .before .before .before .before .message-at .result) (rw (← s .pre .1 .3) (s .pre .1 .2)) (rw (← s .pre .1 .3) (c .before .before .before .before .before .before .before .before .before .before .before .before .before .message-at .ensures)) (c .before .before .before .before .before .before .before .before .before .before .if1 .left) (c .before .before .before .before .before .before .before .if2 .left) (sym (c .before .before .before .before .before .marked .ensures) ∙ c .before .before .before .before .if3 .taken) (c .before .before .refuse3 .ensures)
 
--- src/lib.rt:216:5
 place-requires : tie.Need-place-requires
 place-requires c κs =
     let s = c .before .before .before .before .before .before .before .before .before .before .before .before .before .before .before .before .before .before in
     let st = stateOf (s .args .state .now) in
-    let mem = s .args .memory .now in
-    let rep = s .args .response .now in
-    let p = s .args .packet .now in
     let m = s .args .m in
     let g = found-message st m (s .args .state .now) (c .before .before .before .before .before .before .before .before .before .before .before .before .message-at .result) refl (s .pre .0 .good) (rw (← s .pre .1 .3) (s .pre .1 .2)) (rw (← s .pre .1 .3) (c .before .before .before .before .before .before .before .before .before .before .before .before .message-at .ensures)) in (
       s .pre .0,
@@ -133,19 +102,15 @@ place-requires c κs =
       ),
     )
 
--- src/lib.rt:194:1
 same-length-7 : tie.Need-same-length-7
 same-length-7 c = search needs
 
--- src/lib.rt:194:1
 same-length-8 : tie.Need-same-length-8
 same-length-8 c = search needs
 
--- src/lib.rt:194:1
 same-length-9 : tie.Need-same-length-9
 same-length-9 c = search needs
 
--- src/lib.rt:194:1
 returns-4 : tie.Need-returns-4
 returns-4 c =
     let s = c .before .before .before .before .before .before .before .before .before .before .before .before .before .before .before .before .before .before .before .before .before .before .before .before .before in

@@ -1,24 +1,17 @@
 use borrow.Author.Tests.{eq-eqb, ne-eqb}
-use native.Mathlib.Omega.{arith}
 use borrow.Author.Needs.{needs}
 use Rattle.messages.proofs.mailbox_of.Statement.{statement}
 use Rattle.messages.proofs.mailbox_of.Tie as tie
-use Rattle.messages.proofs.mailbox_of.Reads as reads
-use Rattle.messages.proofs.mailbox_of.Lts as lts
 
--- src/lib.rt:85:16
 mul-result : tie.Need-mul-result
 mul-result c = search needs
 
--- src/lib.rt:85:16
 add-result : tie.Need-add-result
 add-result c = search needs
 
--- src/lib.rt:85:9
 returns : tie.Need-returns
 returns c = simp (eq-eqb _ _ (c .before .before .if1 .taken))
 
--- src/lib.rt:80:1
 returns-2 : tie.Need-returns-2
 returns-2 c = simp (ne-eqb _ _ (c .if1 .left))
 

@@ -4,29 +4,18 @@ use Rattle.wire.proofs.Sizes.{bytes-le}
 use lib.ListN.{length-take, length-drop}
 use Prim.Native.Nat.{ℕ, _+_, _≤_}
 use Rattle.contexts.specs.Words.{stateOf}
-use mathlib.Core.Path.{_≡_, refl, ap, sym, _∙_}
+use mathlib.Core.Path.{ap}
 use native.Mathlib.Omega.{arith}
 use borrow.Author.Needs.{needs}
 use Rattle.messages.proofs.place.Statement.{statement}
 use Rattle.messages.proofs.place.Tie as tie
-use Rattle.messages.proofs.place.Reads as reads
-use Rattle.messages.proofs.place.Lts as lts
-use Rattle.contexts.proofs.power.Reads as power-reads
-use Rattle.lists.proofs.store.Reads as store-reads
-use Rattle.messages.proofs.keep.Reads as keep-reads
-use Rattle.messages.proofs.last_with.Reads as last-with-reads
-use Rattle.wire.proofs.bytes_of.Reads as bytes-of-reads
-use Rattle.wire.proofs.respond.Reads as respond-reads
 
--- src/lib.rt:158:9
 bytes-of-requires : tie.Need-bytes-of-requires
 bytes-of-requires c κs = search needs
 
--- src/lib.rt:159:29
 power-requires : tie.Need-power-requires
 power-requires c κs = search needs
 
--- src/lib.rt:159:21
 add-with-this : tie.Need-add-with-this
 add-with-this c =
     let s = c .before .before .before .before .before .before in
@@ -35,57 +24,46 @@ add-with-this c =
     let k = marks-le _ _ (s .pre .0 .segments) (room-for-mark _ (m .msgseg) (m .msglen + 1) (f .inside) (omega (arith, s .pre .1 .0 .past (f .several))) (f .unmarked)) in
     omega (arith, k, c .power .ensures .0)
 
--- src/lib.rt:160:26
 mul-store : tie.Need-mul-store
 mul-store c = search needs
 
--- src/lib.rt:160:37
 mul-store-2 : tie.Need-mul-store-2
 mul-store-2 c =
     let s = c .before .before .before .before .before .before .before .before in
     let z : c .before .before .before .bytes-of .result ≤ 256 = rw (c .before .before .before .bytes-of .ensures) (bytes-le _) in
     omega (arith, product-le _ _ (s .pre .0 .number) z)
 
--- src/lib.rt:160:26
 add-store : tie.Need-add-store
 add-store c =
     let s = c .before .before .before .before .before .before .before .before in
     let z : c .before .before .before .bytes-of .result ≤ 256 = rw (c .before .before .before .bytes-of .ensures) (bytes-le _) in
     omega (arith, product-le _ _ (s .pre .0 .number) z, s .pre .1 .1 .context)
 
--- src/lib.rt:160:62
 add-store-2 : tie.Need-add-store-2
 add-store-2 c = search needs
 
--- src/lib.rt:160:54
 sub-store : tie.Need-sub-store
 sub-store c = search needs
 
--- src/lib.rt:160:54
 part-store-start : tie.Need-part-store-start
 part-store-start c = search needs
 
--- src/lib.rt:160:54
 part-store-end : tie.Need-part-store-end
 part-store-end c = search needs
 
--- src/lib.rt:160:5
 store-requires : tie.Need-store-requires
 store-requires c κs =
     let s = c .before .before .before .before .before .before .before .before .before in
     let z = c .before .before .before .before .bytes-of .ensures in
     let e = segment-ends _ _ _ _ (s .pre .1 .1 .context) (s .pre .0 .number) (bytes-le (s .args .m .ssize)) (s .pre .1 .0 .fits) in
-    rw z (simp (length-take, length-drop) (omega (arith, e, s .pre .0 .size, s .pre .0 .inside)))
+    simp (z, length-take, length-drop) (omega (arith, e, s .pre .0 .size, s .pre .0 .inside))
 
--- src/lib.rt:161:5
 respond-requires : tie.Need-respond-requires
 respond-requires c κs = search needs
 
--- src/lib.rt:162:34
 last-with-requires : tie.Need-last-with-requires
 last-with-requires c κs = search needs
 
--- src/lib.rt:162:5
 keep-requires : tie.Need-keep-requires
 keep-requires c κs =
     let s = c .before .before .before .before .before .before .before .before .before .before .before .before .before .before .before .before .before .before in
@@ -95,19 +73,15 @@ keep-requires c κs =
     let l : c .last-with .result ≤ 256 = rw (c .last-with .ensures) (last-with-le m _ (f .short) (omega (arith, s .pre .1 .0 .fits, bytes-le (m .ssize)))) in
     ((f .context, s .pre .0 .whole), (rw (c .before .before .before .before .before .before .before .before .before .before .before .before .power .ensures .0) k, l, s .pre .0 .segments, s .pre .0 .number, s .pre .0 .boxes))
 
--- src/lib.rt:143:1
 same-length : tie.Need-same-length
 same-length c = search needs
 
--- src/lib.rt:143:1
 same-length-2 : tie.Need-same-length-2
 same-length-2 c = search needs
 
--- src/lib.rt:143:1
 same-length-3 : tie.Need-same-length-3
 same-length-3 c = search needs
 
--- src/lib.rt:143:1
 returns : tie.Need-returns
 returns c =
     let s = c .before .before .before .before .before .before .before .before .before .before .before .before .before .before .before .before .before .before .before .before .before in

@@ -1,33 +1,20 @@
 use Rattle.messages.proofs.Laws.{sound, step-refused, step-joined}
 use borrow.Author.Tests.{eq-eqb, ne-eqb}
 use Rattle.contexts.specs.Words.{stateOf}
-use mathlib.Core.Path.{_≡_, refl, ap, sym, _∙_}
-use native.Mathlib.Omega.{arith}
+use mathlib.Core.Path.{sym, _∙_}
 use borrow.Author.Needs.{needs}
 use Rattle.messages.proofs.step.Statement.{statement}
 use Rattle.messages.proofs.step.Tie as tie
-use Rattle.messages.proofs.step.Reads as reads
-use Rattle.messages.proofs.step.Lts as lts
-use Rattle.contexts.proofs.find_message.Reads as find-message-reads
-use Rattle.messages.proofs.begin.Reads as begin-reads
-use Rattle.messages.proofs.join.Reads as join-reads
-use Rattle.messages.proofs.judge.Reads as judge-reads
-use Rattle.messages.proofs.refuse.Reads as refuse-reads
-use Rattle.messages.proofs.take_alone.Reads as take-alone-reads
 
--- src/lib.rt:249:9
 judge-requires : tie.Need-judge-requires
 judge-requires c κs = search needs
 
--- src/lib.rt:251:9
 refuse-requires : tie.Need-refuse-requires
 refuse-requires c κs = search needs
 
--- src/lib.rt:251:9
 same-length : tie.Need-same-length
 same-length c = search needs
 
--- src/lib.rt:251:9
 returns : tie.Need-returns
 returns c =
     let s = c .before .before .before .before .before .before .before .before .before .before in
@@ -38,30 +25,21 @@ returns c =
     let m = s .args .m in
     step-refused st mem rep p m _ (c .before .before .before .before .before .judge .ensures) (c .before .before .before .before .if1 .taken) (c .before .before .refuse .ensures)
 
--- src/lib.rt:254:9
 take-alone-requires : tie.Need-take-alone-requires
 take-alone-requires c κs =
     let s = c .before .before .before .before .before .before .before .before .before .before .before in
-    let st = stateOf (s .args .state .now) in
-    let mem = s .args .memory .now in
-    let rep = s .args .response .now in
-    let p = s .args .packet .now in
     let m = s .args .m in
     (s .pre, (sound m (sym (c .before .before .before .before .before .before .judge .ensures) ∙ c .before .before .before .before .before .if1 .left), eq-eqb _ _ (c .before .before .before .if2 .taken)))
 
--- src/lib.rt:254:9
 same-length-2 : tie.Need-same-length-2
 same-length-2 c = search needs
 
--- src/lib.rt:254:9
 same-length-3 : tie.Need-same-length-3
 same-length-3 c = search needs
 
--- src/lib.rt:254:9
 same-length-4 : tie.Need-same-length-4
 same-length-4 c = search needs
 
--- src/lib.rt:254:9
 returns-2 : tie.Need-returns-2
 returns-2 c =
     let s = c .before .before .before .before .before .before .before .before .before .before .before .before .before .before .before .before .before .before in
@@ -72,34 +50,24 @@ returns-2 c =
     let m = s .args .m in
     c .before .before .before .before .before .before .take-alone .ensures ∙ step-joined st mem rep p m (sym (c .before .before .before .before .before .before .before .before .before .before .before .before .before .judge .ensures) ∙ c .before .before .before .before .before .before .before .before .before .before .before .before .if1 .left)
 
--- src/lib.rt:256:9
 find-message-requires : tie.Need-find-message-requires
 find-message-requires c κs = search needs
 
--- src/lib.rt:258:9
 join-requires : tie.Need-join-requires
 join-requires c κs =
     let s = c .before .before .before .before .before .before .before .before .before .before .before .before .before .before in
-    let st = stateOf (s .args .state .now) in
-    let mem = s .args .memory .now in
-    let rep = s .args .response .now in
-    let p = s .args .packet .now in
     let m = s .args .m in
     (s .pre, (sound m (sym (c .before .before .before .before .before .before .before .before .before .judge .ensures) ∙ c .before .before .before .before .before .before .before .before .if1 .left), ne-eqb _ _ (c .before .before .before .before .before .before .if2 .left), c .before .before .before .if3 .taken, c .before .before .before .before .find-message .ensures))
 
--- src/lib.rt:258:9
 same-length-5 : tie.Need-same-length-5
 same-length-5 c = search needs
 
--- src/lib.rt:258:9
 same-length-6 : tie.Need-same-length-6
 same-length-6 c = search needs
 
--- src/lib.rt:258:9
 same-length-7 : tie.Need-same-length-7
 same-length-7 c = search needs
 
--- src/lib.rt:258:9
 returns-3 : tie.Need-returns-3
 returns-3 c =
     let s = c .before .before .before .before .before .before .before .before .before .before .before .before .before .before .before .before .before .before .before .before .before in
@@ -110,30 +78,21 @@ returns-3 c =
     let m = s .args .m in
     c .before .before .before .before .before .before .join .ensures ∙ step-joined st mem rep p m (sym (c .before .before .before .before .before .before .before .before .before .before .before .before .before .before .before .before .judge .ensures) ∙ c .before .before .before .before .before .before .before .before .before .before .before .before .before .before .before .if1 .left)
 
--- src/lib.rt:260:5
 begin-requires : tie.Need-begin-requires
 begin-requires c κs =
     let s = c .before .before .before .before .before .before .before .before .before .before .before .before .before .before in
-    let st = stateOf (s .args .state .now) in
-    let mem = s .args .memory .now in
-    let rep = s .args .response .now in
-    let p = s .args .packet .now in
     let m = s .args .m in
     (s .pre, (sound m (sym (c .before .before .before .before .before .before .before .before .before .judge .ensures) ∙ c .before .before .before .before .before .before .before .before .if1 .left), ne-eqb _ _ (c .before .before .before .before .before .before .if2 .left), rw (← c .before .before .before .before .find-message .ensures) (c .before .before .before .if3 .left)))
 
--- src/lib.rt:239:1
 same-length-8 : tie.Need-same-length-8
 same-length-8 c = search needs
 
--- src/lib.rt:239:1
 same-length-9 : tie.Need-same-length-9
 same-length-9 c = search needs
 
--- src/lib.rt:239:1
 same-length-10 : tie.Need-same-length-10
 same-length-10 c = search needs
 
--- src/lib.rt:239:1
 returns-4 : tie.Need-returns-4
 returns-4 c =
     let s = c .before .before .before .before .before .before .before .before .before .before .before .before .before .before .before .before .before .before .before .before .before in

@@ -6,38 +6,24 @@ use Prim.Native.Nat.{ℕ}
 use Rattle.contexts.specs.declared.MessageContext.{MessageContext}
 use Rattle.contexts.specs.State.{withMessage}
 use Rattle.contexts.specs.Words.{stateOf}
-use mathlib.Core.Path.{_≡_, refl, ap, sym, _∙_}
+use mathlib.Core.Path.{ap, _∙_}
 use native.Mathlib.Omega.{arith}
 use borrow.Author.Needs.{needs}
 use Rattle.messages.proofs.take_alone.Statement.{statement}
 use Rattle.messages.proofs.take_alone.Tie as tie
-use Rattle.messages.proofs.take_alone.Reads as reads
-use Rattle.messages.proofs.take_alone.Lts as lts
-use Rattle.contexts.proofs.free_message.Reads as free-message-reads
-use Rattle.contexts.proofs.put_message.Reads as put-message-reads
-use Rattle.lists.proofs.store.Reads as store-reads
-use Rattle.messages.proofs.closed.Reads as closed-reads
-use Rattle.messages.proofs.mailbox_of.Reads as mailbox-of-reads
-use Rattle.messages.proofs.refuse.Reads as refuse-reads
-use Rattle.wire.proofs.respond.Reads as respond-reads
 
--- src/lib.rt:177:9
 free-message-requires : tie.Need-free-message-requires
 free-message-requires c κs = search needs
 
--- src/lib.rt:179:9
 refuse-requires : tie.Need-refuse-requires
 refuse-requires c κs = search needs
 
--- src/lib.rt:179:9
 same-length : tie.Need-same-length
 same-length c = search needs
 
--- src/lib.rt:179:9
 same-length-2 : tie.Need-same-length-2
 same-length-2 c = search needs
 
--- src/lib.rt:179:9
 returns : tie.Need-returns
 returns c =
     let s = c .before .before .before .before .before .before .before .before .before .before .before in
@@ -48,61 +34,47 @@ returns c =
     let m = s .args .m in
     alone-none st mem rep p m (s .pre .1 .1) (rw (← c .before .before .before .before .before .free-message .ensures) (c .before .before .before .before .if1 .taken)) (c .before .before .refuse .ensures)
 
--- src/lib.rt:181:26
 mul-store : tie.Need-mul-store
 mul-store c = search needs
 
--- src/lib.rt:181:44
 add-store : tie.Need-add-store
 add-store c = search needs
 
--- src/lib.rt:181:36
 sub-store : tie.Need-sub-store
 sub-store c = search needs
 
--- src/lib.rt:181:36
 part-store-start : tie.Need-part-store-start
 part-store-start c = search needs
 
--- src/lib.rt:181:36
 part-store-end : tie.Need-part-store-end
 part-store-end c = search needs
 
--- src/lib.rt:181:5
 store-requires : tie.Need-store-requires
 store-requires c κs =
     let s = c .before .before .before .before .before .before .before .before .before in
     simp (length-take, length-drop) (omega (arith, c .before .before .if1 .left, s .pre .0 .size, s .pre .0 .inside, s .pre .1 .0 .fits, bytes-le (s .args .m .ssize)))
 
--- src/lib.rt:182:37
 closed-requires : tie.Need-closed-requires
 closed-requires c κs = search needs
 
--- src/lib.rt:182:5
 put-message-requires : tie.Need-put-message-requires
 put-message-requires c κs = search needs
 
--- src/lib.rt:183:5
 respond-requires : tie.Need-respond-requires
 respond-requires c κs = search needs
 
--- src/lib.rt:188:18
 mailbox-of-requires : tie.Need-mailbox-of-requires
 mailbox-of-requires c κs = search needs
 
--- src/lib.rt:166:1
 same-length-3 : tie.Need-same-length-3
 same-length-3 c = search needs
 
--- src/lib.rt:166:1
 same-length-4 : tie.Need-same-length-4
 same-length-4 c = search needs
 
--- src/lib.rt:166:1
 same-length-5 : tie.Need-same-length-5
 same-length-5 c = search needs
 
--- src/lib.rt:166:1
 returns-2 : tie.Need-returns-2
 returns-2 c =
     let s = c .before .before .before .before .before .before .before .before .before .before .before .before .before .before .before .before .before .before .before .before .before .before in

@@ -1,37 +1,25 @@
 use Rattle.messages.specs.Rows.{wrongLength}
-use native.Mathlib.Omega.{arith}
 use borrow.Author.Needs.{needs}
 use Rattle.messages.proofs.wrong_length.Statement.{statement}
 use Rattle.messages.proofs.wrong_length.Tie as tie
-use Rattle.messages.proofs.wrong_length.Reads as reads
-use Rattle.messages.proofs.wrong_length.Lts as lts
-use Rattle.messages.proofs.is_last.Reads as is-last-reads
-use Rattle.wire.proofs.bytes_of.Reads as bytes-of-reads
-use Rattle.wire.proofs.in_eights.Reads as in-eights-reads
 
--- src/lib.rt:50:9
 bytes-of-requires : tie.Need-bytes-of-requires
 bytes-of-requires c κs = search needs
 
--- src/lib.rt:51:8
 is-last-requires : tie.Need-is-last-requires
 is-last-requires c κs = search needs
 
--- src/lib.rt:52:12
 in-eights-requires : tie.Need-in-eights-requires
 in-eights-requires c κs = search needs
 
--- src/lib.rt:53:13
 returns : tie.Need-returns
 unfolding wrongLength
 returns c = simp (← c .before .before .before .before .bytes-of .ensures, ← c .before .before .before .is-last .ensures, c .before .before .if1 .taken, ← c .before .in-eights .ensures, c .if2 .taken)
 
--- src/lib.rt:55:9
 returns-2 : tie.Need-returns-2
 unfolding wrongLength
 returns-2 c = simp (← c .before .before .before .before .bytes-of .ensures, ← c .before .before .before .is-last .ensures, c .before .before .if1 .taken, ← c .before .in-eights .ensures, c .if2 .left)
 
--- src/lib.rt:47:1
 returns-3 : tie.Need-returns-3
 unfolding wrongLength
 returns-3 c = simp (← c .before .before .before .bytes-of .ensures, ← c .before .before .is-last .ensures, c .before .if1 .left)

@@ -2,29 +2,16 @@ use Rattle.contexts.proofs.Words.{sixteen}
 use Rattle.streams.specs.Rows.{foundFor}
 use Rattle.streams.specs.Joining.{refusedStaying}
 use lib.ListN.{length}
-use Prim.Native.Nat.{ℕ, _<_, _≤_}
+use Prim.Native.Nat.{_<_, _≤_}
 use Rattle.streams.proofs.Laws.{closing, go-closed, go-passes, go-differs, go-placed}
 use Rattle.contexts.proofs.Good.{good, found-holds}
 use Rattle.contexts.specs.Words.{stateOf}
-use mathlib.Core.Path.{_≡_, refl, ap, sym, _∙_}
-use Rattle.streams.specs.Joining.{accepted, refusedClosing, refusedStaying}
-use Rattle.streams.specs.Rows.{lengthDiffers, notOpen, passesRoom}
-use Rattle.streams.specs.Step.{continued}
-use borrow.Author.Tests.{le-ltb, lt-ltb}
-use lib.ListN.{length-set}
+use mathlib.Core.Path.{refl, sym, _∙_}
 use native.Mathlib.Omega.{arith}
 use borrow.Author.Needs.{needs}
 use Rattle.streams.proofs.go_on.Statement.{statement}
 use Rattle.streams.proofs.go_on.Tie as tie
-use Rattle.streams.proofs.go_on.Reads as reads
-use Rattle.streams.proofs.go_on.Lts as lts
-use Rattle.contexts.proofs.room.Reads as room-reads
-use Rattle.contexts.proofs.stream_at.Reads as stream-at-reads
-use Rattle.streams.proofs.length_differs.Reads as length-differs-reads
-use Rattle.streams.proofs.place.Reads as place-reads
-use Rattle.streams.proofs.refused_closing.Reads as refused-closing-reads
 
--- src/lib.rt:193:9
 returns : tie.Need-returns
 unfolding refusedStaying
 returns c =
@@ -36,17 +23,13 @@ returns c =
     let q = s .pre .1 .passed in
     go-closed st m p g (s .pre .1 .start) (rw (← q .flow) (c .if1 .taken))
 
--- src/lib.rt:198:9
 stream-at-requires : tie.Need-stream-at-requires
 stream-at-requires c κs = search needs
 
--- src/lib.rt:199:17
 add-total : tie.Need-add-total
 add-total c =
     let s = c .before .before .before .before .before .before .before in
     let st = stateOf (s .args .state .now) in
-    let m = s .args .memory .now in
-    let p = s .args .packet .now in
     let g = s .args .g in
     let q = s .pre .1 .passed in
     let k = good st (s .pre .0 .good) in
@@ -54,19 +37,15 @@ add-total c =
     let h : c .before .stream-at .result .held ≤ st .room = rw (c .before .stream-at .ensures, q .flow) (found-holds st (g .flow) k o .1) in
     omega (arith, h, k .room, q .small, k .most)
 
--- src/lib.rt:200:8
 room-requires : tie.Need-room-requires
 room-requires c κs = search needs
 
--- src/lib.rt:201:9
 refused-closing-requires : tie.Need-refused-closing-requires
 refused-closing-requires c κs = search needs
 
--- src/lib.rt:201:9
 same-length : tie.Need-same-length
 same-length c = search needs
 
--- src/lib.rt:201:9
 returns-2 : tie.Need-returns-2
 returns-2 c =
     let s = c .before .before .before .before .before .before .before .before .before .before .before .before .before .before in
@@ -77,21 +56,17 @@ returns-2 c =
     let q = s .pre .1 .passed in
     let e = c .before .before .before .before .before .before .before .before .stream-at .ensures in
     closing st m g _ 9 _ _ _ (q .flow) (c .before .before .refused-closing .ensures)
-    ∙ go-passes st m p g (s .pre .1 .start) (rw (← q .flow) (c .before .before .before .before .before .before .before .before .before .before .if1 .left)) (rw (← q .flow, ← e, ← q .size, ← c .before .before .before .before .before .room .ensures) (c .before .before .before .before .if2 .taken))
+    ∙ go-passes st m p g (s .pre .1 .start) (rw (← q .flow) (c .before .before .before .before .before .before .before .before .before .before .if1 .left)) (rw (← q .flow, ← e, ← q .size, ← c .before .before .before .before .before .room .ensures) (omega (arith, c .before .before .before .before .if2 .taken)))
 
--- src/lib.rt:203:8
 length-differs-requires : tie.Need-length-differs-requires
 length-differs-requires c κs = search needs
 
--- src/lib.rt:204:9
 refused-closing-requires-2 : tie.Need-refused-closing-requires-2
 refused-closing-requires-2 c κs = search needs
 
--- src/lib.rt:204:9
 same-length-2 : tie.Need-same-length-2
 same-length-2 c = search needs
 
--- src/lib.rt:204:9
 returns-3 : tie.Need-returns-3
 returns-3 c =
     let s = c .before .before .before .before .before .before .before .before .before .before .before .before .before .before .before .before in
@@ -105,26 +80,18 @@ returns-3 c =
     ∙ go-differs st m p g (s .pre .1 .start) (rw (← q .flow) (c .before .before .before .before .before .before .before .before .before .before .before .before .if1 .left)) (rw (← q .flow, ← e, ← q .size, ← c .before .before .before .before .before .before .before .room .ensures) (c .before .before .before .before .before .before .if2 .left))
     (rw (← q .flow, ← e, ← q .size) (sym (c .before .before .before .before .before .length-differs .ensures) ∙ c .before .before .before .before .if3 .taken))
 
--- src/lib.rt:206:5
 place-requires : tie.Need-place-requires
 place-requires c κs =
     let s = c .before .before .before .before .before .before .before .before .before .before .before .before .before .before in
-    let st = stateOf (s .args .state .now) in
-    let m = s .args .memory .now in
-    let p = s .args .packet .now in
-    let g = s .args .g in
     let q = s .pre .1 .passed in
     (s .pre .0, record { context = c .before .before .before .before .before .before .before .before .before .before .if1 .left; size = q .size; within = q .within; behind = rw (← c .before .before .before .before .before .room .ensures) (c .before .before .before .before .if2 .left) })
 
--- src/lib.rt:180:1
 same-length-3 : tie.Need-same-length-3
 same-length-3 c = search needs
 
--- src/lib.rt:180:1
 same-length-4 : tie.Need-same-length-4
 same-length-4 c = search needs
 
--- src/lib.rt:180:1
 returns-4 : tie.Need-returns-4
 returns-4 c =
     let s = c .before .before .before .before .before .before .before .before .before .before .before .before .before .before .before .before .before .before .before in

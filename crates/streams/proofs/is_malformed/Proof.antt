@@ -1,33 +1,24 @@
 use Rattle.streams.specs.Rows.{malformed}
 use borrow.Author.Tests.{eq-eqb, ne-eqb}
-use borrow.Author.Needs.{needs}
-use native.Mathlib.Omega.{arith}
 use Rattle.streams.proofs.is_malformed.Statement.{statement}
 use Rattle.streams.proofs.is_malformed.Tie as tie
-use Rattle.streams.proofs.is_malformed.Reads as reads
-use Rattle.streams.proofs.is_malformed.Lts as lts
 
--- src/lib.rt:35:9
 returns : tie.Need-returns
 unfolding malformed
 returns c = simp (eq-eqb _ _ (c .if1 .taken))
 
--- src/lib.rt:38:9
 returns-2 : tie.Need-returns-2
 unfolding malformed
 returns-2 c = simp (ne-eqb _ _ (c .before .before .if1 .left), eq-eqb _ _ (c .if2 .taken))
 
--- src/lib.rt:42:13
 returns-3 : tie.Need-returns-3
 unfolding malformed
 returns-3 c = simp (ne-eqb _ _ (c .before .before .before .before .before .if1 .left), ne-eqb _ _ (c .before .before .before .if2 .left), eq-eqb _ _ (c .before .if3 .taken), c .if4 .taken)
 
--- src/lib.rt:44:9
 returns-4 : tie.Need-returns-4
 unfolding malformed
 returns-4 c = simp (ne-eqb _ _ (c .before .before .before .before .before .if1 .left), ne-eqb _ _ (c .before .before .before .if2 .left), eq-eqb _ _ (c .before .if3 .taken), c .if4 .left)
 
--- src/lib.rt:31:1
 returns-5 : tie.Need-returns-5
 unfolding malformed
 returns-5 c = simp (ne-eqb _ _ (c .before .before .before .before .if1 .left), ne-eqb _ _ (c .before .before .if2 .left), ne-eqb _ _ (c .if3 .left))

@@ -1,15 +1,9 @@
-use borrow.Author.Needs.{needs}
-use native.Mathlib.Omega.{arith}
 use Rattle.streams.proofs.is_missized.Statement.{statement}
 use Rattle.streams.proofs.is_missized.Tie as tie
-use Rattle.streams.proofs.is_missized.Reads as reads
-use Rattle.streams.proofs.is_missized.Lts as lts
 
--- src/lib.rt:54:9
 returns : tie.Need-returns
 returns c = simp (c .if1 .taken)
 
--- src/lib.rt:50:1
 returns-2 : tie.Need-returns-2
 returns-2 c = simp (c .if1 .left)
 

@@ -3,56 +3,38 @@ use native.Mathlib.Nat.{mul-le-mul-right, le-of-lt}
 use Rattle.contexts.proofs.Good.{good}
 use Rattle.streams.proofs.Laws.{room-ends, placing}
 use Rattle.contexts.specs.Words.{stateOf}
-use mathlib.Core.Path.{_≡_, refl, ap, sym, _∙_}
-use Rattle.lists.specs.Bytes.{written}
-use Rattle.streams.specs.Joining.{placed}
-use Rattle.wire.specs.Type9.{dataLength}
-use lib.ListN.{length-set}
 use native.Mathlib.Omega.{arith}
 use borrow.Author.Needs.{needs}
 use Rattle.streams.proofs.place.Statement.{statement}
 use Rattle.streams.proofs.place.Tie as tie
-use Rattle.streams.proofs.place.Reads as reads
-use Rattle.streams.proofs.place.Lts as lts
-use Rattle.contexts.proofs.room.Reads as room-reads
-use Rattle.lists.proofs.store.Reads as store-reads
-use Rattle.streams.proofs.keep.Reads as keep-reads
 
--- src/lib.rt:145:9
 room-requires : tie.Need-room-requires
 room-requires c κs = search needs
 
--- src/lib.rt:147:14
 add-to : tie.Need-add-to
 add-to c = search needs
 
--- src/lib.rt:148:26
 mul-store : tie.Need-mul-store
 mul-store c =
     let s = c .before .before .before .before .before .before in
     let g = good (stateOf (s .args .state .now)) (s .pre .0 .good) in
     omega (arith, mul-le-mul-right (c .before .room .result) (le-of-lt (s .pre .1 .context)), g .room, c .before .room .ensures)
 
--- src/lib.rt:148:26
 add-store : tie.Need-add-store
 add-store c =
     let s = c .before .before .before .before .before .before in
     let g = good (stateOf (s .args .state .now)) (s .pre .0 .good) in
     omega (arith, mul-le-mul-right (c .before .room .result) (le-of-lt (s .pre .1 .context)), g .room, s .pre .1 .behind, c .before .room .ensures)
 
--- src/lib.rt:148:43
 sub-store : tie.Need-sub-store
 sub-store c = search needs
 
--- src/lib.rt:148:43
 part-store-start : tie.Need-part-store-start
 part-store-start c = search needs
 
--- src/lib.rt:148:43
 part-store-end : tie.Need-part-store-end
 part-store-end c = search needs
 
--- src/lib.rt:148:5
 store-requires : tie.Need-store-requires
 store-requires c κs =
     let s = c .before .before .before .before .before .before .before in
@@ -60,23 +42,18 @@ store-requires c κs =
     let z = s .pre .0 .size in
     rw (c .before .before .room .ensures) (simp (length-take, length-drop) (omega (arith, f, z, s .pre .1 .within, s .pre .0 .inside)))
 
--- src/lib.rt:149:31
 add-keep : tie.Need-add-keep
 add-keep c = search needs
 
--- src/lib.rt:149:5
 keep-requires : tie.Need-keep-requires
 keep-requires c κs = search needs
 
--- src/lib.rt:130:1
 same-length : tie.Need-same-length
 same-length c = search needs
 
--- src/lib.rt:130:1
 same-length-2 : tie.Need-same-length-2
 same-length-2 c = search needs
 
--- src/lib.rt:130:1
 returns : tie.Need-returns
 returns c =
     let s = c .before .before .before .before .before .before .before .before .before .before .before .before .before .before in

@@ -4,29 +4,20 @@ use Rattle.streams.proofs.Laws.{put-nowhere}
 use Rattle.contexts.specs.Words.{stateOf}
 use Rattle.contexts.specs.State.{withStream}
 use Rattle.contexts.specs.declared.StreamContext.{StreamContext}
-use mathlib.Core.Path.{_≡_, refl, ap, sym, _∙_}
-use native.Mathlib.Omega.{arith}
+use mathlib.Core.Path.{refl, ap, sym, _∙_}
 use borrow.Author.Needs.{needs}
 use Rattle.streams.proofs.refused_closing.Statement.{statement}
 use Rattle.streams.proofs.refused_closing.Tie as tie
-use Rattle.streams.proofs.refused_closing.Reads as reads
-use Rattle.streams.proofs.refused_closing.Lts as lts
-use Rattle.contexts.proofs.put_stream.Reads as put-stream-reads
-use Rattle.streams.proofs.closed.Reads as closed-reads
 
--- src/lib.rt:75:44
 closed-requires : tie.Need-closed-requires
 closed-requires c κs = search needs
 
--- src/lib.rt:75:9
 put-stream-requires : tie.Need-put-stream-requires
 put-stream-requires c κs = search needs
 
--- src/lib.rt:76:9
 same-length : tie.Need-same-length
 same-length c = search needs
 
--- src/lib.rt:76:9
 returns : tie.Need-returns
 returns c =
     let s = c .before .before .before .before .before .before .before in
@@ -36,7 +27,6 @@ returns c =
       state = c .before .before .put-stream .ensures ∙ ap (λ (x : StreamContext). withStream (stateOf (s .args .state .now)) (s .args .found) x) (c .before .before .before .closed .ensures);
     }
 
--- src/lib.rt:70:1
 returns-2 : tie.Need-returns-2
 returns-2 c =
     let s = c .before .before in

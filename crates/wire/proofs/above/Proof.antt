@@ -1,20 +1,14 @@
 use borrow.Author.Tests.{lt-ltb, le-ltb}
-use native.Mathlib.Omega.{arith}
 use borrow.Author.Needs.{needs}
 use Rattle.wire.proofs.above.Statement.{statement}
 use Rattle.wire.proofs.above.Tie as tie
-use Rattle.wire.proofs.above.Reads as reads
-use Rattle.wire.proofs.above.Lts as lts
 
--- src/lib.rt:224:16
 add-result : tie.Need-add-result
 add-result c = search needs
 
--- src/lib.rt:224:9
 returns : tie.Need-returns
 returns c = (simp (lt-ltb _ _ (c .if1 .taken)), search needs)
 
--- src/lib.rt:220:1
 returns-2 : tie.Need-returns-2
 returns-2 c = (simp (le-ltb _ _ (c .if1 .left)), search needs)
 

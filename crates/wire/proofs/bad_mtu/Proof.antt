@@ -1,23 +1,16 @@
 use Rattle.wire.specs.Type9.{badMTU}
 use borrow.Author.Tests.{le-ltb, lt-ltb}
-use borrow.Author.Needs.{needs}
-use native.Mathlib.Omega.{arith}
 use Rattle.wire.proofs.bad_mtu.Statement.{statement}
 use Rattle.wire.proofs.bad_mtu.Tie as tie
-use Rattle.wire.proofs.bad_mtu.Reads as reads
-use Rattle.wire.proofs.bad_mtu.Lts as lts
 
--- src/lib.rt:187:9
 returns : tie.Need-returns
 unfolding badMTU
 returns c = simp (lt-ltb _ _ (c .if1 .taken))
 
--- src/lib.rt:190:9
 returns-2 : tie.Need-returns-2
 unfolding badMTU
 returns-2 c = simp (le-ltb _ _ (c .before .if1 .left), lt-ltb _ _ (c .if2 .taken))
 
--- src/lib.rt:183:1
 returns-3 : tie.Need-returns-3
 unfolding badMTU
 returns-3 c = simp (le-ltb _ _ (c .before .if1 .left), le-ltb _ _ (c .if2 .left))

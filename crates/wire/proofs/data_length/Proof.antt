@@ -1,21 +1,15 @@
 use Rattle.wire.specs.Type9.{dataLength}
-use native.Mathlib.Omega.{arith}
 use borrow.Author.Needs.{needs}
 use Rattle.wire.proofs.data_length.Statement.{statement}
 use Rattle.wire.proofs.data_length.Tie as tie
-use Rattle.wire.proofs.data_length.Reads as reads
-use Rattle.wire.proofs.data_length.Lts as lts
 
--- src/lib.rt:188:16
 sub-result : tie.Need-sub-result
 sub-result c = search needs
 
--- src/lib.rt:188:9
 returns : tie.Need-returns
 unfolding dataLength
 returns c = simp (c .before .if1 .taken)
 
--- src/lib.rt:183:1
 returns-2 : tie.Need-returns-2
 unfolding dataLength
 returns-2 c = simp (c .if1 .left)

@@ -1,72 +1,51 @@
 use Rattle.wire.proofs.Forms.{without-field}
 use Rattle.wire.specs.Parsed.{parsedStream}
-use native.Mathlib.Omega.{arith}
 use borrow.Author.Needs.{needs}
 use Rattle.wire.proofs.parse_stream.Statement.{statement}
 use Rattle.wire.proofs.parse_stream.Tie as tie
-use Rattle.wire.proofs.parse_stream.Reads as reads
-use Rattle.wire.proofs.parse_stream.Lts as lts
-use Rattle.lists.proofs.wide.Reads as wide-reads
-use Rattle.wire.proofs.bit.Reads as bit-reads
-use Rattle.wire.proofs.parse_fielded.Reads as parse-fielded-reads
-use Rattle.wire.proofs.segment_at.Reads as segment-at-reads
 
--- src/lib.rt:104:36
 add-wide : tie.Need-add-wide
 add-wide c = search needs
 
--- src/lib.rt:104:29
 shared-slice-read-wide : tie.Need-shared-slice-read-wide
 shared-slice-read-wide c = search needs
 
--- src/lib.rt:104:9
 wide-requires : tie.Need-wide-requires
 wide-requires c κs = search needs
 
--- src/lib.rt:105:8
 bit-requires : tie.Need-bit-requires
 bit-requires c κs = search needs
 
--- src/lib.rt:106:9
 returns : tie.Need-returns
 unfolding parsedStream
 returns c = simp (← c .before .before .wide .ensures .0, ← c .before .bit .ensures, c .if1 .taken)
 
--- src/lib.rt:108:8
 bit-requires-2 : tie.Need-bit-requires-2
 bit-requires-2 c κs = search needs
 
--- src/lib.rt:109:9
 parse-fielded-requires : tie.Need-parse-fielded-requires
 parse-fielded-requires c κs = (search needs, simp (← c .before .before .before .before .wide .ensures .0, ← c .before .bit2 .ensures, c .if2 .taken))
 
--- src/lib.rt:109:9
 returns-2 : tie.Need-returns-2
 unfolding parsedStream
 returns-2 c = simp (← c .before .before .before .before .before .wide .ensures .0, ← c .before .before .before .before .bit .ensures, c .before .before .before .if1 .left, ← c .before .before .bit2 .ensures, c .before .if2 .taken, ← c .parse-fielded .ensures)
 
--- src/lib.rt:111:8
 bit-requires-3 : tie.Need-bit-requires-3
 bit-requires-3 c κs = search needs
 
--- src/lib.rt:112:9
 parse-fielded-requires-2 : tie.Need-parse-fielded-requires-2
 parse-fielded-requires-2 c κs = (search needs, simp (← c .before .before .before .before .before .before .wide .ensures .0, ← c .before .before .before .bit2 .ensures, c .before .before .if2 .left, ← c .before .bit3 .ensures, c .if3 .taken))
 
--- src/lib.rt:112:9
 returns-3 : tie.Need-returns-3
 unfolding parsedStream
 returns-3 c = simp (← c .before .before .before .before .before .before .before .wide .ensures .0, ← c .before .before .before .before .before .before .bit .ensures, c .before .before .before .before .before .if1 .left, ← c .before .before .before .before .bit2 .ensures, c .before .before .before .if2 .left, ← c .before .before .bit3 .ensures, c .before .if3 .taken, ← c .parse-fielded2 .ensures)
 
--- src/lib.rt:114:39
 add-segment-at : tie.Need-add-segment-at
 add-segment-at c = search needs
 
--- src/lib.rt:114:20
 segment-at-requires : tie.Need-segment-at-requires
 segment-at-requires c κs = search needs
 
--- src/lib.rt:100:1
 returns-4 : tie.Need-returns-4
 unfolding parsedStream
 returns-4 c =

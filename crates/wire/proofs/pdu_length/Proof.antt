@@ -1,18 +1,12 @@
 use Rattle.wire.specs.Type9.{pduLength}
 use borrow.Author.Tests.{eq-eqb, ne-eqb}
-use borrow.Author.Needs.{needs}
-use native.Mathlib.Omega.{arith}
 use Rattle.wire.proofs.pdu_length.Statement.{statement}
 use Rattle.wire.proofs.pdu_length.Tie as tie
-use Rattle.wire.proofs.pdu_length.Reads as reads
-use Rattle.wire.proofs.pdu_length.Lts as lts
 
--- src/lib.rt:177:9
 returns : tie.Need-returns
 unfolding pduLength
 returns c = simp (eq-eqb _ _ (c .if1 .taken))
 
--- src/lib.rt:173:1
 returns-2 : tie.Need-returns-2
 unfolding pduLength
 returns-2 c = simp (ne-eqb _ _ (c .if1 .left))

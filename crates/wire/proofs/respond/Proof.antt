@@ -1,75 +1,54 @@
 use Rattle.lists.specs.Bytes.{written}
 use Rattle.wire.specs.Type13.{answered, responseTo}
-use native.Mathlib.Omega.{arith}
 use borrow.Author.Needs.{needs}
 use Rattle.wire.proofs.respond.Statement.{statement}
 use Rattle.wire.proofs.respond.Tie as tie
-use Rattle.wire.proofs.respond.Reads as reads
-use Rattle.wire.proofs.respond.Lts as lts
-use Rattle.lists.proofs.copy.Reads as copy-reads
-use Rattle.wire.proofs.above.Reads as above-reads
 
--- src/lib.rt:235:15
 shared-slice-read-above : tie.Need-shared-slice-read-above
 shared-slice-read-above c = search needs
 
--- src/lib.rt:235:9
 above-requires : tie.Need-above-requires
 above-requires c κs = search needs
 
--- src/lib.rt:235:9
 mul-t9 : tie.Need-mul-t9
 mul-t9 c = search needs
 
--- src/lib.rt:235:9
 add-t10 : tie.Need-add-t10
 add-t10 c = search needs
 
--- src/lib.rt:235:9
 add-t11 : tie.Need-add-t11
 add-t11 c = search needs
 
--- src/lib.rt:236:9
 shared-slice-read-t13 : tie.Need-shared-slice-read-t13
 shared-slice-read-t13 c = search needs
 
--- src/lib.rt:237:9
 shared-slice-read-t15 : tie.Need-shared-slice-read-t15
 shared-slice-read-t15 c = search needs
 
--- src/lib.rt:238:9
 shared-slice-read-t17 : tie.Need-shared-slice-read-t17
 shared-slice-read-t17 c = search needs
 
--- src/lib.rt:239:9
 shared-slice-read-t19 : tie.Need-shared-slice-read-t19
 shared-slice-read-t19 c = search needs
 
--- src/lib.rt:240:9
 add-t20 : tie.Need-add-t20
 add-t20 c = search needs
 
--- src/lib.rt:241:16
 add-t21 : tie.Need-add-t21
 add-t21 c = search needs
 
--- src/lib.rt:241:9
 shared-slice-read-t23 : tie.Need-shared-slice-read-t23
 shared-slice-read-t23 c = search needs
 
--- src/lib.rt:243:27
 slice-aggregate-copy : tie.Need-slice-aggregate-copy
 slice-aggregate-copy c = search needs
 
--- src/lib.rt:243:5
 copy-requires : tie.Need-copy-requires
 copy-requires c κs = search needs
 
--- src/lib.rt:230:1
 same-length : tie.Need-same-length
 same-length c = search needs
 
--- src/lib.rt:230:1
 returns : tie.Need-returns
 unfolding answered written responseTo
 returns c = simp (← c .before .before .before .before .before .before .before .before .before .before .above .ensures .0, ← c .before .before .copy .ensures)

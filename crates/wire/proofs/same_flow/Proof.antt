@@ -1,18 +1,12 @@
 use Rattle.wire.specs.Type9.{sameFlow}
 use borrow.Author.Tests.{eq-eqb, ne-eqb}
-use borrow.Author.Needs.{needs}
-use native.Mathlib.Omega.{arith}
 use Rattle.wire.proofs.same_flow.Statement.{statement}
 use Rattle.wire.proofs.same_flow.Tie as tie
-use Rattle.wire.proofs.same_flow.Reads as reads
-use Rattle.wire.proofs.same_flow.Lts as lts
 
--- src/lib.rt:61:9
 returns : tie.Need-returns
 unfolding sameFlow
 returns c = simp (eq-eqb _ _ (c .before .before .if1 .taken))
 
--- src/lib.rt:57:1
 returns-2 : tie.Need-returns-2
 unfolding sameFlow
 returns-2 c = simp (ne-eqb _ _ (c .if1 .left))
