@@ -1,10 +1,10 @@
 -- A number is answered exactly if its row's test holds and no earlier row's does; accepted exactly if no row's test holds.
 use Prim.Native.Nat.{ℕ}
-use mathlib.Core.Path.{_≡_, refl, ap, sym, _∙_}
+use mathlib.Core.Path.{_≡_, refl, ap, _∙_}
 use mathlib.Core.List.{List, [], _∷_, _++_}
 use mathlib.Core.Bool.{Bool, true, false, cond}
 use native.Mathlib.Omega.{arith}
-use Rattle.answers.specs.Refusals.{RowOf, VerdictOf, refuse, accept, verdict, none, Decides}
+use Rattle.answers.specs.Refusals.{RowOf, refuse, accept, verdict, none, Decides}
 
 module _ {L : Type 0} where
   -- rows whose tests do not hold do not decide

@@ -1,52 +1,24 @@
 -- Laws of the public calls: what each way through the code leaves is what the definition says.
 use Prim.Native.Nat.{ℕ, _≤_, _<_, _+_, _-_, _*_}
-use mathlib.Core.Path.{_≡_, refl, ap, sym, _∙_}
-use mathlib.Core.List.{List, [], _∷_, map}
-use mathlib.Core.Bool.{Bool, true, false, cond, not, _||_, _&&_}
+use mathlib.Core.Path.{_≡_, ap, sym}
+use mathlib.Core.List.{List, _∷_}
+use mathlib.Core.Bool.{Bool, true, false, not}
 use native.Mathlib.Omega.{arith}
 use native.Mathlib.Nat.{suc-mul, mul-le-mul-right}
-use lib.Dec.{eqb, ltb}
+use lib.Dec.{eqb}
 use lib.ListN.{length, take, drop, replicate}
-use borrow.Author.Tests.{eq-eqb, ne-eqb, lt-ltb, le-ltb, eqb-true, ltb-false, not-false}
+use borrow.Author.Tests.{eq-eqb, ne-eqb, lt-ltb, le-ltb, eqb-true, not-false}
 use denote.Ref.{RefT, now}
 use Rattle.lists.specs.Rows.{joined}
-use Rattle.answers.specs.Answers.{Said, said, ready, free, closed, refused}
-use Rattle.answers.specs.declared.Reading.{Reading}
-use Rattle.answers.specs.Refusals.{all, verdict}
+use Rattle.answers.specs.Answers.{ready, free, closed, refused}
+use Rattle.answers.specs.Refusals.{verdict}
 use Rattle.wire.specs.Type9.{badMTU}
-use Rattle.contexts.specs.State.{State, fresh, streamIn, messageIn, withStream, withMessage, closedStream, closedMessage}
+use Rattle.contexts.specs.State.{State}
 use Rattle.contexts.specs.Words.{stateOf, wordsOf, stateWords}
 use Rattle.contexts.specs.Refusal19.{badRoom, namedBy19}
 use Rattle.contexts.proofs.Words.{words-of}
 use Rattle.contexts.proofs.Good.{neither}
-use Rattle.streams.specs.Joining as stream
-use Rattle.messages.specs.Joining as message
-use Rattle.endpoint.specs.Table.{Lent, wrongSizes}
-use Rattle.endpoint.specs.Read.{Left, left, leaving, ofStream, ofMessage, reading, ReadPromise}
-use Rattle.endpoint.specs.Step.{Refusal}
-use Rattle.endpoint.specs.Calls.{Stands, stands, setup, setupTable, abandonTable, abandonBy, noState, Part, part, roomPart, IsPart}
-
--- ---- reading
-
--- a refusal that changes nothing
-pub refusing : (x : Lent) (number : ℕ) (r : Reading) → Refusal number r → leaving x number all ≡ reading x → ReadPromise x r (x .words) (x .streams) (x .messages) (x .response)
-refusing x number r f e = rw (f .answer, f .drop) e
-
--- what a step leaves in the words
-pub stream-left : (x : Lent) (says : Said) (dropped : Bool) (words memory : List ℕ) (j : stream.Joined) → length words ≡ stateWords
-    → stream.joining says dropped (stateOf words) memory ≡ j → left says dropped words memory (x .messages) (x .response) ≡ ofStream x j
-stream-left x says dropped words memory j z e =
-    ap (λ (w : List ℕ). left says dropped w memory (x .messages) (x .response)) (sym (words-of words z)) ∙ ap (ofStream x) e
-
-pub message-left : (x : Lent) (says : Said) (words memory response : List ℕ) (j : message.Joined) → length words ≡ stateWords
-    → message.joining says (stateOf words) memory response ≡ j → left says false words (x .streams) memory response ≡ ofMessage x j
-message-left x says words memory response j z e =
-    ap (λ (w : List ℕ). left says false w (x .streams) memory response) (sym (words-of words z)) ∙ ap (ofMessage x) e
-
--- row 12 passed
-pub sizes-right : (s : State) (streams messages response : List ℕ) → length streams ≡ 16 * s .room → length messages ≡ 32768 → 7 ≤ length response → wrongSizes s streams messages response ≡ false
-unfolding wrongSizes
-sizes-right s streams messages response a b d = rw (eq-eqb (length streams) (16 * s .room) a, eq-eqb (length messages) 32768 b, le-ltb (length response) 7 d)
+use Rattle.endpoint.specs.Calls.{stands, setup, setupTable, abandonTable, abandonBy, noState, Part, part, roomPart, IsPart}
 
 -- ---- setup
 module _ (words : List ℕ) (device mtu room : ℕ) where
@@ -131,11 +103,3 @@ unfolding noState
 state-there words e =
     let a = neither (not (eqb (length words) stateWords)) (namedBy19 (stateOf words)) e in
     (eqb-true (length words) stateWords (not-false _ (a .0)), a .1)
-
-pub sizes-fit : (s : State) (streams messages response : List ℕ) → wrongSizes s streams messages response ≡ false
-    → (length streams ≡ 16 * s .room) × (length messages ≡ 32768) × (7 ≤ length response)
-unfolding wrongSizes
-sizes-fit s streams messages response e =
-    let a = neither (not (eqb (length streams) (16 * s .room)) || not (eqb (length messages) 32768)) (ltb (length response) 7) e in
-    let b = neither (not (eqb (length streams) (16 * s .room))) (not (eqb (length messages) 32768)) (a .0) in
-    (eqb-true (length streams) (16 * s .room) (not-false _ (b .0)), eqb-true (length messages) 32768 (not-false _ (b .1)), ltb-false (length response) 7 (a .1))

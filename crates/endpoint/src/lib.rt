@@ -1,22 +1,13 @@
 // The endpoint's public calls: setup, reading a packet, abandoning a context, rooms. None asks anything of its caller.
 use answers::Abandoned;
-use answers::Answer;
 use answers::Begun;
 use answers::Reading;
-use wire::Parsed;
 ghost use mathlib.Core.Path.{_≡_};
-ghost use mathlib.Core.Bool.{false};
 ghost use Prim.Native.Nat.{_≤_};
 ghost use lib.ListN.{length};
-ghost use Rattle.contexts.specs.Words.{stateOf, stateWords};
-ghost use Rattle.contexts.specs.Refusal19.{namedBy19};
-ghost use Rattle.endpoint.specs.Table.{wrongSizes};
-ghost use Rattle.endpoint.specs.Read.{lent, ReadPromise};
-ghost use Rattle.endpoint.specs.Step.{Ready, Refusal};
+ghost use Rattle.contexts.specs.Words.{stateWords};
+ghost use Rattle.reading.specs.Read.{lent, ReadPromise};
 ghost use Rattle.endpoint.specs.Calls.{SetupPromise, AbandonPromise, abandonStream, abandonMessage, noState, roomPart, streamRoom, messageRoom, IsPart};
-
-// The bytes of the message memory: 8 rooms of 4,096.
-pub const MESSAGES: usize = 32768;
 
 // The words that a state needs.
 pub fn state_length() -> usize
@@ -44,55 +35,6 @@ pub fn setup(state: &mut [usize], device: u16, mtu: usize, room: usize) -> Begun
     Begun::Ready
 }
 
-// A refusal that changes nothing.
-fn refused(number: usize) -> Reading
-    ensures { λ r. ⌜ Refusal number r ⌝ }
-{
-    Reading {
-        answer: Answer::Refused(number),
-        dropped: false,
-    }
-}
-
-// Row 12, for a state that 19 does not name.
-fn wrong_memory(state: &[usize], streams: &[u8], messages: &[u8], response: &[u8]) -> bool
-    requires { ⌜ (length (now state) ≡ stateWords) × (namedBy19 (stateOf (now state)) ≡ false) ⌝ }
-    ensures { λ r. ⌜ r ≡ wrongSizes (stateOf (now (state .entry))) (now (streams .entry)) (now (messages .entry)) (now (response .entry)) ⌝ }
-{
-    if streams.len() != 16 * contexts::room(state) {
-        return true;
-    }
-    if messages.len() != MESSAGES {
-        return true;
-    }
-    response.len() < 7
-}
-
-// Reads one packet by a state and memories that rows 19 and 12 pass. `read` tests them; a run over many packets tests them once.
-pub fn read_ready(
-    state: &mut [usize],
-    streams: &mut [u8],
-    messages: &mut [u8],
-    response: &mut [u8],
-    packet: &[u8],
-) -> Reading
-    requires { ⌜ Ready (now state) (now streams) (now messages) (now response) ⌝ }
-    ensures { λ r. ⌜ ReadPromise (lent (now (state .entry)) (now (streams .entry)) (now (messages .entry)) (now (response .entry)) (now (packet .entry))) r (now (state .exit)) (now (streams .exit)) (now (messages .exit)) (now (response .exit)) ⌝ }
-{
-    let device = contexts::device(state);
-    match wire::parse(packet, device) {
-        Parsed::Refused(number) => refused(number),
-        Parsed::Stream(g) => streams::step(state, streams, packet, g),
-        Parsed::Message(m) => {
-            let answer = messages::step(state, messages, response, packet, m);
-            Reading {
-                answer,
-                dropped: false,
-            }
-        }
-    }
-}
-
 // Reads one packet.
 pub fn read(
     state: &mut [usize],
@@ -104,15 +46,15 @@ pub fn read(
     ensures { λ r. ⌜ ReadPromise (lent (now (state .entry)) (now (streams .entry)) (now (messages .entry)) (now (response .entry)) (now (packet .entry))) r (now (state .exit)) (now (streams .exit)) (now (messages .exit)) (now (response .exit)) ⌝ }
 {
     if state.len() != contexts::WORDS {
-        return refused(12);
+        return reading::refused(12);
     }
     if contexts::named_by_19(state) {
-        return refused(19);
+        return reading::refused(19);
     }
-    if wrong_memory(state, streams, messages, response) {
-        return refused(12);
+    if reading::wrong_memory(state, streams, messages, response) {
+        return reading::refused(12);
     }
-    read_ready(state, streams, messages, response, packet)
+    reading::step(state, streams, messages, response, packet)
 }
 
 // Abandons stream context n. A free one stays as it is.

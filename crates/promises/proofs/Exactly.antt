@@ -1,17 +1,17 @@
 -- The refusal table decides exactly: an answer is a refusal of that number if and only if the first row whose test holds has it.
 use Prim.Native.Nat.{ℕ}
-use mathlib.Core.Path.{_≡_, refl, ap, sym, _∙_}
+use mathlib.Core.Path.{_≡_, refl, ap, _∙_}
 use mathlib.Core.Bool.{Bool, true, false, cond}
 use native.Mathlib.Omega.{arith}
-use Rattle.answers.specs.Answers.{Said, held, delivered, message, refused}
+use Rattle.answers.specs.Answers.{Said, held, message, refused}
 use Rattle.answers.specs.Refusals.{Leaves, all, flowClosed, allERROR, allRETRY, Verdict, refuse, accept, verdict, Row, Decides}
 use Rattle.answers.proofs.Exactly.{answered, decided, accepted}
 use Rattle.wire.specs.Type11.{isSingle}
 use Rattle.streams.specs.Joining as stream
 use Rattle.messages.specs.Joining as message
 use Rattle.messages.specs.Rows.{messageOpen}
-use Rattle.endpoint.specs.Table.{Lent, stateIn, segmentIn, messageIn, is9, table}
-use Rattle.endpoint.specs.Read.{Left, reading, outcome, leaving, accepting}
+use Rattle.reading.specs.Table.{Lent, stateIn, segmentIn, messageIn, is9, table}
+use Rattle.reading.specs.Read.{Left, reading, outcome, leaving, accepting}
 use Rattle.promises.specs.Statements.{RefusedExactly, AcceptedExactly}
 
 -- a refusal says its number, whatever it leaves

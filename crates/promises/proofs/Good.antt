@@ -1,5 +1,5 @@
 -- Every packet leaves a state that 19 does not name, where it finds one (shown by cases on the verdict, crate endpoint).
-use Rattle.endpoint.proofs.Kept.{stays-good}
+use Rattle.reading.proofs.Kept.{stays-good}
 use Rattle.promises.specs.Statements.{StaysGood}
 
 pub left-good : StaysGood

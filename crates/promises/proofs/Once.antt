@@ -1,13 +1,11 @@
 -- Any two outcomes that a promise allows are one: each promise is an equation, and an answer is determined by what it says.
 use mathlib.Core.Path.{_≡_, ap, ap₂, sym, _∙_}
-use mathlib.Core.List.{List}
 use mathlib.Core.Bool.{Bool}
-use Prim.Native.Nat.{ℕ}
 use Rattle.answers.specs.declared.Answer.{Answer}
 use Rattle.answers.specs.declared.Reading.{Reading}
 use Rattle.answers.proofs.Once.{said-once, setup-once, abandon-once, writer-once}
 use Rattle.segments.specs.Writer.{Wrote}
-use Rattle.endpoint.specs.Read.{Left}
+use Rattle.reading.specs.Read.{Left}
 use Rattle.endpoint.specs.Calls.{Stands}
 use Rattle.promises.specs.Statements.{ReadOnce, SetupOnce, AbandonOnce, WriteOnce, RoomOnce, NumberOnce}
 

@@ -17,8 +17,8 @@ use Rattle.contexts.specs.Words.{stateWords}
 use Rattle.contexts.specs.Refusal19.{namedBy19}
 use Rattle.segments.specs.declared.Heading.{Heading}
 use Rattle.segments.specs.Writer.{wroteOf, writing}
-use Rattle.endpoint.specs.Table.{Lent, stateIn, table}
-use Rattle.endpoint.specs.Read.{ReadPromise, reading, accepting, Settled}
+use Rattle.reading.specs.Table.{Lent, stateIn, table}
+use Rattle.reading.specs.Read.{ReadPromise, reading, accepting, Settled}
 use Rattle.endpoint.specs.Calls.{Stands, SetupPromise, AbandonPromise, Part, IsPart}
 
 -- ---- the refusal table: a number is answered exactly if a row of that number has a test that holds and no earlier row has

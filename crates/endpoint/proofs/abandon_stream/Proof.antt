@@ -4,71 +4,51 @@ use Rattle.endpoint.specs.Calls.{abandonStream}
 use Rattle.contexts.specs.State.{streamIn, withStream, closedStream, isFreeStream}
 use Rattle.contexts.specs.declared.StreamContext.{StreamContext}
 use Rattle.contexts.specs.Words.{stateOf}
-use mathlib.Core.Path.{_≡_, refl, ap, sym, _∙_}
-use native.Mathlib.Omega.{arith}
+use mathlib.Core.Path.{ap, sym, _∙_}
 use borrow.Author.Needs.{needs}
 use Rattle.endpoint.proofs.abandon_stream.Statement.{statement}
 use Rattle.endpoint.proofs.abandon_stream.Tie as tie
-use Rattle.endpoint.proofs.abandon_stream.Reads as reads
-use Rattle.endpoint.proofs.abandon_stream.Lts as lts
-use Rattle.contexts.proofs.named_by_19.Reads as named-by-19-reads
-use Rattle.contexts.proofs.put_stream.Reads as put-stream-reads
-use Rattle.contexts.proofs.stream_at.Reads as stream-at-reads
-use Rattle.streams.proofs.closed.Reads as closed-reads
 
--- src/lib.rt:123:9
 returns : tie.Need-returns
 unfolding abandonStream
 returns c = abandon-short (c .before .before .args .state .now) 16 (c .before .before .args .n) (isFreeStream (streamIn (stateOf (c .before .before .args .state .now)) (c .before .before .args .n))) (withStream (stateOf (c .before .before .args .state .now)) (c .before .before .args .n) closedStream) (c .if1 .taken)
 
--- src/lib.rt:125:8
 named-by-19-requires : tie.Need-named-by-19-requires
 named-by-19-requires c κs = search needs
 
--- src/lib.rt:126:9
 same-length : tie.Need-same-length
 same-length c = search needs
 
--- src/lib.rt:126:9
 returns-2 : tie.Need-returns-2
 unfolding abandonStream
 returns-2 c = abandon-named (c .before .before .before .before .before .args .state .now) 16 (c .before .before .before .before .before .args .n) (isFreeStream (streamIn (stateOf (c .before .before .before .before .before .args .state .now)) (c .before .before .before .before .before .args .n))) (withStream (stateOf (c .before .before .before .before .before .args .state .now)) (c .before .before .before .before .before .args .n) closedStream) (c .before .before .before .if1 .left) (sym (c .before .named-by-19 .ensures) ∙ c .if2 .taken)
 
--- src/lib.rt:129:9
 same-length-2 : tie.Need-same-length-2
 same-length-2 c = search needs
 
--- src/lib.rt:129:9
 returns-3 : tie.Need-returns-3
 unfolding abandonStream
 returns-3 c = abandon-past (c .before .before .before .before .before .before .args .state .now) 16 (c .before .before .before .before .before .before .args .n) (isFreeStream (streamIn (stateOf (c .before .before .before .before .before .before .args .state .now)) (c .before .before .before .before .before .before .args .n))) (withStream (stateOf (c .before .before .before .before .before .before .args .state .now)) (c .before .before .before .before .before .before .args .n) closedStream) (c .before .before .before .before .if1 .left) (sym (c .before .before .named-by-19 .ensures) ∙ c .before .if2 .left) (c .if3 .taken)
 
--- src/lib.rt:131:9
 stream-at-requires : tie.Need-stream-at-requires
 stream-at-requires c κs = search needs
 
--- src/lib.rt:133:9
 same-length-3 : tie.Need-same-length-3
 same-length-3 c = search needs
 
--- src/lib.rt:133:9
 returns-4 : tie.Need-returns-4
 unfolding abandonStream isFreeStream
 returns-4 c = abandon-free (c .before .before .before .before .before .before .before .before .before .before .args .state .now) 16 (c .before .before .before .before .before .before .before .before .before .before .args .n) (isFreeStream (streamIn (stateOf (c .before .before .before .before .before .before .before .before .before .before .args .state .now)) (c .before .before .before .before .before .before .before .before .before .before .args .n))) (withStream (stateOf (c .before .before .before .before .before .before .before .before .before .before .args .state .now)) (c .before .before .before .before .before .before .before .before .before .before .args .n) closedStream) (c .before .before .before .before .before .before .before .before .if1 .left) (sym (c .before .before .before .before .before .before .named-by-19 .ensures) ∙ c .before .before .before .before .before .if2 .left) (c .before .before .before .before .if3 .left) (rw (← c .before .before .stream-at .ensures) (eq-eqb _ _ (c .if4 .taken)))
 
--- src/lib.rt:135:36
 closed-requires : tie.Need-closed-requires
 closed-requires c κs = search needs
 
--- src/lib.rt:135:5
 put-stream-requires : tie.Need-put-stream-requires
 put-stream-requires c κs = search needs
 
--- src/lib.rt:119:1
 same-length-4 : tie.Need-same-length-4
 same-length-4 c = search needs
 
--- src/lib.rt:119:1
 returns-5 : tie.Need-returns-5
 unfolding abandonStream isFreeStream
 returns-5 c =

@@ -1,41 +1,29 @@
 use Rattle.endpoint.proofs.Calls.{ranged}
 use Rattle.endpoint.specs.Calls.{messageRoom}
-use mathlib.Core.Path.{_≡_, refl, ap, sym, _∙_}
-use native.Mathlib.Omega.{arith}
+use mathlib.Core.Path.{refl, sym, _∙_}
 use borrow.Author.Needs.{needs}
 use Rattle.endpoint.proofs.message_room.Statement.{statement}
 use Rattle.endpoint.proofs.message_room.Tie as tie
-use Rattle.endpoint.proofs.message_room.Reads as reads
-use Rattle.endpoint.proofs.message_room.Lts as lts
-use Rattle.endpoint.proofs.no_state.Reads as no-state-reads
-use Rattle.endpoint.proofs.room_part.Reads as room-part-reads
 
--- src/lib.rt:203:8
 no-state-requires : tie.Need-no-state-requires
 no-state-requires c κs = search needs
 
--- src/lib.rt:204:16
 sub-result : tie.Need-sub-result
 sub-result c = search needs
 
--- src/lib.rt:204:16
 part-result-start : tie.Need-part-result-start
 part-result-start c = search needs
 
--- src/lib.rt:204:16
 part-result-end : tie.Need-part-result-end
 part-result-end c = search needs
 
--- src/lib.rt:204:9
 returns : tie.Need-returns
 unfolding messageRoom
 returns c = ranged _ _ 0 0 _ (rw (sym (c .before .before .no-state .ensures) ∙ c .before .if1 .taken)) refl (search needs) refl
 
--- src/lib.rt:206:5
 room-part-requires : tie.Need-room-part-requires
 room-part-requires c κs = search needs
 
--- src/lib.rt:200:1
 returns-2 : tie.Need-returns-2
 unfolding messageRoom
 returns-2 c = rw (sym (c .before .before .no-state .ensures) ∙ c .before .if1 .left) (c .room-part .ensures)

@@ -1,23 +1,16 @@
 use Rattle.endpoint.specs.Calls.{noState}
 use borrow.Author.Tests.{eq-eqb, ne-eqb}
-use native.Mathlib.Omega.{arith}
 use borrow.Author.Needs.{needs}
 use Rattle.endpoint.proofs.no_state.Statement.{statement}
 use Rattle.endpoint.proofs.no_state.Tie as tie
-use Rattle.endpoint.proofs.no_state.Reads as reads
-use Rattle.endpoint.proofs.no_state.Lts as lts
-use Rattle.contexts.proofs.named_by_19.Reads as named-by-19-reads
 
--- src/lib.rt:165:9
 returns : tie.Need-returns
 unfolding noState
 returns c = simp (ne-eqb _ _ (c .if1 .taken))
 
--- src/lib.rt:167:5
 named-by-19-requires : tie.Need-named-by-19-requires
 named-by-19-requires c κs = search needs
 
--- src/lib.rt:161:1
 returns-2 : tie.Need-returns-2
 unfolding noState
 returns-2 c = simp (eq-eqb _ _ (c .before .if1 .left), ← c .named-by-19 .ensures)

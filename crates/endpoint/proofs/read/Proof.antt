@@ -1,105 +1,79 @@
-use Rattle.endpoint.proofs.Rows.{no-words, named, missized}
-use Rattle.endpoint.proofs.Calls.{refusing, sizes-fit}
-use Rattle.endpoint.specs.Read.{lent}
+use Rattle.reading.proofs.Rows.{no-words, named, missized}
+use Rattle.reading.proofs.Left.{refusing, sizes-fit}
+use Rattle.reading.specs.Read.{lent}
 use Rattle.contexts.specs.Words.{stateOf}
-use mathlib.Core.Path.{_≡_, refl, ap, sym, _∙_}
-use native.Mathlib.Omega.{arith}
+use mathlib.Core.Path.{sym, _∙_}
 use borrow.Author.Needs.{needs}
 use Rattle.endpoint.proofs.read.Statement.{statement}
 use Rattle.endpoint.proofs.read.Tie as tie
-use Rattle.endpoint.proofs.read.Reads as reads
-use Rattle.endpoint.proofs.read.Lts as lts
-use Rattle.contexts.proofs.named_by_19.Reads as named-by-19-reads
-use Rattle.endpoint.proofs.read_ready.Reads as read-ready-reads
-use Rattle.endpoint.proofs.refused.Reads as refused-reads
-use Rattle.endpoint.proofs.wrong_memory.Reads as wrong-memory-reads
 
--- src/lib.rt:107:9
 refused-requires : tie.Need-refused-requires
 refused-requires c κs = search needs
 
--- src/lib.rt:107:9
 returns : tie.Need-returns
 returns c =
     let s = c .before .before .before .before .before .before .before in
     let x = lent (s .args .state .now) (s .args .streams .now) (s .args .messages .now) (s .args .response .now) (s .args .packet .now) in
     refusing x 12 _ (c .refused .ensures) (no-words x (c .before .if1 .taken))
 
--- src/lib.rt:109:8
 named-by-19-requires : tie.Need-named-by-19-requires
 named-by-19-requires c κs = search needs
 
--- src/lib.rt:110:9
 refused-requires-2 : tie.Need-refused-requires-2
 refused-requires-2 c κs = search needs
 
--- src/lib.rt:110:9
 same-length : tie.Need-same-length
 same-length c = search needs
 
--- src/lib.rt:110:9
 returns-2 : tie.Need-returns-2
 returns-2 c =
     let s = c .before .before .before .before .before .before .before .before .before .before in
     let x = lent (s .args .state .now) (s .args .streams .now) (s .args .messages .now) (s .args .response .now) (s .args .packet .now) in
     refusing x 19 _ (c .refused2 .ensures) (named x (c .before .before .before .before .if1 .left) (sym (c .before .before .named-by-19 .ensures) ∙ c .before .if2 .taken))
 
--- src/lib.rt:112:8
 wrong-memory-requires : tie.Need-wrong-memory-requires
 wrong-memory-requires c κs = (c .before .before .before .before .before .before .before .if1 .left, sym (c .before .before .before .before .before .named-by-19 .ensures) ∙ c .before .before .before .before .if2 .left)
 
--- src/lib.rt:113:9
 refused-requires-3 : tie.Need-refused-requires-3
 refused-requires-3 c κs = search needs
 
--- src/lib.rt:113:9
 same-length-2 : tie.Need-same-length-2
 same-length-2 c = search needs
 
--- src/lib.rt:113:9
 same-length-3 : tie.Need-same-length-3
 same-length-3 c = search needs
 
--- src/lib.rt:113:9
 same-length-4 : tie.Need-same-length-4
 same-length-4 c = search needs
 
--- src/lib.rt:113:9
 same-length-5 : tie.Need-same-length-5
 same-length-5 c = search needs
 
--- src/lib.rt:113:9
 returns-3 : tie.Need-returns-3
 returns-3 c =
     let s = c .before .before .before .before .before .before .before .before .before .before .before .before .before .before .before .before in
     let x = lent (s .args .state .now) (s .args .streams .now) (s .args .messages .now) (s .args .response .now) (s .args .packet .now) in
     refusing x 12 _ (c .refused3 .ensures) (missized x (c .before .before .before .before .before .before .before .before .before .before .if1 .left) (sym (c .before .before .before .before .before .before .before .before .named-by-19 .ensures) ∙ c .before .before .before .before .before .before .before .if2 .left) (sym (c .before .before .wrong-memory .ensures) ∙ c .before .if3 .taken))
 
--- src/lib.rt:115:5
-read-ready-requires : tie.Need-read-ready-requires
-read-ready-requires c κs =
+step-requires : tie.Need-step-requires
+step-requires c κs =
     let s = c .before .before .before .before .before .before .before .before .before .before .before .before .before .before .before .before .before .before .before in
     let x = lent (s .args .state .now) (s .args .streams .now) (s .args .messages .now) (s .args .response .now) (s .args .packet .now) in
     let fit = sizes-fit (stateOf (s .args .state .now)) (s .args .streams .now) (s .args .messages .now) (s .args .response .now) (sym (c .before .before .before .before .before .wrong-memory .ensures) ∙ c .before .before .before .before .if3 .left) in
     record { whole = c .before .before .before .before .before .before .before .before .before .before .before .before .before .if1 .left; good = sym (c .before .before .before .before .before .before .before .before .before .before .before .named-by-19 .ensures) ∙ c .before .before .before .before .before .before .before .before .before .before .if2 .left; rooms = fit .0; boxes = fit .1; reply = fit .2 }
 
--- src/lib.rt:97:1
 same-length-6 : tie.Need-same-length-6
 same-length-6 c = search needs
 
--- src/lib.rt:97:1
 same-length-7 : tie.Need-same-length-7
 same-length-7 c = search needs
 
--- src/lib.rt:97:1
 same-length-8 : tie.Need-same-length-8
 same-length-8 c = search needs
 
--- src/lib.rt:97:1
 same-length-9 : tie.Need-same-length-9
 same-length-9 c = search needs
 
--- src/lib.rt:97:1
 returns-4 : tie.Need-returns-4
 returns-4 c = search needs
 
@@ -120,7 +94,7 @@ read-spec =
     same-length-4
     same-length-5
     returns-3
-    read-ready-requires
+    step-requires
     same-length-6
     same-length-7
     same-length-8

@@ -2,93 +2,72 @@ use Rattle.endpoint.proofs.Calls.{other-size, past-last, over-long, a-r
 use Rattle.endpoint.specs.Calls.{part}
 use lib.ListN.{length}
 use Prim.Native.Nat.{_+_, _-_, _*_}
-use mathlib.Core.Path.{_≡_, refl, ap, sym, _∙_}
+use mathlib.Core.Path.{_≡_, refl, ap, _∙_}
 use native.Mathlib.Omega.{arith}
 use borrow.Author.Needs.{needs}
 use Rattle.endpoint.proofs.room_part.Statement.{statement}
 use Rattle.endpoint.proofs.room_part.Tie as tie
-use Rattle.endpoint.proofs.room_part.Reads as reads
-use Rattle.endpoint.proofs.room_part.Lts as lts
 
--- src/lib.rt:175:24
 mul-if1 : tie.Need-mul-if1
 mul-if1 c = omega (arith, room-bound (c .args .rooms) (c .args .room) (c .pre .0) (c .pre .1))
 
--- src/lib.rt:176:16
 sub-result : tie.Need-sub-result
 sub-result c = search needs
 
--- src/lib.rt:176:16
 part-result-start : tie.Need-part-result-start
 part-result-start c = search needs
 
--- src/lib.rt:176:16
 part-result-end : tie.Need-part-result-end
 part-result-end c = search needs
 
--- src/lib.rt:176:9
 returns : tie.Need-returns
 returns c = ranged _ _ 0 0 _ (other-size (c .before .before .args .rooms) (c .before .before .args .room) (length (c .before .before .args .memory .now)) (c .before .before .args .n) (c .before .before .args .l) (c .before .if1 .taken)) refl (search needs) refl
 
--- src/lib.rt:179:16
 sub-result-2 : tie.Need-sub-result-2
 sub-result-2 c = search needs
 
--- src/lib.rt:179:16
 part-result-start-2 : tie.Need-part-result-start-2
 part-result-start-2 c = search needs
 
--- src/lib.rt:179:16
 part-result-end-2 : tie.Need-part-result-end-2
 part-result-end-2 c = search needs
 
--- src/lib.rt:179:9
 returns-2 : tie.Need-returns-2
 returns-2 c = ranged _ _ 0 0 _ (past-last (c .before .before .before .args .rooms) (c .before .before .before .args .room) (length (c .before .before .before .args .memory .now)) (c .before .before .before .args .n) (c .before .before .before .args .l) (c .before .before .if1 .left) (c .before .if2 .taken)) refl (search needs) refl
 
--- src/lib.rt:182:16
 sub-result-3 : tie.Need-sub-result-3
 sub-result-3 c = search needs
 
--- src/lib.rt:182:16
 part-result-start-3 : tie.Need-part-result-start-3
 part-result-start-3 c = search needs
 
--- src/lib.rt:182:16
 part-result-end-3 : tie.Need-part-result-end-3
 part-result-end-3 c = search needs
 
--- src/lib.rt:182:9
 returns-3 : tie.Need-returns-3
 returns-3 c = ranged _ _ 0 0 _ (over-long (c .before .before .before .before .args .rooms) (c .before .before .before .before .args .room) (length (c .before .before .before .before .args .memory .now)) (c .before .before .before .before .args .n) (c .before .before .before .before .args .l) (c .before .before .before .if1 .left) (c .before .before .if2 .left) (c .before .if3 .taken)) refl (search needs) refl
 
--- src/lib.rt:184:14
 mul-at : tie.Need-mul-at
 mul-at c =
     let s = c .before .before .before in
     omega (arith, room-inside (s .args .rooms) (s .args .room) (s .args .n) (s .args .l) (c .before .if2 .left) (c .if3 .left), room-bound (s .args .rooms) (s .args .room) (s .pre .0) (s .pre .1))
 
--- src/lib.rt:185:15
 add-end : tie.Need-add-end
 add-end c =
     let s = c .before .before .before in
     omega (arith, room-inside (s .args .rooms) (s .args .room) (s .args .n) (s .args .l) (c .before .if2 .left) (c .if3 .left), room-bound (s .args .rooms) (s .args .room) (s .pre .0) (s .pre .1))
 
--- src/lib.rt:186:5
 sub-result-4 : tie.Need-sub-result-4
 sub-result-4 c = search needs
 
--- src/lib.rt:186:5
 part-result-start-4 : tie.Need-part-result-start-4
 part-result-start-4 c = search needs
 
--- src/lib.rt:186:5
 part-result-end-4 : tie.Need-part-result-end-4
 part-result-end-4 c =
     let s = c .before .before .before in
     omega (arith, room-inside (s .args .rooms) (s .args .room) (s .args .n) (s .args .l) (c .before .if2 .left) (c .if3 .left), c .before .before .if1 .left)
 
--- src/lib.rt:171:1
 returns-4 : tie.Need-returns-4
 returns-4 c =
     let s = c .before .before .before .before in

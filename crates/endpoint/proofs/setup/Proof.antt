@@ -1,61 +1,42 @@
 use Rattle.endpoint.proofs.Calls.{setup-short, setup-mtu, setup-room, setup-ready}
-use mathlib.Core.Path.{_≡_, refl, ap, sym, _∙_}
-use native.Mathlib.Omega.{arith}
+use mathlib.Core.Path.{sym, _∙_}
 use borrow.Author.Needs.{needs}
 use Rattle.endpoint.proofs.setup.Statement.{statement}
 use Rattle.endpoint.proofs.setup.Tie as tie
-use Rattle.endpoint.proofs.setup.Reads as reads
-use Rattle.endpoint.proofs.setup.Lts as lts
-use Rattle.contexts.proofs.bad_room.Reads as bad-room-reads
-use Rattle.contexts.proofs.begin.Reads as begin-reads
-use Rattle.contexts.proofs.clear.Reads as clear-reads
-use Rattle.wire.proofs.bad_mtu.Reads as bad-mtu-reads
 
--- src/lib.rt:33:9
 returns : tie.Need-returns
 returns c = setup-short (c .before .before .args .state .now) (c .before .before .args .device) (c .before .before .args .mtu) (c .before .before .args .room) (c .if1 .taken)
 
--- src/lib.rt:35:8
 bad-mtu-requires : tie.Need-bad-mtu-requires
 bad-mtu-requires c κs = search needs
 
--- src/lib.rt:36:9
 clear-requires : tie.Need-clear-requires
 clear-requires c κs = search needs
 
--- src/lib.rt:37:9
 same-length : tie.Need-same-length
 same-length c = search needs
 
--- src/lib.rt:37:9
 returns-2 : tie.Need-returns-2
 returns-2 c = setup-mtu (c .before .before .before .before .before .before .before .before .args .state .now) (c .before .before .before .before .before .before .before .before .args .device) (c .before .before .before .before .before .before .before .before .args .mtu) (c .before .before .before .before .before .before .before .before .args .room) (c .before .before .before .before .before .before .if1 .left) _ (sym (c .before .before .before .before .before .bad-mtu .ensures) ∙ c .before .before .before .before .if2 .taken) (c .before .before .clear .ensures)
 
--- src/lib.rt:39:8
 bad-room-requires : tie.Need-bad-room-requires
 bad-room-requires c κs = search needs
 
--- src/lib.rt:40:9
 clear-requires-2 : tie.Need-clear-requires-2
 clear-requires-2 c κs = search needs
 
--- src/lib.rt:41:9
 same-length-2 : tie.Need-same-length-2
 same-length-2 c = search needs
 
--- src/lib.rt:41:9
 returns-3 : tie.Need-returns-3
 returns-3 c = setup-room (c .before .before .before .before .before .before .before .before .before .before .args .state .now) (c .before .before .before .before .before .before .before .before .before .before .args .device) (c .before .before .before .before .before .before .before .before .before .before .args .mtu) (c .before .before .before .before .before .before .before .before .before .before .args .room) (c .before .before .before .before .before .before .before .before .if1 .left) _ (sym (c .before .before .before .before .before .before .before .bad-mtu .ensures) ∙ c .before .before .before .before .before .before .if2 .left) (sym (c .before .before .before .before .before .bad-room .ensures) ∙ c .before .before .before .before .if3 .taken) (c .before .before .clear2 .ensures)
 
--- src/lib.rt:43:5
 begin-requires : tie.Need-begin-requires
 begin-requires c κs = search needs
 
--- src/lib.rt:29:1
 same-length-3 : tie.Need-same-length-3
 same-length-3 c = search needs
 
--- src/lib.rt:29:1
 returns-4 : tie.Need-returns-4
 returns-4 c = setup-ready (c .before .before .before .before .before .before .before .before .before .before .args .state .now) (c .before .before .before .before .before .before .before .before .before .before .args .device) (c .before .before .before .before .before .before .before .before .before .before .args .mtu) (c .before .before .before .before .before .before .before .before .before .before .args .room) (c .before .before .before .before .before .before .before .before .if1 .left) _ (sym (c .before .before .before .before .before .before .before .bad-mtu .ensures) ∙ c .before .before .before .before .before .before .if2 .left) (sym (c .before .before .before .before .before .bad-room .ensures) ∙ c .before .before .before .before .if3 .left) (c .before .before .begin .ensures)
 

@@ -2,49 +2,36 @@ use Rattle.endpoint.proofs.Calls.{state-there, ranged}
 use Rattle.endpoint.specs.Calls.{streamRoom}
 use Rattle.contexts.proofs.Good.{good}
 use Rattle.contexts.specs.Words.{stateOf}
-use mathlib.Core.Path.{_≡_, refl, ap, sym, _∙_}
+use mathlib.Core.Path.{refl, sym, _∙_}
 use native.Mathlib.Omega.{arith}
 use borrow.Author.Needs.{needs}
 use Rattle.endpoint.proofs.stream_room.Statement.{statement}
 use Rattle.endpoint.proofs.stream_room.Tie as tie
-use Rattle.endpoint.proofs.stream_room.Reads as reads
-use Rattle.endpoint.proofs.stream_room.Lts as lts
-use Rattle.contexts.proofs.room.Reads as room-reads
-use Rattle.endpoint.proofs.no_state.Reads as no-state-reads
-use Rattle.endpoint.proofs.room_part.Reads as room-part-reads
 
--- src/lib.rt:193:8
 no-state-requires : tie.Need-no-state-requires
 no-state-requires c κs = search needs
 
--- src/lib.rt:194:16
 sub-result : tie.Need-sub-result
 sub-result c = search needs
 
--- src/lib.rt:194:16
 part-result-start : tie.Need-part-result-start
 part-result-start c = search needs
 
--- src/lib.rt:194:16
 part-result-end : tie.Need-part-result-end
 part-result-end c = search needs
 
--- src/lib.rt:194:9
 returns : tie.Need-returns
 unfolding streamRoom
 returns c = ranged _ _ 0 0 _ (rw (sym (c .before .before .no-state .ensures) ∙ c .before .if1 .taken)) refl (search needs) refl
 
--- src/lib.rt:196:27
 room-requires : tie.Need-room-requires
 room-requires c κs = state-there (c .before .before .before .before .args .state .now) (sym (c .before .no-state .ensures) ∙ c .if1 .left) .0
 
--- src/lib.rt:196:5
 room-part-requires : tie.Need-room-part-requires
 room-part-requires c κs =
     let t = state-there (c .before .before .before .before .before .args .state .now) (sym (c .before .before .no-state .ensures) ∙ c .before .if1 .left) in
     (omega arith, rw (c .room .ensures) (good (stateOf (c .before .before .before .before .before .args .state .now)) (t .1) .room))
 
--- src/lib.rt:190:1
 returns-2 : tie.Need-returns-2
 unfolding streamRoom
 returns-2 c = rw (sym (c .before .before .before .no-state .ensures) ∙ c .before .before .if1 .left, ← c .before .room .ensures) (c .room-part .ensures)

@@ -1,15 +1,13 @@
 -- Going by cases on a test, and a table read row by row.
 use Prim.Native.Nat.{ℕ}
-use mathlib.Core.Path.{_≡_, refl, ap, _∙_}
+use mathlib.Core.Path.{_≡_, refl}
 use mathlib.Core.List.{List, [], _∷_}
 use mathlib.Core.Bool.{Bool, true, false, cond}
-use Rattle.answers.specs.Refusals.{Row, row, Leaves, Verdict, verdict}
-use Rattle.contexts.specs.Words.{stateOf, wordsOf, stateWords}
-use Rattle.contexts.proofs.Words.{words-of}
+use Rattle.answers.specs.Refusals.{Row, row, Leaves, verdict}
 use Rattle.streams.specs.Joining as stream
 use Rattle.messages.specs.Joining as message
-use Rattle.endpoint.specs.Table.{Lent, table}
-use Rattle.endpoint.specs.Read.{Left, left, leaving, accepting, outcome, reading, ofStream, ofMessage}
+use Rattle.reading.specs.Table.{Lent}
+use Rattle.reading.specs.Read.{leaving, accepting, outcome, ofStream, ofMessage}
 
 pub by-test : {P : Type 0} (b : Bool) → (b ≡ true → P) → (b ≡ false → P) → P
 by-test true yes-case no-case = yes-case refl

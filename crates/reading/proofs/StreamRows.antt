@@ -1,27 +1,25 @@
 -- A type 9 step is rows 6 to 11 of the table.
 use Prim.Native.Nat.{ℕ, _≤_, _+_}
-use mathlib.Core.Path.{_≡_, refl, ap, sym, _∙_}
-use mathlib.Core.List.{List}
+use mathlib.Core.Path.{_≡_, ap, _∙_}
 use mathlib.Core.Bool.{Bool, true, false, cond, not, _&&_}
 use native.Mathlib.Omega.{arith}
-use lib.Dec.{ltb}
 use lib.ListN.{length}
 use borrow.Author.Tests.{le-ltb}
 use Rattle.answers.specs.Refusals.{all, flowClosed}
 use Rattle.wire.specs.declared.Segment.{Segment}
 use Rattle.wire.specs.Type9.{dataLength}
 use Rattle.contexts.specs.State.{State}
-use Rattle.contexts.specs.Words.{stateOf, wordsOf, stateWords}
+use Rattle.contexts.specs.Words.{stateWords}
 use Rattle.contexts.specs.Refusal19.{namedBy19}
 use Rattle.contexts.proofs.Words.{words-of}
 use Rattle.contexts.proofs.Good.{good}
 use Rattle.streams.specs.Rows.{malformed, missized, notOpen, passesRoom, noneFree, lengthDiffers, wrongLength, total}
-use Rattle.streams.specs.Joining.{Joined, accepted, refusedClosing, refusedStaying}
+use Rattle.streams.specs.Joining.{accepted, refusedStaying}
 use Rattle.streams.specs.Step.{begun, continued, stepped}
 use Rattle.streams.proofs.Laws.{size-le}
-use Rattle.endpoint.specs.Table.{Lent, stateIn, segmentIn}
-use Rattle.endpoint.specs.Read.{Left, left, leaving, ofStream}
-use Rattle.endpoint.proofs.Cases.{by-test, choose-stream}
+use Rattle.reading.specs.Table.{Lent, stateIn, segmentIn}
+use Rattle.reading.specs.Read.{Left, leaving, ofStream}
+use Rattle.reading.proofs.Cases.{by-test, choose-stream}
 
 -- rows 8 and 11 are for continuations and ends, row 10 for starts and singles
 started-open : (s : State) (g : Segment) → g .start ≡ true → notOpen s g ≡ false

@@ -1,8 +1,6 @@
 -- The table and the code's order say the same: `reading`, by rows, is `readStep`.
-use Prim.Native.Nat.{ℕ, _%_}
-use mathlib.Core.Path.{_≡_, refl, ap, sym, _∙_}
-use mathlib.Core.List.{List}
-use mathlib.Core.Bool.{Bool, true, false, cond, not, _||_, _&&_, and-false}
+use mathlib.Core.Path.{_≡_, sym, _∙_}
+use mathlib.Core.Bool.{true, false, cond, not, _||_, _&&_}
 use lib.Dec.{eqb}
 use lib.ListN.{length}
 use borrow.Author.Tests.{eqb-true, eq-eqb, ne-eqb}
@@ -11,18 +9,17 @@ use Rattle.answers.specs.Refusals.{all, flowClosed, allERROR, allRETRY}
 use Rattle.wire.specs.Packet.{tt, packetType, destination}
 use Rattle.wire.specs.Type9.{isS, isE, xh}
 use Rattle.wire.specs.Parsed.{parsed, parsedByType, parsedStream, parsedFielded}
-use Rattle.wire.specs.declared.Parsed.{Parsed}
-use Rattle.wire.specs.declared.Parsed.the-variants.{Refused, Stream, Message}
+use Rattle.wire.specs.declared.Parsed.the-variants.{Message}
 use Rattle.contexts.specs.Words.{stateWords}
 use Rattle.contexts.specs.Refusal19.{namedBy19}
 use Rattle.streams.specs.Rows as stream
 use Rattle.messages.specs.Rows as message
-use Rattle.endpoint.specs.Table.{Lent, stateIn, segmentIn, messageIn, under, is9, is11, isState, wrongMemory, table}
-use Rattle.endpoint.specs.Read.{Left, leaving, accepting, outcome, reading}
-use Rattle.endpoint.specs.Step.{byParsed, readStep}
-use Rattle.endpoint.proofs.Cases.{by-test, by-row, by-end}
-use Rattle.endpoint.proofs.StreamRows.{stream-rows}
-use Rattle.endpoint.proofs.MessageRows.{message-rows}
+use Rattle.reading.specs.Table.{Lent, stateIn, segmentIn, messageIn, under, is9, is11, isState, wrongMemory, table}
+use Rattle.reading.specs.Read.{Left, leaving, accepting, reading}
+use Rattle.reading.specs.Step.{byParsed, readStep}
+use Rattle.reading.proofs.Cases.{by-test, by-row, by-end}
+use Rattle.reading.proofs.StreamRows.{stream-rows}
+use Rattle.reading.proofs.MessageRows.{message-rows}
 
 -- a type 9 packet is no type 11 packet
 one-type : (x : Lent) → is9 x ≡ true → is11 x ≡ false

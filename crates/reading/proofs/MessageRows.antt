@@ -1,7 +1,7 @@
 -- A type 11 step is rows 20 to 25 of the table.
 use Prim.Native.Nat.{ℕ}
-use mathlib.Core.Path.{_≡_, refl, ap, sym, _∙_}
-use mathlib.Core.Bool.{Bool, true, false, cond}
+use mathlib.Core.Path.{_≡_}
+use mathlib.Core.Bool.{cond}
 use lib.ListN.{length}
 use Rattle.answers.specs.Refusals.{allERROR, allRETRY}
 use Rattle.wire.specs.Type13.{ERROR, RETRY}
@@ -10,9 +10,9 @@ use Rattle.contexts.proofs.Words.{words-of}
 use Rattle.messages.specs.Rows.{reservedSize, wrongLength, pastLast, otherMessage, alreadyMarked, noneFree}
 use Rattle.messages.specs.Joining.{accepted, refusedWith}
 use Rattle.messages.specs.Step.{judged, joined, stepped}
-use Rattle.endpoint.specs.Table.{Lent, stateIn, messageIn}
-use Rattle.endpoint.specs.Read.{Left, leaving, ofMessage}
-use Rattle.endpoint.proofs.Cases.{by-test, choose-message}
+use Rattle.reading.specs.Table.{Lent, stateIn, messageIn}
+use Rattle.reading.specs.Read.{Left, leaving, ofMessage}
+use Rattle.reading.proofs.Cases.{by-test, choose-message}
 
 module _ (x : Lent) (whole : length (x .words) ≡ stateWords) where
   errs : (number : ℕ) → ofMessage x (refusedWith (stateIn x) (x .messages) (x .response) (x .packet) number ERROR) ≡ leaving x number allERROR

@@ -14,8 +14,8 @@ use Rattle.contexts.specs.Words.{stateOf, stateWords}
 use Rattle.contexts.specs.Refusal19.{namedBy19}
 use Rattle.streams.specs.Step as stream
 use Rattle.messages.specs.Step as message
-use Rattle.endpoint.specs.Table.{Lent, stateIn, isState, wrongMemory}
-use Rattle.endpoint.specs.Read.{Left, ofStream, ofMessage, leaving}
+use Rattle.reading.specs.Table.{Lent, stateIn, isState, wrongMemory}
+use Rattle.reading.specs.Read.{Left, ofStream, ofMessage, leaving}
 
 -- what is left by what the packet is
 abbrev pub byParsed : Lent → Parsed → Left

@@ -1,57 +1,42 @@
-use Rattle.endpoint.proofs.Packets.{stream-parsed, message-parsed, message-small}
-use Rattle.endpoint.proofs.Rows.{by-packet}
-use Rattle.endpoint.proofs.Calls.{refusing, sizes-right, stream-left, message-left}
-use Rattle.endpoint.specs.Step.{byParsed}
-use Rattle.endpoint.specs.Read.{lent}
+use Rattle.reading.proofs.Packets.{stream-parsed, message-parsed, message-small}
+use Rattle.reading.proofs.Rows.{by-packet}
+use Rattle.reading.proofs.Left.{refusing, sizes-right, stream-left, message-left}
+use Rattle.reading.specs.Step.{byParsed}
+use Rattle.reading.specs.Read.{lent}
 use Rattle.wire.specs.Parsed.{parsed}
 use lib.ListN.{getD}
 use Prim.Native.Nat.{ℕ, _<_}
 use Rattle.contexts.specs.Words.{stateOf}
-use mathlib.Core.Path.{_≡_, refl, ap, sym, _∙_}
+use mathlib.Core.Path.{ap, sym, _∙_}
 use native.Mathlib.Omega.{arith}
 use borrow.Author.Needs.{needs}
-use Rattle.endpoint.proofs.read_ready.Statement.{statement}
-use Rattle.endpoint.proofs.read_ready.Tie as tie
-use Rattle.endpoint.proofs.read_ready.Reads as reads
-use Rattle.endpoint.proofs.read_ready.Lts as lts
-use Rattle.contexts.proofs.device.Reads as device-reads
-use Rattle.endpoint.proofs.refused.Reads as refused-reads
-use Rattle.messages.proofs.step.Reads as step-reads
-use Rattle.streams.proofs.step.Reads as step-reads′
-use Rattle.wire.proofs.parse.Reads as parse-reads
+use Rattle.reading.proofs.step.Statement.{statement}
+use Rattle.reading.proofs.step.Tie as tie
 
--- src/lib.rt:82:9
 device-requires : tie.Need-device-requires
 device-requires c κs = search needs
 
--- src/lib.rt:83:11
 parse-requires : tie.Need-parse-requires
 parse-requires c κs = search needs
 
--- src/lib.rt:84:25
 enum-known-number : tie.Need-enum-known-number
 enum-known-number c = search needs
 
--- src/lib.rt:84:36
 refused-requires : tie.Need-refused-requires
 refused-requires c κs = search needs
 
--- src/lib.rt:85:24
 enum-known-g : tie.Need-enum-known-g
 enum-known-g c = search needs
 
--- src/lib.rt:85:30
 step-requires : tie.Need-step-requires
 step-requires c κs =
     let s = c .before .before .before .before .before .before .before .before .before .before .before .before .before in
     let l = stream-parsed (s .args .packet .now) _ _ (sym (c .before .before .before .before .before .parse .ensures) ∙ c .before .before .before .g .given .1) in
     record { whole = s .pre .whole; good = s .pre .good; size = s .pre .rooms; inside = l .1 }
 
--- src/lib.rt:86:25
 enum-known-m : tie.Need-enum-known-m
 enum-known-m c = search needs
 
--- src/lib.rt:87:17
 step-requires-2 : tie.Need-step-requires-2
 step-requires-2 c κs =
     let s = c .before .before .before .before .before .before .before .before .before .before .before .before .before .before in
@@ -63,11 +48,9 @@ step-requires-2 c κs =
     let k = message-small p _ l a b in
     record { whole = s .pre .whole; good = s .pre .good; size = s .pre .boxes; reply = s .pre .reply; inside = k .0; segments = k .1; number = k .2; boxes = k .3 }
 
--- src/lib.rt:72:1
 same-length : tie.Need-same-length
 same-length c = search needs
 
--- src/lib.rt:72:1
 returns : tie.Need-returns
 returns c =
     let s = c .before .before .before .before .before .before .before .before .before .before .before .before in
@@ -75,15 +58,12 @@ returns c =
     let e = (ap (λ (d : ℕ). parsed d (s .args .packet .now)) (sym (c .before .before .before .before .before .device .ensures)) ∙ (sym (c .before .before .before .before .parse .ensures) ∙ c .before .before .number .given .1)) in
     refusing x _ _ (c .refused .ensures) (sym (by-packet x (s .pre .whole) (s .pre .good) (sizes-right (stateOf (s .args .state .now)) (s .args .streams .now) (s .args .messages .now) (s .args .response .now) (s .pre .rooms) (s .pre .boxes) (s .pre .reply)) ∙ ap (byParsed x) e))
 
--- src/lib.rt:72:1
 same-length-2 : tie.Need-same-length-2
 same-length-2 c = search needs
 
--- src/lib.rt:72:1
 same-length-3 : tie.Need-same-length-3
 same-length-3 c = search needs
 
--- src/lib.rt:72:1
 returns-2 : tie.Need-returns-2
 returns-2 c =
     let s = c .before .before .before .before .before .before .before .before .before .before .before .before .before .before .before .before .before .before in
@@ -92,19 +72,15 @@ returns-2 c =
     let t = c .before .before .before .before .step in
     stream-left x _ _ (t .last .0) (t .last .1 .0) _ (t .kept .0 ∙ s .pre .whole) (t .ensures) ∙ sym (by-packet x (s .pre .whole) (s .pre .good) (sizes-right (stateOf (s .args .state .now)) (s .args .streams .now) (s .args .messages .now) (s .args .response .now) (s .pre .rooms) (s .pre .boxes) (s .pre .reply)) ∙ ap (byParsed x) e)
 
--- src/lib.rt:72:1
 same-length-4 : tie.Need-same-length-4
 same-length-4 c = search needs
 
--- src/lib.rt:72:1
 same-length-5 : tie.Need-same-length-5
 same-length-5 c = search needs
 
--- src/lib.rt:72:1
 same-length-6 : tie.Need-same-length-6
 same-length-6 c = search needs
 
--- src/lib.rt:72:1
 returns-3 : tie.Need-returns-3
 returns-3 c =
     let s = c .before .before .before .before .before .before .before .before .before .before .before .before .before .before .before .before .before .before .before .before .before in
@@ -113,8 +89,8 @@ returns-3 c =
     let t = c .before .before .before .before .before .before .step2 in
     message-left x _ (t .last .0) (t .last .1 .0) (t .last .1 .1 .0) _ (t .kept .0 ∙ s .pre .whole) (t .ensures) ∙ sym (by-packet x (s .pre .whole) (s .pre .good) (sizes-right (stateOf (s .args .state .now)) (s .args .streams .now) (s .args .messages .now) (s .args .response .now) (s .pre .rooms) (s .pre .boxes) (s .pre .reply)) ∙ ap (byParsed x) e)
 
-pub read-ready-spec : {M : Type 1} → statement M
-read-ready-spec =
+pub step-spec : {M : Type 1} → statement M
+step-spec =
     tie.close
     (tie.spec
     device-requires

@@ -1,8 +1,8 @@
 -- Reading leaves a state that 19 does not name, where it found one, with the same device, MTU and R: so a run over many packets tests the state once.
-use Prim.Native.Nat.{ℕ, _<_, _/_}
-use mathlib.Core.Path.{_≡_, refl, ap, sym, _∙_}
+use Prim.Native.Nat.{ℕ, _<_}
+use mathlib.Core.Path.{_≡_, refl, ap, _∙_}
 use mathlib.Core.List.{List}
-use mathlib.Core.Bool.{Bool, true, false, cond, not, _||_, _&&_, true≢false, false≢true}
+use mathlib.Core.Bool.{Bool, true, false, not, _||_, _&&_, true≢false, false≢true}
 use native.Mathlib.Omega.{arith}
 use lib.ListN.{length, getD, length-set}
 use Rattle.answers.specs.Refusals.{Leaves, all, flowClosed, allERROR, allRETRY, Verdict, refuse, accept, verdict, none}
@@ -17,9 +17,9 @@ use Rattle.messages.specs.Joining as message
 use Rattle.messages.specs.Rows.{messageOpen, foundFor}
 use Rattle.streams.proofs.Kept as streams
 use Rattle.messages.proofs.Kept as messages
-use Rattle.endpoint.specs.Table.{Lent, stateIn, segmentIn, messageIn, is9, is11, table}
-use Rattle.endpoint.specs.Read.{reading, outcome, leaving, Settled}
-use Rattle.endpoint.proofs.Cases.{by-test}
+use Rattle.reading.specs.Table.{Lent, stateIn, segmentIn, messageIn, is9, is11, table}
+use Rattle.reading.specs.Read.{reading, outcome, leaving, Settled}
+use Rattle.reading.proofs.Cases.{by-test}
 
 -- the words of a state with as many contexts
 record Same (s t : State) : Type 0 where

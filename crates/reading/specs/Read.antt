@@ -13,7 +13,7 @@ use Rattle.contexts.specs.Words.{stateOf, wordsOf, stateWords}
 use Rattle.contexts.specs.Refusal19.{namedBy19}
 use Rattle.streams.specs.Joining as stream
 use Rattle.messages.specs.Joining as message
-use Rattle.endpoint.specs.Table.{Lent, stateIn, segmentIn, messageIn, is9, table}
+use Rattle.reading.specs.Table.{Lent, stateIn, segmentIn, messageIn, is9, table}
 
 -- the answer, whether this packet closed an open stream context undelivered, and everything lent as it is left
 pub record Left : Type 0 where

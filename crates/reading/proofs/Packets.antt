@@ -1,22 +1,21 @@
 -- What is known of a packet that was parsed: where its data lie, and how large its fields can be.
 use Prim.Native.Nat.{ℕ, _≤_, _<_, _+_, _-_, _/_, _%_}
-use mathlib.Core.Path.{_≡_, refl, ap, sym, _∙_, subst}
+use mathlib.Core.Path.{_≡_, ap, sym, _∙_, subst}
 use mathlib.Core.List.{List}
-use mathlib.Core.Bool.{Bool, true, false, cond, _||_}
+use mathlib.Core.Bool.{true, _||_}
 use native.Mathlib.Omega.{arith}
 use lib.Dec.{eqb, ltb}
 use lib.ListN.{length, getD}
-use borrow.Author.Tests.{ltb-false, ltb-true}
+use borrow.Author.Tests.{ltb-false}
 use Rattle.wire.specs.declared.Segment.{Segment}
 use Rattle.wire.specs.declared.MessageSegment.{MessageSegment}
-use Rattle.wire.specs.declared.Parsed.{Parsed}
 use Rattle.wire.specs.declared.Parsed.the-variants.{Refused, Stream, Message}
 use Rattle.wire.specs.Packet.{tt, packetType, destination}
 use Rattle.wire.specs.Type9.{isS, isE, xh, segmentAt, segmentOf}
 use Rattle.wire.specs.Type11.{messageOf}
 use Rattle.wire.specs.Parsed.{parsed, parsedByType, parsedStream, parsedFielded}
 use Rattle.wire.proofs.Forms.{with-field, without-field}
-use Rattle.endpoint.proofs.Cases.{by-test}
+use Rattle.reading.proofs.Cases.{by-test}
 
 -- a refusal is no packet
 no-stream : {A : Type 0} (n : ℕ) (g : Segment) → Refused n ≡ Stream g → A

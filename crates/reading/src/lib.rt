@@ -1,0 +1,64 @@
+// Reading one packet, for a state and memories that rows 19 and 12 of the refusal table have passed; and row 12's test.
+use answers::Answer;
+use answers::Reading;
+use wire::Parsed;
+ghost use mathlib.Core.Path.{_≡_};
+ghost use mathlib.Core.Bool.{false};
+ghost use lib.ListN.{length};
+ghost use Rattle.contexts.specs.Words.{stateOf, stateWords};
+ghost use Rattle.contexts.specs.Refusal19.{namedBy19};
+ghost use Rattle.reading.specs.Table.{wrongSizes};
+ghost use Rattle.reading.specs.Read.{lent, ReadPromise};
+ghost use Rattle.reading.specs.Step.{Ready, Refusal};
+
+// The bytes of the message memory: 8 rooms of 4,096.
+pub const MESSAGE_MEMORY: usize = 32768;
+
+// A refusal that changes nothing.
+pub fn refused(number: usize) -> Reading
+    ensures { λ r. ⌜ Refusal number r ⌝ }
+{
+    Reading {
+        answer: Answer::Refused(number),
+        dropped: false,
+    }
+}
+
+// Row 12. Every caller has found that 19 does not name the state.
+pub fn wrong_memory(state: &[usize], streams: &[u8], messages: &[u8], response: &[u8]) -> bool
+    requires { ⌜ (length (now state) ≡ stateWords) × (namedBy19 (stateOf (now state)) ≡ false) ⌝ }
+    ensures { λ r. ⌜ r ≡ wrongSizes (stateOf (now (state .entry))) (now (streams .entry)) (now (messages .entry)) (now (response .entry)) ⌝ }
+{
+    if streams.len() != 16 * contexts::room(state) {
+        return true;
+    }
+    if messages.len() != MESSAGE_MEMORY {
+        return true;
+    }
+    response.len() < 7
+}
+
+// Reads one packet. Every caller has tested the state and the memories; a run over many packets tests them once.
+pub fn step(
+    state: &mut [usize],
+    streams: &mut [u8],
+    messages: &mut [u8],
+    response: &mut [u8],
+    packet: &[u8],
+) -> Reading
+    requires { ⌜ Ready (now state) (now streams) (now messages) (now response) ⌝ }
+    ensures { λ r. ⌜ ReadPromise (lent (now (state .entry)) (now (streams .entry)) (now (messages .entry)) (now (response .entry)) (now (packet .entry))) r (now (state .exit)) (now (streams .exit)) (now (messages .exit)) (now (response .exit)) ⌝ }
+{
+    let device = contexts::device(state);
+    match wire::parse(packet, device) {
+        Parsed::Refused(number) => refused(number),
+        Parsed::Stream(g) => streams::step(state, streams, packet, g),
+        Parsed::Message(m) => {
+            let answer = messages::step(state, messages, response, packet, m);
+            Reading {
+                answer,
+                dropped: false,
+            }
+        }
+    }
+}
