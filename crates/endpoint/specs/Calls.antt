@@ -72,8 +72,11 @@ unfoldable pub abandonMessage : List ℕ → ℕ → Stands
 abandonMessage words n =
     abandonBy words (isFreeMessage (messageIn (stateOf words) n)) (withMessage (stateOf words) n closedMessage) (verdict (abandonTable words 8 n))
 
-abbrev pub AbandonPromise : Stands → Abandoned → List ℕ → Type 0
-AbandonPromise promised r after = stands (saidOfAbandon r) after ≡ promised
+abbrev pub AbandonStreamPromise : List ℕ → ℕ → Abandoned → List ℕ → Type 0
+AbandonStreamPromise words n r after = stands (saidOfAbandon r) after ≡ abandonStream words n
+
+abbrev pub AbandonMessagePromise : List ℕ → ℕ → Abandoned → List ℕ → Type 0
+AbandonMessagePromise words n r after = stands (saidOfAbandon r) after ≡ abandonMessage words n
 
 -- ---- rooms: that part of the caller's own memory, from n R; n past the last context, l over the room, memory of another size
 -- or a state that 19 names: an empty part
@@ -103,3 +106,13 @@ pub record IsPart (memory : RefT (List ℕ)) (p : Part) (r : RefT (List ℕ)) : 
   pub block : r .ptr .0 ≡ memory .ptr .0
   pub offset : r .ptr .1 ≡ memory .ptr .1 + p .from
   pub bytes : now r ≡ take (p .size) (drop (p .from) (now memory))
+
+-- the promises of `stream_room`, `message_room` and `state_length`
+abbrev pub StreamRoomPromise : List ℕ → RefT (List ℕ) → ℕ → ℕ → RefT (List ℕ) → Type 0
+StreamRoomPromise words memory n l r = IsPart memory (streamRoom words (length (now memory)) n l) r
+
+abbrev pub MessageRoomPromise : List ℕ → RefT (List ℕ) → ℕ → ℕ → RefT (List ℕ) → Type 0
+MessageRoomPromise words memory n l r = IsPart memory (messageRoom words (length (now memory)) n l) r
+
+abbrev pub LengthPromise : ℕ → Type 0
+LengthPromise r = r ≡ stateWords

@@ -5,13 +5,12 @@ use answers::Reading;
 ghost use mathlib.Core.Path.{_≡_};
 ghost use Prim.Native.Nat.{_≤_};
 ghost use lib.ListN.{length};
-ghost use Rattle.contexts.specs.Words.{stateWords};
 ghost use Rattle.reading.specs.Read.{lent, ReadPromise};
-ghost use Rattle.endpoint.specs.Calls.{SetupPromise, AbandonPromise, abandonStream, abandonMessage, noState, roomPart, streamRoom, messageRoom, IsPart};
+ghost use Rattle.endpoint.specs.Calls.{SetupPromise, AbandonStreamPromise, AbandonMessagePromise, LengthPromise, StreamRoomPromise, MessageRoomPromise, noState, roomPart, IsPart};
 
 // The words that a state needs.
 pub fn state_length() -> usize
-    ensures { λ r. ⌜ r ≡ stateWords ⌝ }
+    ensures { λ r. ⌜ LengthPromise r ⌝ }
 {
     contexts::WORDS
 }
@@ -59,7 +58,7 @@ pub fn read(
 
 // Abandons stream context n. A free one stays as it is.
 pub fn abandon_stream(state: &mut [usize], n: usize) -> Abandoned
-    ensures { λ r. ⌜ AbandonPromise (abandonStream (now (state .entry)) n) r (now (state .exit)) ⌝ }
+    ensures { λ r. ⌜ AbandonStreamPromise (now (state .entry)) n r (now (state .exit)) ⌝ }
 {
     if state.len() != contexts::WORDS {
         return Abandoned::Refused(12);
@@ -80,7 +79,7 @@ pub fn abandon_stream(state: &mut [usize], n: usize) -> Abandoned
 
 // Abandons message context n. A free one stays as it is.
 pub fn abandon_message(state: &mut [usize], n: usize) -> Abandoned
-    ensures { λ r. ⌜ AbandonPromise (abandonMessage (now (state .entry)) n) r (now (state .exit)) ⌝ }
+    ensures { λ r. ⌜ AbandonMessagePromise (now (state .entry)) n r (now (state .exit)) ⌝ }
 {
     if state.len() != contexts::WORDS {
         return Abandoned::Refused(12);
@@ -130,7 +129,7 @@ fn room_part<'a>(memory: &'a [u8], rooms: usize, room: usize, n: usize, l: usize
 
 // The first l bytes of the room of stream context n, as a part of the caller's own memory; an empty part where there is none.
 pub fn stream_room<'a>(state: &[usize], memory: &'a [u8], n: usize, l: usize) -> &'a [u8]
-    ensures { λ r. ⌜ IsPart (memory .entry) (streamRoom (now (state .entry)) (length (now (memory .entry))) n l) r ⌝ }
+    ensures { λ r. ⌜ StreamRoomPromise (now (state .entry)) (memory .entry) n l r ⌝ }
 {
     if no_state(state) {
         return &memory[0..0];
@@ -140,7 +139,7 @@ pub fn stream_room<'a>(state: &[usize], memory: &'a [u8], n: usize, l: usize) ->
 
 // The same of message context n.
 pub fn message_room<'a>(state: &[usize], memory: &'a [u8], n: usize, l: usize) -> &'a [u8]
-    ensures { λ r. ⌜ IsPart (memory .entry) (messageRoom (now (state .entry)) (length (now (memory .entry))) n l) r ⌝ }
+    ensures { λ r. ⌜ MessageRoomPromise (now (state .entry)) (memory .entry) n l r ⌝ }
 {
     if no_state(state) {
         return &memory[0..0];

@@ -1,28 +1,26 @@
--- The refusal table decides exactly: an answer is a refusal of that number if and only if the first row whose test holds has it.
+-- The refusal tables decide exactly: one law over tables (crate answers), and that an accepted call says no refusal.
 use Prim.Native.Nat.{ℕ}
-use mathlib.Core.Path.{_≡_, refl, ap, _∙_}
+use mathlib.Core.Path.{_≡_, refl, ap}
+use mathlib.Core.List.{List}
 use mathlib.Core.Bool.{Bool, true, false, cond}
 use native.Mathlib.Omega.{arith}
-use Rattle.answers.specs.Answers.{Said, held, message, refused}
-use Rattle.answers.specs.Refusals.{Leaves, all, flowClosed, allERROR, allRETRY, Verdict, refuse, accept, verdict, Row, Decides}
-use Rattle.answers.proofs.Exactly.{answered, decided, accepted}
+use Rattle.answers.specs.Answers.{Said, held, refused}
+use Rattle.answers.specs.Refusals.{Leaves, all, flowClosed, allERROR, allRETRY, Verdict, refuse, accept, verdict, none}
+use Rattle.answers.proofs.Exactly.{answered, exactly, accepted, none-held}
 use Rattle.wire.specs.Type11.{isSingle}
+use Rattle.contexts.specs.State.{State, streamIn, messageIn as contextOf, withStream, withMessage, closedStream, closedMessage, isFreeStream, isFreeMessage}
+use Rattle.contexts.specs.Words.{stateOf}
 use Rattle.streams.specs.Joining as stream
 use Rattle.messages.specs.Joining as message
 use Rattle.messages.specs.Rows.{messageOpen}
 use Rattle.reading.specs.Table.{Lent, stateIn, segmentIn, messageIn, is9, table}
 use Rattle.reading.specs.Read.{Left, reading, outcome, leaving, accepting}
-use Rattle.promises.specs.Statements.{RefusedExactly, AcceptedExactly}
+use Rattle.segments.specs.Cutting.{packetOf}
+use Rattle.segments.specs.Writer.{writerTable, writing, wroteBy}
+use Rattle.endpoint.specs.Calls.{Stands, setupTable, setup, setupBy, abandonTable, abandonBy, abandonStream, abandonMessage}
+use Rattle.promises.specs.Statements.{RefusedExactly, RowLeaves, AcceptedExactly, AcceptedLeaves, SetupExactly, AbandonStreamExactly, AbandonMessageExactly, WriterExactly}
 
--- a refusal says its number, whatever it leaves
-number-said : (x : Lent) (number : ℕ) (leaves : Leaves) → leaving x number leaves .says ≡ refused number
-unfolding stream.refusedClosing
-number-said x number all = refl
-number-said x number flowClosed = refl
-number-said x number allERROR = refl
-number-said x number allRETRY = refl
-
--- what is held or delivered is no refusal
+-- what is said is no refusal
 abbrev no-refusal : Said → Type 0
 no-refusal says = (number : ℕ) → says ≡ refused number → ⊥
 
@@ -34,13 +32,22 @@ chosen : {A : Type 0} (P : A → Type 0) (b : Bool) (x y : A) → P x → P y �
 chosen P true x y a b = a
 chosen P false x y a b = b
 
+-- ---- reading
+number-said : (x : Lent) (number : ℕ) (leaves : Leaves) → leaving x number leaves .says ≡ refused number
+unfolding stream.refusedClosing
+number-said x number all = refl
+number-said x number flowClosed = refl
+number-said x number allERROR = refl
+number-said x number allRETRY = refl
+
 stream-no : (x : Lent) → no-refusal (stream.accepted (stateIn x) (x .streams) (x .packet) (segmentIn x) .says)
 unfolding stream.accepted stream.placed
 stream-no x = chosen no-refusal (segmentIn x .end) _ held (λ number e. let z : _≡_ {A = ℕ} 0 1 = cc in omega arith) held-no
 
 placed-no : (x : Lent) (n marks last : ℕ) → no-refusal (message.placed (stateIn x) (x .messages) (x .response) (x .packet) (messageIn x) n marks last .says)
 unfolding message.placed
-placed-no x n marks last = chosen no-refusal (message.complete (messageIn x) (message.marksWith (messageIn x) marks)) _ held (λ number e. let z : _≡_ {A = ℕ} 0 1 = cc in omega arith) held-no
+placed-no x n marks last =
+    chosen no-refusal (message.complete (messageIn x) (message.marksWith (messageIn x) marks)) _ held (λ number e. let z : _≡_ {A = ℕ} 0 1 = cc in omega arith) held-no
 
 message-no : (x : Lent) → no-refusal (message.accepted (stateIn x) (x .messages) (x .response) (x .packet) (messageIn x) .says)
 unfolding message.accepted message.alone
@@ -53,23 +60,51 @@ accepted-no x = chosen (λ (l : Left). no-refusal (l .says)) (is9 x) _ _ (stream
 
 pub refused-exactly : RefusedExactly
 unfolding reading
-refused-exactly x number = (to, from)
-  where
-    by-verdict : (v : Verdict) → verdict (table x) ≡ v → outcome x v .says ≡ refused number → (r : Row) × Decides (table x) r × (r .number ≡ number)
-    by-verdict (refuse n leaves) e s =
-        let d = decided (table x) n leaves e in
-        let same : n ≡ number = cc (number-said x n leaves) in
-        (d .0, d .1, d .2 ∙ same)
-    by-verdict accept e s = absurd (accepted-no x number s)
+refused-exactly x number = exactly (λ (v : Verdict). outcome x v .says) (number-said x) (accepted-no x) (table x) number
 
-    to : reading x .says ≡ refused number → (r : Row) × Decides (table x) r × (r .number ≡ number)
-    to s = by-verdict (verdict (table x)) refl s
+pub row-leaves : RowLeaves
+unfolding reading
+row-leaves x r d = ap (outcome x) (answered (table x) r d)
 
-    from : (r : Row) × Decides (table x) r × (r .number ≡ number) → reading x .says ≡ refused number
-    from w =
-        ap (λ (v : Verdict). outcome x v .says) (answered (table x) (w .0) (w .1))
-        ∙ (number-said x (w .0 .number) (w .0 .leaves) ∙ ap refused (w .2))
+pub accepted-leaves : AcceptedLeaves
+unfolding reading
+accepted-leaves x n = ap (outcome x) (accepted (table x) n)
 
 pub accepted-exactly : AcceptedExactly
 unfolding reading
-accepted-exactly x n = ap (outcome x) (accepted (table x) n)
+accepted-exactly x = (λ n number e. accepted-no x number (rw (accepted (table x) n) at e), λ f. by-verdict (verdict (table x)) refl f)
+  where
+    by-verdict : (v : Verdict) → verdict (table x) ≡ v → no-refusal (outcome x v .says) → none (table x)
+    by-verdict (refuse number leaves) e f = absurd (f number (number-said x number leaves))
+    by-verdict accept e f = none-held (table x) e
+
+-- ---- setup
+pub setup-exactly : SetupExactly
+unfolding setup
+setup-exactly words device mtu room number =
+    exactly (λ v. setupBy words device mtu room v .says) (λ n l. refl) (λ n e. let z : _≡_ {A = ℕ} 0 1 = cc in omega arith) (setupTable words mtu room) number
+
+-- ---- abandoning
+accepted-free : (words : List ℕ) (isFree : Bool) (after : State) → no-refusal (abandonBy words isFree after accept .says)
+accepted-free words isFree after =
+    chosen (λ (l : Stands). no-refusal (l .says)) isFree _ _ (λ n e. let z : _≡_ {A = ℕ} 0 1 = cc in omega arith) (λ n e. let z : _≡_ {A = ℕ} 0 1 = cc in omega arith)
+
+pub abandon-stream-exactly : AbandonStreamExactly
+unfolding abandonStream
+abandon-stream-exactly words n number =
+    let isFree = isFreeStream (streamIn (stateOf words) n) in
+    let after = withStream (stateOf words) n closedStream in
+    exactly (λ (v : Verdict). abandonBy words isFree after v .says) (λ k l. refl) (accepted-free words isFree after) (abandonTable words 16 n) number
+
+pub abandon-message-exactly : AbandonMessageExactly
+unfolding abandonMessage
+abandon-message-exactly words n number =
+    let isFree = isFreeMessage (contextOf (stateOf words) n) in
+    let after = withMessage (stateOf words) n closedMessage in
+    exactly (λ (v : Verdict). abandonBy words isFree after v .says) (λ k l. refl) (accepted-free words isFree after) (abandonTable words 8 n) number
+
+-- ---- the writer
+pub writer-exactly : WriterExactly
+unfolding writing
+writer-exactly out h mtu pdu k number =
+    exactly (λ (v : Verdict). wroteBy out (packetOf h mtu pdu k) v .says) (λ n l. refl) (λ n e. let z : _≡_ {A = ℕ} 0 1 = cc in omega arith) (writerTable out h mtu pdu k) number

@@ -1,6 +1,67 @@
--- Every packet leaves a state that 19 does not name, where it finds one (shown by cases on the verdict, crate endpoint).
-use Rattle.reading.proofs.Kept.{stays-good}
-use Rattle.promises.specs.Statements.{StaysGood}
+-- Good states: setup makes one, and reading and abandoning leave one.
+use Prim.Native.Nat.{ℕ}
+use mathlib.Core.Path.{_≡_, refl, ap, sym, _∙_, subst}
+use mathlib.Core.List.{List}
+use mathlib.Core.Bool.{Bool, true, false}
+use native.Mathlib.Omega.{arith}
+use lib.ListN.{length-set}
+use Rattle.lists.specs.First.{firstOf, any}
+use Rattle.answers.specs.Refusals.{Verdict, VerdictOf, refuse, accept, verdict, none}
+use Rattle.answers.specs.Answers.{ready, refused}
+use Rattle.answers.proofs.Exactly.{none-held}
+use Rattle.wire.specs.Type9.{badMTU}
+use Rattle.contexts.specs.State.{State, fresh, withStream, withMessage, closedStream, closedMessage, isFreeStream, isFreeMessage}
+use Rattle.contexts.specs.Words.{stateOf, wordsOf}
+use Rattle.contexts.specs.Refusal19.{badRoom, badStream, badMessage, namedBy19}
+use Rattle.contexts.proofs.Words.{state-of, length-words}
+use Rattle.contexts.proofs.Kept.{stream-kept, message-kept, closed-stream, closed-message}
+use Rattle.reading.specs.Good.{GoodWords, StillGood}
+use Rattle.reading.proofs.Kept.{settled, unchanged, stays-good}
+use Rattle.endpoint.specs.Calls.{Stands, stands, SetupLeaves, setupTable, setup, setupBy, abandonTable, abandonBy, abandonStream, abandonMessage}
+use Rattle.promises.specs.Statements.{SetupGood, ReadGood, AbandonStreamGood, AbandonMessageGood}
 
-pub left-good : StaysGood
-left-good x whole fine bytes = stays-good x whole fine (bytes 5)
+pub read-good : ReadGood
+read-good x g bytes = stays-good x (g .whole) (g .good) (bytes 5)
+
+-- ---- setup
+fresh-good : (device mtu room : ℕ) → badMTU mtu ≡ false → badRoom mtu room ≡ false → namedBy19 (fresh device mtu room) ≡ false
+unfolding namedBy19 any firstOf badStream badMessage isFreeStream isFreeMessage
+fresh-good device mtu room m r = rw (m, r)
+
+good-words : (device mtu room : ℕ) → namedBy19 (fresh device mtu room) ≡ false → GoodWords (wordsOf (fresh device mtu room))
+good-words device mtu room g = record { whole = length-words (fresh device mtu room) refl refl; good = ap namedBy19 (state-of (fresh device mtu room) refl refl) ∙ g }
+
+passed : (words : List ℕ) (device mtu room : ℕ) → none (setupTable words mtu room) → GoodWords (wordsOf (fresh device mtu room))
+unfolding none setupTable
+passed words device mtu room n = good-words device mtu room (fresh-good device mtu room (n .1 .0) (n .1 .1 .0))
+
+pub setup-good : SetupGood
+unfolding setup
+setup-good words device mtu room after p = by-verdict (verdict (setupTable words mtu room)) refl p
+  where
+    by-verdict : (v : VerdictOf SetupLeaves) → verdict (setupTable words mtu room) ≡ v
+        → stands ready after ≡ setupBy words device mtu room v → GoodWords after
+    by-verdict (refuse number leaves) e p =
+        let says : ready ≡ refused number = ap (λ (s : Stands). s .says) p in
+        absurd (let z : _≡_ {A = ℕ} 0 1 = cc in omega arith)
+    by-verdict accept e p = subst GoodWords (sym (ap (λ (s : Stands). s .words) p)) (passed words device mtu room (none-held (setupTable words mtu room) e))
+
+-- ---- abandoning
+by-verdict : (words : List ℕ) (isFree : Bool) (after : State) (v : Verdict) → GoodWords words → StillGood (stateOf words) (wordsOf after) → StillGood (stateOf words) (abandonBy words isFree after v .words)
+by-verdict words isFree after (refuse number leaves) g a = unchanged words (g .whole) (g .good)
+by-verdict words true after accept g a = unchanged words (g .whole) (g .good)
+by-verdict words false after accept g a = a
+
+pub abandon-stream-good : AbandonStreamGood
+unfolding abandonStream
+abandon-stream-good words n g =
+    by-verdict words _ _ (verdict (abandonTable words 16 n)) g
+    (settled words (withStream (stateOf words) n closedStream) (record { device = refl; mtu = refl; room = refl; streams = simp length-set; messages = refl })
+    (stream-kept (stateOf words) n closedStream (g .good) (closed-stream (stateOf words .room))))
+
+pub abandon-message-good : AbandonMessageGood
+unfolding abandonMessage
+abandon-message-good words n g =
+    by-verdict words _ _ (verdict (abandonTable words 8 n)) g
+    (settled words (withMessage (stateOf words) n closedMessage) (record { device = refl; mtu = refl; room = refl; streams = refl; messages = simp length-set })
+    (message-kept (stateOf words) n closedMessage (g .good) closed-message))

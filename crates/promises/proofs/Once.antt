@@ -1,13 +1,18 @@
 -- Any two outcomes that a promise allows are one: each promise is an equation, and an answer is determined by what it says.
 use mathlib.Core.Path.{_≡_, ap, ap₂, sym, _∙_}
 use mathlib.Core.Bool.{Bool}
+use mathlib.Core.List.{List}
+use denote.Ref.{RefT}
 use Rattle.answers.specs.declared.Answer.{Answer}
 use Rattle.answers.specs.declared.Reading.{Reading}
+use Rattle.answers.specs.declared.Abandoned.{Abandoned}
+use Rattle.answers.specs.Answers.{saidOfAbandon}
 use Rattle.answers.proofs.Once.{said-once, setup-once, abandon-once, writer-once}
 use Rattle.segments.specs.Writer.{Wrote}
 use Rattle.reading.specs.Read.{Left}
-use Rattle.endpoint.specs.Calls.{Stands}
-use Rattle.promises.specs.Statements.{ReadOnce, SetupOnce, AbandonOnce, WriteOnce, RoomOnce, NumberOnce}
+use Rattle.endpoint.specs.Calls.{Stands, stands, Part, IsPart}
+use Rattle.promises.specs.Statements.{ReadOnce, SetupOnce, AbandonStreamOnce, AbandonMessageOnce, SameRoom, StreamRoomOnce, MessageRoomOnce, LengthOnce, CountOnce, WriteOnce}
+use Prim.Native.Nat.{ℕ}
 
 abbrev made : Answer → Bool → Reading
 made answer dropped = record { answer = answer; dropped = dropped }
@@ -30,18 +35,34 @@ once-set-up words device mtu room r r′ after after′ p q =
     let e = p ∙ sym q in
     (setup-once r r′ (ap (λ (l : Stands). l .says) e), ap (λ (l : Stands). l .words) e)
 
-pub once-abandoned : AbandonOnce
-once-abandoned promised r r′ after after′ p q =
+-- of either kind of context
+abandoned : (promised : Stands) (r r′ : Abandoned) (after after′ : List ℕ) → stands (saidOfAbandon r) after ≡ promised → stands (saidOfAbandon r′) after′ ≡ promised → (r ≡ r′) × (after ≡ after′)
+abandoned promised r r′ after after′ p q =
     let e = p ∙ sym q in
     (abandon-once r r′ (ap (λ (l : Stands). l .says) e), ap (λ (l : Stands). l .words) e)
+
+pub once-abandoned-stream : AbandonStreamOnce
+once-abandoned-stream words n = abandoned _
+
+pub once-abandoned-message : AbandonMessageOnce
+once-abandoned-message words n = abandoned _
+
+room : (memory : RefT (List ℕ)) (p : Part) (r r′ : RefT (List ℕ)) → IsPart memory p r → IsPart memory p r′ → SameRoom r r′
+room memory p r r′ a b = (a .block ∙ sym (b .block), a .offset ∙ sym (b .offset), a .bytes ∙ sym (b .bytes))
+
+pub once-a-stream-room : StreamRoomOnce
+once-a-stream-room words memory n l = room memory _
+
+pub once-a-message-room : MessageRoomOnce
+once-a-message-room words memory n l = room memory _
+
+pub once-a-length : LengthOnce
+once-a-length r r′ p q = p ∙ sym q
+
+pub once-a-count : CountOnce
+once-a-count mtu size r r′ p q = p ∙ sym q
 
 pub once-written : WriteOnce
 once-written out h mtu pdu k r r′ after after′ p q =
     let e = p ∙ sym q in
     (writer-once r r′ (ap (λ (l : Wrote). l .says) e), ap (λ (l : Wrote). l .out) e)
-
-pub once-a-room : RoomOnce
-once-a-room memory p r r′ a b = (a .block ∙ sym (b .block), a .offset ∙ sym (b .offset), a .bytes ∙ sym (b .bytes))
-
-pub once-a-number : NumberOnce
-once-a-number promised r r′ p q = p ∙ sym q

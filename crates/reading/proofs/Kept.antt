@@ -18,18 +18,19 @@ use Rattle.messages.specs.Rows.{messageOpen, foundFor}
 use Rattle.streams.proofs.Kept as streams
 use Rattle.messages.proofs.Kept as messages
 use Rattle.reading.specs.Table.{Lent, stateIn, segmentIn, messageIn, is9, is11, table}
-use Rattle.reading.specs.Read.{reading, outcome, leaving, Settled}
+use Rattle.reading.specs.Read.{reading, outcome, leaving}
+use Rattle.reading.specs.Good.{StillGood}
 use Rattle.reading.proofs.Cases.{by-test}
 
 -- the words of a state with as many contexts
-record Same (s t : State) : Type 0 where
-  device : t .device ≡ s .device
-  mtu : t .mtu ≡ s .mtu
-  room : t .room ≡ s .room
-  streams : length (t .streams) ≡ length (s .streams)
-  messages : length (t .messages) ≡ length (s .messages)
+pub record Same (s t : State) : Type 0 where
+  pub device : t .device ≡ s .device
+  pub mtu : t .mtu ≡ s .mtu
+  pub room : t .room ≡ s .room
+  pub streams : length (t .streams) ≡ length (s .streams)
+  pub messages : length (t .messages) ≡ length (s .messages)
 
-settled : (w : List ℕ) (t : State) → Same (stateOf w) t → namedBy19 t ≡ false → Settled (stateOf w) (wordsOf t)
+pub settled : (w : List ℕ) (t : State) → Same (stateOf w) t → namedBy19 t ≡ false → StillGood (stateOf w) (wordsOf t)
 settled w t e g =
     let back : stateOf (wordsOf t) ≡ t = state-of t (e .streams ∙ sixteen w) (e .messages ∙ eight w) in
     record {
@@ -40,7 +41,7 @@ settled w t e g =
       room = ap (λ (s : State). s .room) back ∙ e .room;
     }
 
-unchanged : (w : List ℕ) → length w ≡ stateWords → namedBy19 (stateOf w) ≡ false → Settled (stateOf w) w
+pub unchanged : (w : List ℕ) → length w ≡ stateWords → namedBy19 (stateOf w) ≡ false → StillGood (stateOf w) w
 unchanged w l g = record { whole = l; good = g; device = refl; mtu = refl; room = refl }
 
 module _ (x : Lent) where
@@ -78,7 +79,7 @@ module _ (x : Lent) where
   of-type false b t e = absurd (false≢true t)
 
   module _ (whole : length (x .words) ≡ stateWords) (fine : namedBy19 (stateIn x) ≡ false) (small : getD (x .packet) 5 0 < 256) where
-    stream-settled : Passed → is9 x ≡ true → Settled (stateIn x) (wordsOf (stream.accepted (stateIn x) (x .streams) (x .packet) (segmentIn x) .state))
+    stream-settled : Passed → is9 x ≡ true → StillGood (stateIn x) (wordsOf (stream.accepted (stateIn x) (x .streams) (x .packet) (segmentIn x) .state))
     unfolding none table
     stream-settled n t =
         settled (x .words) _ stream-same
@@ -94,7 +95,7 @@ module _ (x : Lent) where
     other-type false true e f = refl
     other-type false false e f = absurd (true≢false e)
 
-    message-settled : Passed → is9 x ≡ false → Settled (stateIn x) (wordsOf (message.accepted (stateIn x) (x .messages) (x .response) (x .packet) (messageIn x) .state))
+    message-settled : Passed → is9 x ≡ false → StillGood (stateIn x) (wordsOf (message.accepted (stateIn x) (x .messages) (x .response) (x .packet) (messageIn x) .state))
     unfolding none table
     message-settled n f =
         let t : is11 x ≡ true = other-type (is9 x) (is11 x) (n .1 .1 .1 .1 .1 .0) f in
@@ -102,17 +103,17 @@ module _ (x : Lent) where
         (messages.accepted-kept (stateIn x) (x .messages) (x .response) (x .packet) (messageIn x) fine (eight (x .words)) few (of-type (is11 x) _ t (n .1 .1 .1 .1 .1 .1 .1 .1 .1 .1 .1 .1 .1 .1 .1 .0))
         (of-type (is11 x) _ t (n .1 .1 .1 .1 .1 .1 .1 .1 .1 .1 .1 .1 .1 .1 .1 .1 .0)) (of-type (is11 x) _ t (n .1 .1 .1 .1 .1 .1 .1 .1 .1 .1 .1 .1 .1 .1 .1 .1 .1 .0)) (of-type (is11 x) _ t (n .1 .1 .1 .1 .1 .1 .1 .1 .1 .1 .1 .1 .1 .1 .1 .1 .1 .1 .0)) (of-type (is11 x) _ t (n .1 .1 .1 .1 .1 .1 .1 .1 .1 .1 .1 .1 .1 .1 .1 .1 .1 .1 .1 .0)))
 
-    pub stays-good : Settled (stateIn x) (reading x .words)
+    pub stays-good : StillGood (stateIn x) (reading x .words)
     unfolding reading
     stays-good = by-verdict (verdict (table x)) refl
       where
-        by-leaves : (number : ℕ) (leaves : Leaves) → Settled (stateIn x) (leaving x number leaves .words)
+        by-leaves : (number : ℕ) (leaves : Leaves) → StillGood (stateIn x) (leaving x number leaves .words)
         by-leaves number all = unchanged (x .words) whole fine
         by-leaves number flowClosed = settled (x .words) _ (closing-same number) (streams.closing-kept (stateIn x) (x .streams) (x .packet) (segmentIn x) fine number)
         by-leaves number allERROR = unchanged (x .words) whole fine
         by-leaves number allRETRY = unchanged (x .words) whole fine
 
-        by-verdict : (v : Verdict) → verdict (table x) ≡ v → Settled (stateIn x) (outcome x v .words)
+        by-verdict : (v : Verdict) → verdict (table x) ≡ v → StillGood (stateIn x) (outcome x v .words)
         by-verdict (refuse number leaves) e = by-leaves number leaves
         by-verdict accept e =
             by-test (is9 x)

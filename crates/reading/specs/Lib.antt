@@ -1,3 +1,4 @@
 pub mod Table
 pub mod Read
+pub mod Good
 pub mod Step

@@ -3,14 +3,11 @@ use Prim.Native.Nat.{ℕ}
 use mathlib.Core.Path.{_≡_}
 use mathlib.Core.List.{List}
 use mathlib.Core.Bool.{Bool, false, cond}
-use lib.ListN.{length}
 use Rattle.answers.specs.Answers.{Said, said, refused}
 use Rattle.answers.specs.declared.Reading.{Reading}
 use Rattle.answers.specs.Refusals.{Leaves, all, flowClosed, allERROR, allRETRY, Verdict, refuse, accept, verdict}
 use Rattle.wire.specs.Type13.{ERROR, RETRY, answered}
-use Rattle.contexts.specs.State.{State}
-use Rattle.contexts.specs.Words.{stateOf, wordsOf, stateWords}
-use Rattle.contexts.specs.Refusal19.{namedBy19}
+use Rattle.contexts.specs.Words.{wordsOf}
 use Rattle.streams.specs.Joining as stream
 use Rattle.messages.specs.Joining as message
 use Rattle.reading.specs.Table.{Lent, stateIn, segmentIn, messageIn, is9, table}
@@ -49,7 +46,7 @@ leaving x number flowClosed = ofStream x (stream.refusedClosing (stateIn x) (x .
 leaving x number allERROR = left (refused number) false (x .words) (x .streams) (x .messages) (answered (x .response) (x .packet) ERROR)
 leaving x number allRETRY = left (refused number) false (x .words) (x .streams) (x .messages) (answered (x .response) (x .packet) RETRY)
 
--- an accepted packet
+-- an accepted packet: of type 9, else of type 11, since row 4 has passed
 abbrev pub accepting : Lent → Left
 accepting x =
     cond (is9 x)
@@ -70,11 +67,3 @@ lent words streams messages response packet = record { words = words; streams = 
 -- the promise of `read`
 abbrev pub ReadPromise : Lent → Reading → List ℕ → List ℕ → List ℕ → List ℕ → Type 0
 ReadPromise x r words streams messages response = left (said (r .answer)) (r .dropped) words streams messages response ≡ reading x
-
--- words that are a state which 19 does not name, with another state's device, MTU and R
-pub record Settled (s : State) (words : List ℕ) : Type 0 where
-  pub whole : length words ≡ stateWords
-  pub good : namedBy19 (stateOf words) ≡ false
-  pub device : stateOf words .device ≡ s .device
-  pub mtu : stateOf words .mtu ≡ s .mtu
-  pub room : stateOf words .room ≡ s .room

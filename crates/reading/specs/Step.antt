@@ -2,7 +2,7 @@
 use Prim.Native.Nat.{ℕ, _≤_, _*_}
 use mathlib.Core.Path.{_≡_}
 use mathlib.Core.List.{List}
-use mathlib.Core.Bool.{Bool, false, cond}
+use mathlib.Core.Bool.{false, cond}
 use lib.ListN.{length}
 use Rattle.answers.specs.Answers.{said, refused}
 use Rattle.answers.specs.declared.Reading.{Reading}

@@ -1,11 +1,13 @@
 -- The segment writer: its refusals in the paper's order, what it answers and what it leaves (document 01, after the table).
 use Prim.Native.Nat.{ℕ}
+use mathlib.Core.Path.{_≡_}
 use mathlib.Core.List.{List, [], _∷_}
 use mathlib.Core.Bool.{Bool, cond, not, _||_}
 use lib.ListN.{length}
 use lib.Dec.{eqb, ltb}
 use Rattle.lists.specs.Bytes.{written}
-use Rattle.answers.specs.Answers.{Said, refused, wrote}
+use Rattle.answers.specs.declared.Written.{Written}
+use Rattle.answers.specs.Answers.{Said, refused, wrote, saidOfWriter}
 use Rattle.answers.specs.Refusals.{Row, row, all, Verdict, refuse, accept, verdict}
 use Rattle.wire.specs.Type9.{badMTU}
 use Rattle.segments.specs.declared.Heading.{Heading}
@@ -44,3 +46,11 @@ writing out h mtu pdu k = wroteBy out (packetOf h mtu pdu k) (verdict (writerTab
 -- the number of segments of a PDU; 0 where the writer would refuse the MTU or the length
 unfoldable pub countOf : ℕ → ℕ → ℕ
 countOf mtu size = cond (badMTU mtu) 0 (cond (badSize size) 0 (segmentCount mtu size))
+
+-- the promise of `write_segment`
+abbrev pub WritePromise : List ℕ → Heading → ℕ → List ℕ → ℕ → Written → List ℕ → Type 0
+WritePromise out h mtu pdu k r after = wroteOf (saidOfWriter r) after ≡ writing out h mtu pdu k
+
+-- the promise of `segment_count`
+abbrev pub CountPromise : ℕ → ℕ → ℕ → Type 0
+CountPromise mtu size r = r ≡ countOf mtu size

@@ -10,7 +10,7 @@ ghost use Rattle.lists.specs.Bytes.{high, low, written};
 ghost use Rattle.answers.specs.Answers.{saidOfWriter};
 ghost use Rattle.answers.specs.Refusals.{row, all, verdict};
 ghost use Rattle.segments.specs.Cutting.{segmentCount, flagsOf, padOf, packetOf};
-ghost use Rattle.segments.specs.Writer.{badSize, wroteOf, wroteBy, writing, countOf};
+ghost use Rattle.segments.specs.Writer.{badSize, wroteOf, wroteBy, WritePromise, CountPromise};
 
 // Who sends to whom, under which class of service, stream and priority.
 pub struct Heading {
@@ -41,7 +41,7 @@ fn count_of(mtu: usize, size: usize) -> usize
 
 // The number of segments of a PDU of `length` bytes; 0 where the writer would refuse the MTU or the length.
 pub fn segment_count(mtu: usize, length: usize) -> usize
-    ensures { λ r. ⌜ r ≡ countOf mtu length ⌝ }
+    ensures { λ r. ⌜ CountPromise mtu length r ⌝ }
 {
     if wire::bad_mtu(mtu) {
         return 0;
@@ -184,7 +184,7 @@ pub fn write_segment(
     pdu: &[u8],
     number: usize,
 ) -> Written
-    ensures { λ r. ⌜ wroteOf (saidOfWriter r) (now (out .exit)) ≡ writing (now (out .entry)) heading mtu (now (pdu .entry)) number ⌝ }
+    ensures { λ r. ⌜ WritePromise (now (out .entry)) heading mtu (now (pdu .entry)) number r (now (out .exit)) ⌝ }
 {
     if wire::bad_mtu(mtu) {
         return Written::Refused(18);
