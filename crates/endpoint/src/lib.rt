@@ -37,12 +37,12 @@ pub fn setup(state: &mut [usize], device: u16, mtu: usize, room: usize) -> Begun
 // Reads one packet.
 pub fn read(
     state: &mut [usize],
-    streams: &mut [u8],
-    messages: &mut [u8],
+    stream_memory: &mut [u8],
+    message_memory: &mut [u8],
     response: &mut [u8],
     packet: &[u8],
 ) -> Reading
-    ensures { λ r. ⌜ ReadPromise (lent (now (state .entry)) (now (streams .entry)) (now (messages .entry)) (now (response .entry)) (now (packet .entry))) r (now (state .exit)) (now (streams .exit)) (now (messages .exit)) (now (response .exit)) ⌝ }
+    ensures { λ r. ⌜ ReadPromise (lent (now (state .entry)) (now («stream_memory» .entry)) (now («message_memory» .entry)) (now (response .entry)) (now (packet .entry))) r (now (state .exit)) (now («stream_memory» .exit)) (now («message_memory» .exit)) (now (response .exit)) ⌝ }
 {
     if state.len() != contexts::WORDS {
         return reading::refused(12);
@@ -50,10 +50,10 @@ pub fn read(
     if contexts::named_by_19(state) {
         return reading::refused(19);
     }
-    if reading::wrong_memory(state, streams, messages, response) {
+    if reading::wrong_memory(state, stream_memory, message_memory, response) {
         return reading::refused(12);
     }
-    reading::step(state, streams, messages, response, packet)
+    reading::step(state, stream_memory, message_memory, response, packet)
 }
 
 // Abandons stream context n. A free one stays as it is.

@@ -25,7 +25,7 @@ use Rattle.contexts.proofs.Words.{eight}
 use Rattle.contexts.proofs.Good.{Message, good, message-found}
 use Rattle.messages.specs.Rows.{foundFor, messageOpen, reservedSize, wrongLength, pastLast, otherMessage, alreadyMarked, noneFree}
 use Rattle.messages.specs.Joining.{joining, alone, dataOf, marksWith, lastWith, placed, accepted, refusedWith}
-use Rattle.messages.specs.Step.{judged, joined, stepped, Sound, Kept, Replied}
+use Rattle.messages.specs.Step.{judged, matched, stepped, Sound, Kept, Replied}
 
 -- ---- numbers that stay inside
 
@@ -117,12 +117,12 @@ module _ (s : State) (memory response p : List ℕ) (m : MessageSegment) where
     unfolding otherMessage alreadyMarked
     never = (rw none-open, rw none-open)
 
-    pub alone-none : {says : Said} {after : List ℕ} → 8 ≤ freeMessage s → Replied response p 25 RETRY says after → joining says s memory after ≡ joined s memory response p m
-    unfolding joined noneFree
+    pub alone-none : {says : Said} {after : List ℕ} → 8 ≤ freeMessage s → Replied response p 25 RETRY says after → joining says s memory after ≡ matched s memory response p m
+    unfolding matched noneFree
     alone-none h r = replying s memory response p 25 RETRY _ _ r ∙ rw (never .0, never .1, none-open, le-ltb (freeMessage s) 8 h)
 
-    pub alone-taken : freeMessage s < 8 → alone s memory response p m (freeMessage s) ≡ joined s memory response p m
-    unfolding joined noneFree accepted
+    pub alone-taken : freeMessage s < 8 → alone s memory response p m (freeMessage s) ≡ matched s memory response p m
+    unfolding matched noneFree accepted
     alone-taken h = rw (never .0, never .1, none-open, lt-ltb (freeMessage s) 8 h, t)
 
   -- one of several
@@ -151,25 +151,25 @@ module _ (s : State) (memory response p : List ℕ) (m : MessageSegment) where
       unfolding noneFree
       free-is = rw opened
 
-      pub join-msglen : {says : Said} {after : List ℕ} → (c .msglen ≡ m .msglen → ⊥) → Replied response p 23 ERROR says after → joining says s memory after ≡ joined s memory response p m
-      unfolding joined
+      pub join-msglen : {says : Said} {after : List ℕ} → (c .msglen ≡ m .msglen → ⊥) → Replied response p 23 ERROR says after → joining says s memory after ≡ matched s memory response p m
+      unfolding matched
       join-msglen d r = replying s memory response p 23 ERROR _ _ r ∙ rw (other-is, ne-eqb (c .msglen) (m .msglen) d)
 
-      pub join-ssize : {says : Said} {after : List ℕ} → (c .ssize ≡ m .ssize → ⊥) → Replied response p 23 ERROR says after → joining says s memory after ≡ joined s memory response p m
-      unfolding joined
+      pub join-ssize : {says : Said} {after : List ℕ} → (c .ssize ≡ m .ssize → ⊥) → Replied response p 23 ERROR says after → joining says s memory after ≡ matched s memory response p m
+      unfolding matched
       join-ssize d r = replying s memory response p 23 ERROR _ _ r ∙ rw (other-is, ne-eqb (c .ssize) (m .ssize) d, or-true (not (eqb (c .msglen) (m .msglen))))
 
       module _ (l : c .msglen ≡ m .msglen) (z : c .ssize ≡ m .ssize) where
         not-other : otherMessage s m ≡ false
         not-other = other-is ∙ rw (eq-eqb (c .msglen) (m .msglen) l, eq-eqb (c .ssize) (m .ssize) z)
 
-        pub join-marked : {says : Said} {after : List ℕ} → marked (c .marks) (m .msgseg) ≡ true → Replied response p 24 ERROR says after → joining says s memory after ≡ joined s memory response p m
-        unfolding joined
+        pub join-marked : {says : Said} {after : List ℕ} → marked (c .marks) (m .msgseg) ≡ true → Replied response p 24 ERROR says after → joining says s memory after ≡ matched s memory response p m
+        unfolding matched
         join-marked d r = replying s memory response p 24 ERROR _ _ r ∙ rw (not-other, marked-is, d)
 
         pub join-placed : marked (c .marks) (m .msgseg) ≡ false
-            → placed s memory response p m (messageContext s (m .source) (m .letter) (m .mbox)) (c .marks) (c .last) ≡ joined s memory response p m
-        unfolding joined accepted
+            → placed s memory response p m (messageContext s (m .source) (m .letter) (m .mbox)) (c .marks) (c .last) ≡ matched s memory response p m
+        unfolding matched accepted
         join-placed d = rw (not-other, marked-is, d, free-is, t, opened, context, found-is)
 
     -- of a new message
@@ -181,12 +181,12 @@ module _ (s : State) (memory response p : List ℕ) (m : MessageSegment) where
       unfolding otherMessage alreadyMarked
       new = (rw shut, rw shut)
 
-      pub begin-none : {says : Said} {after : List ℕ} → 8 ≤ freeMessage s → Replied response p 25 RETRY says after → joining says s memory after ≡ joined s memory response p m
-      unfolding joined noneFree
+      pub begin-none : {says : Said} {after : List ℕ} → 8 ≤ freeMessage s → Replied response p 25 RETRY says after → joining says s memory after ≡ matched s memory response p m
+      unfolding matched noneFree
       begin-none h r = replying s memory response p 25 RETRY _ _ r ∙ rw (new .0, new .1, shut, le-ltb (freeMessage s) 8 h)
 
-      pub begin-placed : freeMessage s < 8 → placed s memory response p m (freeMessage s) 0 0 ≡ joined s memory response p m
-      unfolding joined noneFree accepted
+      pub begin-placed : freeMessage s < 8 → placed s memory response p m (freeMessage s) 0 0 ≡ matched s memory response p m
+      unfolding matched noneFree accepted
       begin-placed h = rw (new .0, new .1, shut, lt-ltb (freeMessage s) 8 h, t)
 
   -- ---- the whole step
@@ -194,9 +194,9 @@ module _ (s : State) (memory response p : List ℕ) (m : MessageSegment) where
   unfolding stepped
   step-refused number j n r = replying s memory response p number ERROR _ _ r ∙ rw (← j, ne-eqb number 0 n)
 
-  pub step-joined : judged m ≡ 0 → joined s memory response p m ≡ stepped s memory response p m
+  pub step-matched : judged m ≡ 0 → matched s memory response p m ≡ stepped s memory response p m
   unfolding stepped
-  step-joined j = rw j
+  step-matched j = rw j
 
 -- ---- what the stores and the context make
 

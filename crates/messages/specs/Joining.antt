@@ -7,7 +7,7 @@ use lib.Dec.{eqb}
 use Rattle.lists.specs.Bytes.{written}
 use Rattle.answers.specs.Answers.{Said, held, message, refused}
 use Rattle.wire.specs.declared.MessageSegment.{MessageSegment}
-use Rattle.wire.specs.Type11.{bytesOf, isSingle, mailbox, messageFrom}
+use Rattle.wire.specs.Type11.{bytesOf, isSingle, mailbox, messageDataFrom}
 use Rattle.wire.specs.Type13.{DONE, answered}
 use Rattle.contexts.specs.declared.MessageContext.{MessageContext}
 use Rattle.contexts.specs.State.{State, messageIn, withMessage, closedMessage, freeMessage}
@@ -26,7 +26,7 @@ joining says state memory response = record { says = says; state = state; memory
 
 -- the segment's data, from byte 7
 abbrev pub dataOf : List ℕ → List ℕ
-dataOf p = drop messageFrom p
+dataOf p = drop messageDataFrom p
 
 -- a single-segment message is delivered at once from context n, which it leaves closed
 unfoldable pub alone : State → List ℕ → List ℕ → List ℕ → MessageSegment → ℕ → Joined

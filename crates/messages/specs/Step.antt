@@ -21,15 +21,15 @@ unfoldable pub judged : MessageSegment → ℕ
 judged m = cond (reservedSize m) 20 (cond (wrongLength m) 21 (cond (pastLast m) 22 0))
 
 -- rows 23 to 25
-unfoldable pub joined : State → List ℕ → List ℕ → List ℕ → MessageSegment → Joined
-joined s memory response p m =
+unfoldable pub matched : State → List ℕ → List ℕ → List ℕ → MessageSegment → Joined
+matched s memory response p m =
     cond (otherMessage s m) (refusedWith s memory response p 23 ERROR)
     (cond (alreadyMarked s m) (refusedWith s memory response p 24 ERROR)
     (cond (noneFree s m) (refusedWith s memory response p 25 RETRY)
     (accepted s memory response p m)))
 
 unfoldable pub stepped : State → List ℕ → List ℕ → List ℕ → MessageSegment → Joined
-stepped s memory response p m = cond (eqb (judged m) 0) (joined s memory response p m) (refusedWith s memory response p (judged m) ERROR)
+stepped s memory response p m = cond (eqb (judged m) 0) (matched s memory response p m) (refusedWith s memory response p (judged m) ERROR)
 
 -- ---- what the private functions rely on and promise each other
 

@@ -12,7 +12,7 @@ ghost use Rattle.contexts.specs.State.{closedMessage, messageContext};
 ghost use Rattle.contexts.specs.Words.{stateOf, stateWords};
 ghost use Rattle.messages.specs.Rows.{wrongLength};
 ghost use Rattle.messages.specs.Joining.{joining, alone, lastWith, placed, refusedWith};
-ghost use Rattle.messages.specs.Step.{judged, joined, stepped, Ready, Sound, Fits, Kept, Replied};
+ghost use Rattle.messages.specs.Step.{judged, matched, stepped, Ready, Sound, Fits, Kept, Replied};
 
 // The bytes of a message context's room.
 pub const ROOM: usize = 4096;
@@ -176,7 +176,7 @@ fn take_alone(
 ) -> Answer
     requires { ⌜ Ready (now state) (now memory) (now response) (now packet) m ⌝ }
     requires { ⌜ (Sound m) × (isSingle m ≡ true) ⌝ }
-    ensures { λ r. ⌜ joining (said r) (stateOf (now (state .exit))) (now (memory .exit)) (now (response .exit)) ≡ joined (stateOf (now (state .entry))) (now (memory .entry)) (now (response .entry)) (now (packet .entry)) m ⌝ }
+    ensures { λ r. ⌜ joining (said r) (stateOf (now (state .exit))) (now (memory .exit)) (now (response .exit)) ≡ matched (stateOf (now (state .entry))) (now (memory .entry)) (now (response .entry)) (now (packet .entry)) m ⌝ }
 {
     let n = contexts::free_message(state);
     if 8 <= n {
@@ -205,7 +205,7 @@ fn join(
 ) -> Answer
     requires { ⌜ Ready (now state) (now memory) (now response) (now packet) m ⌝ }
     requires { ⌜ (Sound m) × (isSingle m ≡ false) × (found < 8) × (found ≡ messageContext (stateOf (now state)) (m .source) (m .letter) (m .mbox)) ⌝ }
-    ensures { λ r. ⌜ joining (said r) (stateOf (now (state .exit))) (now (memory .exit)) (now (response .exit)) ≡ joined (stateOf (now (state .entry))) (now (memory .entry)) (now (response .entry)) (now (packet .entry)) m ⌝ }
+    ensures { λ r. ⌜ joining (said r) (stateOf (now (state .exit))) (now (memory .exit)) (now (response .exit)) ≡ matched (stateOf (now (state .entry))) (now (memory .entry)) (now (response .entry)) (now (packet .entry)) m ⌝ }
 {
     let c = contexts::message_at(state, found);
     if c.msglen != m.msglen {
@@ -230,7 +230,7 @@ fn begin(
 ) -> Answer
     requires { ⌜ Ready (now state) (now memory) (now response) (now packet) m ⌝ }
     requires { ⌜ (Sound m) × (isSingle m ≡ false) × (8 ≤ messageContext (stateOf (now state)) (m .source) (m .letter) (m .mbox)) ⌝ }
-    ensures { λ r. ⌜ joining (said r) (stateOf (now (state .exit))) (now (memory .exit)) (now (response .exit)) ≡ joined (stateOf (now (state .entry))) (now (memory .entry)) (now (response .entry)) (now (packet .entry)) m ⌝ }
+    ensures { λ r. ⌜ joining (said r) (stateOf (now (state .exit))) (now (memory .exit)) (now (response .exit)) ≡ matched (stateOf (now (state .entry))) (now (memory .entry)) (now (response .entry)) (now (packet .entry)) m ⌝ }
 {
     let n = contexts::free_message(state);
     if 8 <= n {

@@ -40,16 +40,16 @@ number-said x number flowClosed = refl
 number-said x number allERROR = refl
 number-said x number allRETRY = refl
 
-stream-no : (x : Lent) → no-refusal (stream.accepted (stateIn x) (x .streams) (x .packet) (segmentIn x) .says)
+stream-no : (x : Lent) → no-refusal (stream.accepted (stateIn x) (x .streamMemory) (x .packet) (segmentIn x) .says)
 unfolding stream.accepted stream.placed
-stream-no x = chosen no-refusal (segmentIn x .end) _ held (λ number e. let z : _≡_ {A = ℕ} 0 1 = cc in omega arith) held-no
+stream-no x = chosen no-refusal (segmentIn x .ends) _ held (λ number e. let z : _≡_ {A = ℕ} 0 1 = cc in omega arith) held-no
 
-placed-no : (x : Lent) (n marks last : ℕ) → no-refusal (message.placed (stateIn x) (x .messages) (x .response) (x .packet) (messageIn x) n marks last .says)
+placed-no : (x : Lent) (n marks last : ℕ) → no-refusal (message.placed (stateIn x) (x .messageMemory) (x .response) (x .packet) (messageIn x) n marks last .says)
 unfolding message.placed
 placed-no x n marks last =
     chosen no-refusal (message.complete (messageIn x) (message.marksWith (messageIn x) marks)) _ held (λ number e. let z : _≡_ {A = ℕ} 0 1 = cc in omega arith) held-no
 
-message-no : (x : Lent) → no-refusal (message.accepted (stateIn x) (x .messages) (x .response) (x .packet) (messageIn x) .says)
+message-no : (x : Lent) → no-refusal (message.accepted (stateIn x) (x .messageMemory) (x .response) (x .packet) (messageIn x) .says)
 unfolding message.accepted message.alone
 message-no x =
     chosen (λ (j : message.Joined). no-refusal (j .says)) (isSingle (messageIn x)) _ _ (λ number e. let z : _≡_ {A = ℕ} 0 1 = cc in omega arith)

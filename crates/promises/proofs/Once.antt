@@ -25,8 +25,8 @@ read-once x r r′ words words′ streams streams′ messages messages′ respon
     let e = p ∙ sym q in (
       same-reading r r′ (said-once (r .answer) (r′ .answer) (ap (λ (l : Left). l .says) e)) (ap (λ (l : Left). l .dropped) e),
       ap (λ (l : Left). l .words) e,
-      ap (λ (l : Left). l .streams) e,
-      ap (λ (l : Left). l .messages) e,
+      ap (λ (l : Left). l .streamMemory) e,
+      ap (λ (l : Left). l .messageMemory) e,
       ap (λ (l : Left). l .response) e,
     )
 

@@ -45,23 +45,23 @@ pub unchanged : (w : List ℕ) → length w ≡ stateWords → namedBy19 (stateO
 unchanged w l g = record { whole = l; good = g; device = refl; mtu = refl; room = refl }
 
 module _ (x : Lent) where
-  closing-same : (number : ℕ) → Same (stateIn x) (stream.refusedClosing (stateIn x) (x .streams) (segmentIn x) number .state)
+  closing-same : (number : ℕ) → Same (stateIn x) (stream.refusedClosing (stateIn x) (x .streamMemory) (segmentIn x) number .state)
   unfolding stream.refusedClosing
   closing-same number = record { device = refl; mtu = refl; room = refl; streams = simp length-set; messages = refl }
 
-  stream-same : Same (stateIn x) (stream.accepted (stateIn x) (x .streams) (x .packet) (segmentIn x) .state)
+  stream-same : Same (stateIn x) (stream.accepted (stateIn x) (x .streamMemory) (x .packet) (segmentIn x) .state)
   unfolding stream.accepted stream.placed
   stream-same = record { device = refl; mtu = refl; room = refl; streams = simp length-set; messages = refl }
 
-  placed-same : (n marks last : ℕ) → Same (stateIn x) (message.placed (stateIn x) (x .messages) (x .response) (x .packet) (messageIn x) n marks last .state)
+  placed-same : (n marks last : ℕ) → Same (stateIn x) (message.placed (stateIn x) (x .messageMemory) (x .response) (x .packet) (messageIn x) n marks last .state)
   unfolding message.placed
   placed-same n marks last = record { device = refl; mtu = refl; room = refl; streams = refl; messages = simp length-set }
 
-  alone-same : (n : ℕ) → Same (stateIn x) (message.alone (stateIn x) (x .messages) (x .response) (x .packet) (messageIn x) n .state)
+  alone-same : (n : ℕ) → Same (stateIn x) (message.alone (stateIn x) (x .messageMemory) (x .response) (x .packet) (messageIn x) n .state)
   unfolding message.alone
   alone-same n = record { device = refl; mtu = refl; room = refl; streams = refl; messages = simp length-set }
 
-  message-same : Same (stateIn x) (message.accepted (stateIn x) (x .messages) (x .response) (x .packet) (messageIn x) .state)
+  message-same : Same (stateIn x) (message.accepted (stateIn x) (x .messageMemory) (x .response) (x .packet) (messageIn x) .state)
   unfolding message.accepted
   message-same =
       by-test (isSingle (messageIn x)) (λ t. rw t (alone-same (freeMessage (stateIn x))))
@@ -79,11 +79,11 @@ module _ (x : Lent) where
   of-type false b t e = absurd (false≢true t)
 
   module _ (whole : length (x .words) ≡ stateWords) (fine : namedBy19 (stateIn x) ≡ false) (small : getD (x .packet) 5 0 < 256) where
-    stream-settled : Passed → is9 x ≡ true → StillGood (stateIn x) (wordsOf (stream.accepted (stateIn x) (x .streams) (x .packet) (segmentIn x) .state))
+    stream-settled : Passed → is9 x ≡ true → StillGood (stateIn x) (wordsOf (stream.accepted (stateIn x) (x .streamMemory) (x .packet) (segmentIn x) .state))
     unfolding none table
     stream-settled n t =
         settled (x .words) _ stream-same
-        (streams.accepted-kept (stateIn x) (x .streams) (x .packet) (segmentIn x) fine (of-type (is9 x) _ t (n .1 .1 .1 .1 .1 .1 .1 .1 .1 .0)) (of-type (is9 x) _ t (n .1 .1 .1 .1 .1 .1 .1 .1 .1 .1 .1 .1 .0)))
+        (streams.accepted-kept (stateIn x) (x .streamMemory) (x .packet) (segmentIn x) fine (of-type (is9 x) _ t (n .1 .1 .1 .1 .1 .1 .1 .1 .1 .0)) (of-type (is9 x) _ t (n .1 .1 .1 .1 .1 .1 .1 .1 .1 .1 .1 .1 .0)))
 
     few : messageIn x .msglen < 16
     unfolding messageOf
@@ -95,12 +95,12 @@ module _ (x : Lent) where
     other-type false true e f = refl
     other-type false false e f = absurd (true≢false e)
 
-    message-settled : Passed → is9 x ≡ false → StillGood (stateIn x) (wordsOf (message.accepted (stateIn x) (x .messages) (x .response) (x .packet) (messageIn x) .state))
+    message-settled : Passed → is9 x ≡ false → StillGood (stateIn x) (wordsOf (message.accepted (stateIn x) (x .messageMemory) (x .response) (x .packet) (messageIn x) .state))
     unfolding none table
     message-settled n f =
         let t : is11 x ≡ true = other-type (is9 x) (is11 x) (n .1 .1 .1 .1 .1 .0) f in
         settled (x .words) _ message-same
-        (messages.accepted-kept (stateIn x) (x .messages) (x .response) (x .packet) (messageIn x) fine (eight (x .words)) few (of-type (is11 x) _ t (n .1 .1 .1 .1 .1 .1 .1 .1 .1 .1 .1 .1 .1 .1 .1 .0))
+        (messages.accepted-kept (stateIn x) (x .messageMemory) (x .response) (x .packet) (messageIn x) fine (eight (x .words)) few (of-type (is11 x) _ t (n .1 .1 .1 .1 .1 .1 .1 .1 .1 .1 .1 .1 .1 .1 .1 .0))
         (of-type (is11 x) _ t (n .1 .1 .1 .1 .1 .1 .1 .1 .1 .1 .1 .1 .1 .1 .1 .1 .0)) (of-type (is11 x) _ t (n .1 .1 .1 .1 .1 .1 .1 .1 .1 .1 .1 .1 .1 .1 .1 .1 .1 .0)) (of-type (is11 x) _ t (n .1 .1 .1 .1 .1 .1 .1 .1 .1 .1 .1 .1 .1 .1 .1 .1 .1 .1 .0)) (of-type (is11 x) _ t (n .1 .1 .1 .1 .1 .1 .1 .1 .1 .1 .1 .1 .1 .1 .1 .1 .1 .1 .1 .0)))
 
     pub stays-good : StillGood (stateIn x) (reading x .words)
@@ -109,7 +109,7 @@ module _ (x : Lent) where
       where
         by-leaves : (number : ℕ) (leaves : Leaves) → StillGood (stateIn x) (leaving x number leaves .words)
         by-leaves number all = unchanged (x .words) whole fine
-        by-leaves number flowClosed = settled (x .words) _ (closing-same number) (streams.closing-kept (stateIn x) (x .streams) (x .packet) (segmentIn x) fine number)
+        by-leaves number flowClosed = settled (x .words) _ (closing-same number) (streams.closing-kept (stateIn x) (x .streamMemory) (x .packet) (segmentIn x) fine number)
         by-leaves number allERROR = unchanged (x .words) whole fine
         by-leaves number allRETRY = unchanged (x .words) whole fine
 

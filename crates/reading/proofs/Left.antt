@@ -20,19 +20,19 @@ use Rattle.reading.specs.Read.{left, leaving, ofStream, ofMessage, readi
 use Rattle.reading.specs.Step.{Refusal}
 
 -- a refusal that changes nothing
-pub refusing : (x : Lent) (number : ℕ) (r : Reading) → Refusal number r → leaving x number all ≡ reading x → ReadPromise x r (x .words) (x .streams) (x .messages) (x .response)
+pub refusing : (x : Lent) (number : ℕ) (r : Reading) → Refusal number r → leaving x number all ≡ reading x → ReadPromise x r (x .words) (x .streamMemory) (x .messageMemory) (x .response)
 refusing x number r f e = rw (f .answer, f .drop) e
 
 -- what a step leaves in the words
 pub stream-left : (x : Lent) (says : Said) (dropped : Bool) (words memory : List ℕ) (j : stream.Joined) → length words ≡ stateWords
-    → stream.joining says dropped (stateOf words) memory ≡ j → left says dropped words memory (x .messages) (x .response) ≡ ofStream x j
+    → stream.joining says dropped (stateOf words) memory ≡ j → left says dropped words memory (x .messageMemory) (x .response) ≡ ofStream x j
 stream-left x says dropped words memory j z e =
-    ap (λ (w : List ℕ). left says dropped w memory (x .messages) (x .response)) (sym (words-of words z)) ∙ ap (ofStream x) e
+    ap (λ (w : List ℕ). left says dropped w memory (x .messageMemory) (x .response)) (sym (words-of words z)) ∙ ap (ofStream x) e
 
 pub message-left : (x : Lent) (says : Said) (words memory response : List ℕ) (j : message.Joined) → length words ≡ stateWords
-    → message.joining says (stateOf words) memory response ≡ j → left says false words (x .streams) memory response ≡ ofMessage x j
+    → message.joining says (stateOf words) memory response ≡ j → left says false words (x .streamMemory) memory response ≡ ofMessage x j
 message-left x says words memory response j z e =
-    ap (λ (w : List ℕ). left says false w (x .streams) memory response) (sym (words-of words z)) ∙ ap (ofMessage x) e
+    ap (λ (w : List ℕ). left says false w (x .streamMemory) memory response) (sym (words-of words z)) ∙ ap (ofMessage x) e
 
 -- row 12 passed
 pub sizes-right : (s : State) (streams messages response : List ℕ) → length streams ≡ 16 * s .room → length messages ≡ 32768 → 7 ≤ length response → wrongSizes s streams messages response ≡ false

@@ -9,17 +9,17 @@ use Rattle.contexts.specs.Words.{stateWords}
 use Rattle.contexts.proofs.Words.{words-of}
 use Rattle.messages.specs.Rows.{reservedSize, wrongLength, pastLast, otherMessage, alreadyMarked, noneFree}
 use Rattle.messages.specs.Joining.{accepted, refusedWith}
-use Rattle.messages.specs.Step.{judged, joined, stepped}
+use Rattle.messages.specs.Step.{judged, matched, stepped}
 use Rattle.reading.specs.Table.{Lent, stateIn, messageIn}
 use Rattle.reading.specs.Read.{Left, leaving, ofMessage}
 use Rattle.reading.proofs.Cases.{by-test, choose-message}
 
 module _ (x : Lent) (whole : length (x .words) ≡ stateWords) where
-  errs : (number : ℕ) → ofMessage x (refusedWith (stateIn x) (x .messages) (x .response) (x .packet) number ERROR) ≡ leaving x number allERROR
+  errs : (number : ℕ) → ofMessage x (refusedWith (stateIn x) (x .messageMemory) (x .response) (x .packet) number ERROR) ≡ leaving x number allERROR
   unfolding refusedWith
   errs number = rw (words-of (x .words) whole)
 
-  retries : (number : ℕ) → ofMessage x (refusedWith (stateIn x) (x .messages) (x .response) (x .packet) number RETRY) ≡ leaving x number allRETRY
+  retries : (number : ℕ) → ofMessage x (refusedWith (stateIn x) (x .messageMemory) (x .response) (x .packet) number RETRY) ≡ leaving x number allRETRY
   unfolding refusedWith
   retries number = rw (words-of (x .words) whole)
 
@@ -29,14 +29,14 @@ module _ (x : Lent) (whole : length (x .words) ≡ stateWords) where
       cond (otherMessage (stateIn x) (messageIn x)) (leaving x 23 allERROR)
       (cond (alreadyMarked (stateIn x) (messageIn x)) (leaving x 24 allERROR)
       (cond (noneFree (stateIn x) (messageIn x)) (leaving x 25 allRETRY)
-      (ofMessage x (accepted (stateIn x) (x .messages) (x .response) (x .packet) (messageIn x)))))
+      (ofMessage x (accepted (stateIn x) (x .messageMemory) (x .response) (x .packet) (messageIn x)))))
 
-  joins : ofMessage x (joined (stateIn x) (x .messages) (x .response) (x .packet) (messageIn x)) ≡ later
-  unfolding joined
+  joins : ofMessage x (matched (stateIn x) (x .messageMemory) (x .response) (x .packet) (messageIn x)) ≡ later
+  unfolding matched
   joins = simp (choose-message, errs 23, errs 24, retries 25)
 
   -- rows 20 to 25
-  pub message-rows : ofMessage x (stepped (stateIn x) (x .messages) (x .response) (x .packet) (messageIn x))
+  pub message-rows : ofMessage x (stepped (stateIn x) (x .messageMemory) (x .response) (x .packet) (messageIn x))
       ≡ cond (reservedSize (messageIn x)) (leaving x 20 allERROR) (cond (wrongLength (messageIn x)) (leaving x 21 allERROR) (cond (pastLast (messageIn x)) (leaving x 22 allERROR) later))
   unfolding stepped judged
   message-rows =

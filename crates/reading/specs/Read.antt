@@ -17,41 +17,41 @@ pub record Left : Type 0 where
   pub says : Said
   pub dropped : Bool
   pub words : List ℕ
-  pub streams : List ℕ
-  pub messages : List ℕ
+  pub streamMemory : List ℕ
+  pub messageMemory : List ℕ
   pub response : List ℕ
 
 abbrev pub left : Said → Bool → List ℕ → List ℕ → List ℕ → List ℕ → Left
-left says dropped words streams messages response = record {
+left says dropped words streamMemory messageMemory response = record {
   says = says;
   dropped = dropped;
   words = words;
-  streams = streams;
-  messages = messages;
+  streamMemory = streamMemory;
+  messageMemory = messageMemory;
   response = response;
 }
 
 -- what a type 9 packet leaves; message memory and response stay
 abbrev pub ofStream : Lent → stream.Joined → Left
-ofStream x j = left (j .says) (j .dropped) (wordsOf (j .state)) (j .memory) (x .messages) (x .response)
+ofStream x j = left (j .says) (j .dropped) (wordsOf (j .state)) (j .memory) (x .messageMemory) (x .response)
 
 -- what an accepted type 11 packet leaves; the stream memory stays
 abbrev pub ofMessage : Lent → message.Joined → Left
-ofMessage x j = left (j .says) false (wordsOf (j .state)) (x .streams) (j .memory) (j .response)
+ofMessage x j = left (j .says) false (wordsOf (j .state)) (x .streamMemory) (j .memory) (j .response)
 
 -- the table's last column
 abbrev pub leaving : Lent → ℕ → Leaves → Left
-leaving x number all = left (refused number) false (x .words) (x .streams) (x .messages) (x .response)
-leaving x number flowClosed = ofStream x (stream.refusedClosing (stateIn x) (x .streams) (segmentIn x) number)
-leaving x number allERROR = left (refused number) false (x .words) (x .streams) (x .messages) (answered (x .response) (x .packet) ERROR)
-leaving x number allRETRY = left (refused number) false (x .words) (x .streams) (x .messages) (answered (x .response) (x .packet) RETRY)
+leaving x number all = left (refused number) false (x .words) (x .streamMemory) (x .messageMemory) (x .response)
+leaving x number flowClosed = ofStream x (stream.refusedClosing (stateIn x) (x .streamMemory) (segmentIn x) number)
+leaving x number allERROR = left (refused number) false (x .words) (x .streamMemory) (x .messageMemory) (answered (x .response) (x .packet) ERROR)
+leaving x number allRETRY = left (refused number) false (x .words) (x .streamMemory) (x .messageMemory) (answered (x .response) (x .packet) RETRY)
 
 -- an accepted packet: of type 9, else of type 11, since row 4 has passed
 abbrev pub accepting : Lent → Left
 accepting x =
     cond (is9 x)
-    (ofStream x (stream.accepted (stateIn x) (x .streams) (x .packet) (segmentIn x)))
-    (ofMessage x (message.accepted (stateIn x) (x .messages) (x .response) (x .packet) (messageIn x)))
+    (ofStream x (stream.accepted (stateIn x) (x .streamMemory) (x .packet) (segmentIn x)))
+    (ofMessage x (message.accepted (stateIn x) (x .messageMemory) (x .response) (x .packet) (messageIn x)))
 
 abbrev pub outcome : Lent → Verdict → Left
 outcome x (refuse number leaves) = leaving x number leaves
@@ -62,8 +62,8 @@ unfoldable pub reading : Lent → Left
 reading x = outcome x (verdict (table x))
 
 abbrev pub lent : List ℕ → List ℕ → List ℕ → List ℕ → List ℕ → Lent
-lent words streams messages response packet = record { words = words; streams = streams; messages = messages; response = response; packet = packet }
+lent words streamMemory messageMemory response packet = record { words = words; streamMemory = streamMemory; messageMemory = messageMemory; response = response; packet = packet }
 
 -- the promise of `read`
 abbrev pub ReadPromise : Lent → Reading → List ℕ → List ℕ → List ℕ → List ℕ → Type 0
-ReadPromise x r words streams messages response = left (said (r .answer)) (r .dropped) words streams messages response ≡ reading x
+ReadPromise x r words streamMemory messageMemory response = left (said (r .answer)) (r .dropped) words streamMemory messageMemory response ≡ reading x

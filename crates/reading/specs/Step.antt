@@ -20,8 +20,8 @@ use Rattle.reading.specs.Read.{Left, ofStream, ofMessage, leaving}
 -- what is left by what the packet is
 abbrev pub byParsed : Lent → Parsed → Left
 byParsed x (Refused number) = leaving x number all
-byParsed x (Stream g) = ofStream x (stream.stepped (stateIn x) (x .streams) (x .packet) g)
-byParsed x (Message m) = ofMessage x (message.stepped (stateIn x) (x .messages) (x .response) (x .packet) m)
+byParsed x (Stream g) = ofStream x (stream.stepped (stateIn x) (x .streamMemory) (x .packet) g)
+byParsed x (Message m) = ofMessage x (message.stepped (stateIn x) (x .messageMemory) (x .response) (x .packet) m)
 
 unfoldable pub readStep : Lent → Left
 readStep x =

@@ -19,8 +19,8 @@ use Rattle.messages.specs.Rows as message
 -- what the caller lends to be read by: the words of the state, the stream memory, the message memory, the response buffer, the packet
 pub record Lent : Type 0 where
   pub words : List ℕ
-  pub streams : List ℕ
-  pub messages : List ℕ
+  pub streamMemory : List ℕ
+  pub messageMemory : List ℕ
   pub response : List ℕ
   pub packet : List ℕ
 
@@ -50,10 +50,10 @@ isState x = eqb (length (x .words)) stateWords
 
 -- 12: a stream memory that is not 16 R bytes long, a message memory that is not 32,768, or a response buffer under 7
 unfoldable pub wrongSizes : State → List ℕ → List ℕ → List ℕ → Bool
-wrongSizes s streams messages response = not (eqb (length streams) (16 * s .room)) || not (eqb (length messages) 32768) || ltb (length response) 7
+wrongSizes s streamMemory messageMemory response = not (eqb (length streamMemory) (16 * s .room)) || not (eqb (length messageMemory) 32768) || ltb (length response) 7
 
 abbrev pub wrongMemory : Lent → Bool
-wrongMemory x = wrongSizes (stateIn x) (x .streams) (x .messages) (x .response)
+wrongMemory x = wrongSizes (stateIn x) (x .streamMemory) (x .messageMemory) (x .response)
 
 unfoldable pub table : Lent → List Row
 table x =

@@ -25,14 +25,19 @@ pub fn refused(number: usize) -> Reading
 }
 
 // Row 12. Every caller has found that 19 does not name the state.
-pub fn wrong_memory(state: &[usize], streams: &[u8], messages: &[u8], response: &[u8]) -> bool
+pub fn wrong_memory(
+    state: &[usize],
+    stream_memory: &[u8],
+    message_memory: &[u8],
+    response: &[u8],
+) -> bool
     requires { ⌜ (length (now state) ≡ stateWords) × (namedBy19 (stateOf (now state)) ≡ false) ⌝ }
-    ensures { λ r. ⌜ r ≡ wrongSizes (stateOf (now (state .entry))) (now (streams .entry)) (now (messages .entry)) (now (response .entry)) ⌝ }
+    ensures { λ r. ⌜ r ≡ wrongSizes (stateOf (now (state .entry))) (now («stream_memory» .entry)) (now («message_memory» .entry)) (now (response .entry)) ⌝ }
 {
-    if streams.len() != 16 * contexts::room(state) {
+    if stream_memory.len() != 16 * contexts::room(state) {
         return true;
     }
-    if messages.len() != MESSAGE_MEMORY {
+    if message_memory.len() != MESSAGE_MEMORY {
         return true;
     }
     response.len() < 7
@@ -41,20 +46,20 @@ pub fn wrong_memory(state: &[usize], streams: &[u8], messages: &[u8], response: 
 // Reads one packet. Every caller has tested the state and the memories; a run over many packets tests them once.
 pub fn step(
     state: &mut [usize],
-    streams: &mut [u8],
-    messages: &mut [u8],
+    stream_memory: &mut [u8],
+    message_memory: &mut [u8],
     response: &mut [u8],
     packet: &[u8],
 ) -> Reading
-    requires { ⌜ Ready (now state) (now streams) (now messages) (now response) ⌝ }
-    ensures { λ r. ⌜ ReadPromise (lent (now (state .entry)) (now (streams .entry)) (now (messages .entry)) (now (response .entry)) (now (packet .entry))) r (now (state .exit)) (now (streams .exit)) (now (messages .exit)) (now (response .exit)) ⌝ }
+    requires { ⌜ Ready (now state) (now «stream_memory») (now «message_memory») (now response) ⌝ }
+    ensures { λ r. ⌜ ReadPromise (lent (now (state .entry)) (now («stream_memory» .entry)) (now («message_memory» .entry)) (now (response .entry)) (now (packet .entry))) r (now (state .exit)) (now («stream_memory» .exit)) (now («message_memory» .exit)) (now (response .exit)) ⌝ }
 {
     let device = contexts::device(state);
     match wire::parse(packet, device) {
         Parsed::Refused(number) => refused(number),
-        Parsed::Stream(g) => streams::step(state, streams, packet, g),
+        Parsed::Stream(g) => streams::step(state, stream_memory, packet, g),
         Parsed::Message(m) => {
-            let answer = messages::step(state, messages, response, packet, m);
+            let answer = messages::step(state, message_memory, response, packet, m);
             Reading {
                 answer,
                 dropped: false,

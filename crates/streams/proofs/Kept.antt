@@ -34,7 +34,7 @@ module _ (s : State) (memory p : List ℕ) (g : Segment) (fine : namedBy19 s ≡
   unfolding accepted placed passesRoom
   accepted-kept a b =
       stream-kept s (contextFor s g) _ fine
-      (go (g .end) (record { live = 1; flow = g .flow; stream = streamID s g; held = total s g })
+      (go (g .ends) (record { live = 1; flow = g .flow; stream = streamID s g; held = total s g })
       (held-stream (s .room) (record { live = 1; flow = g .flow; stream = streamID s g; held = total s g }) (omega (arith, data-there g a)) (ltb-false (s .room) (total s g) b)))
     where
       go : (b : Bool) (c : StreamContext) → badStream (s .room) c ≡ false → badStream (s .room) (cond b closedStream c) ≡ false

@@ -77,24 +77,24 @@ closing s memory g found number says dropped state f c = rw (c .answer, c .drop,
 
 module _ (s : State) (memory p : List ℕ) (g : Segment) where
   -- ---- a start or single
-  pub begin-own : g .start ≡ true → foundFor s g < 16 → placed s memory p g (foundFor s g) 0 (g .field) true ≡ begun s memory p g
+  pub begin-own : g .begins ≡ true → foundFor s g < 16 → placed s memory p g (foundFor s g) 0 (g .field) true ≡ begun s memory p g
   unfolding begun noneFree accepted
   begin-own t o = rw (t, lt-ltb (foundFor s g) 16 o)
 
-  pub begin-free : g .start ≡ true → 16 ≤ foundFor s g → freeStream s < 16 → placed s memory p g (freeStream s) 0 (g .field) false ≡ begun s memory p g
+  pub begin-free : g .begins ≡ true → 16 ≤ foundFor s g → freeStream s < 16 → placed s memory p g (freeStream s) 0 (g .field) false ≡ begun s memory p g
   unfolding begun noneFree accepted
   begin-free t o f = rw (t, le-ltb (foundFor s g) 16 o, lt-ltb (freeStream s) 16 f)
 
-  pub begin-none : g .start ≡ true → 16 ≤ foundFor s g → 16 ≤ freeStream s → refusedStaying s memory 10 ≡ begun s memory p g
+  pub begin-none : g .begins ≡ true → 16 ≤ foundFor s g → 16 ≤ freeStream s → refusedStaying s memory 10 ≡ begun s memory p g
   unfolding begun noneFree
   begin-none t o f = rw (t, le-ltb (foundFor s g) 16 o, le-ltb (freeStream s) 16 f)
 
   -- ---- a continuation or end
-  pub go-closed : g .start ≡ false → 16 ≤ foundFor s g → refusedStaying s memory 8 ≡ continued s memory p g
+  pub go-closed : g .begins ≡ false → 16 ≤ foundFor s g → refusedStaying s memory 8 ≡ continued s memory p g
   unfolding continued notOpen
   go-closed t o = rw (t, le-ltb (foundFor s g) 16 o)
 
-  module _ (t : g .start ≡ false) where
+  module _ (t : g .begins ≡ false) where
     total-behind : total s g ≡ streamIn s (foundFor s g) .held + dataLength g
     total-behind = ap (λ (b : Bool). cond b 0 (streamIn s (foundFor s g) .held) + dataLength g) t
 
@@ -134,15 +134,15 @@ module _ (s : State) (memory p : List ℕ) (g : Segment) where
     unfolding stepped
     step-missized e = rw (d, e)
 
-    pub step-begins : missized s g ≡ false → g .start ≡ true → begun s memory p g ≡ stepped s memory p g
+    pub step-begins : missized s g ≡ false → g .begins ≡ true → begun s memory p g ≡ stepped s memory p g
     unfolding stepped
     step-begins e t = rw (d, e, t)
 
-    pub step-continues : missized s g ≡ false → g .start ≡ false → continued s memory p g ≡ stepped s memory p g
+    pub step-continues : missized s g ≡ false → g .begins ≡ false → continued s memory p g ≡ stepped s memory p g
     unfolding stepped
     step-continues e t = rw (d, e, t)
 
 -- row 7 by the numbers that the code has
-pub sizes : (s : State) (g : Segment) {n mtu : ℕ} {b : Bool} → n ≡ dataLength g → mtu ≡ s .mtu → wrongSize (g .end) n mtu ≡ b → missized s g ≡ b
+pub sizes : (s : State) (g : Segment) {n mtu : ℕ} {b : Bool} → n ≡ dataLength g → mtu ≡ s .mtu → wrongSize (g .ends) n mtu ≡ b → missized s g ≡ b
 unfolding missized
 sizes s g p q e = rw (← p, ← q) e

@@ -27,7 +27,7 @@ contextFor s g = cond (flowOpen s g) (foundFor s g) (freeStream s)
 
 -- the PDU's streamID came with its start
 abbrev pub streamID : State → Segment → ℕ
-streamID s g = cond (g .start) (g .field) (streamIn s (foundFor s g) .stream)
+streamID s g = cond (g .begins) (g .field) (streamIn s (foundFor s g) .stream)
 
 -- the segment's data, the pad left out
 abbrev pub dataOf : List ℕ → Segment → List ℕ
@@ -36,14 +36,14 @@ dataOf p g = take (dataLength g) (drop (g .from) p)
 -- a segment's data are stored in room n behind `base` bytes; an end or single is delivered and frees the context, else the PDU is held
 unfoldable pub placed : State → List ℕ → List ℕ → Segment → ℕ → ℕ → ℕ → Bool → Joined
 placed s memory p g n base stream dropped =
-    joining (cond (g .end) (delivered n (g .flow .source) (g .flow .cos) stream (base + dataLength g)) held)
+    joining (cond (g .ends) (delivered n (g .flow .source) (g .flow .cos) stream (base + dataLength g)) held)
     dropped
-    (withStream s n (cond (g .end) closedStream (record { live = 1; flow = g .flow; stream = stream; held = base + dataLength g })))
+    (withStream s n (cond (g .ends) closedStream (record { live = 1; flow = g .flow; stream = stream; held = base + dataLength g })))
     (written memory (n * s .room + base) (dataOf p g))
 
 -- accepted: a start or single on an open flow gives the older PDU up and uses the same context from its beginning
 unfoldable pub accepted : State → List ℕ → List ℕ → Segment → Joined
-accepted s memory p g = placed s memory p g (contextFor s g) (heldBefore s g) (streamID s g) (g .start && flowOpen s g)
+accepted s memory p g = placed s memory p g (contextFor s g) (heldBefore s g) (streamID s g) (g .begins && flowOpen s g)
 
 -- refused, and the flow's context closed, where it has one
 unfoldable pub refusedClosing : State → List ℕ → Segment → ℕ → Joined

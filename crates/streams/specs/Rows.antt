@@ -15,7 +15,7 @@ flowOpen s g = ltb (foundFor s g) 16
 
 -- what the flow's context already holds; a start or single begins anew
 abbrev pub heldBefore : State → Segment → ℕ
-heldBefore s g = cond (g .start) 0 (streamIn s (foundFor s g) .held)
+heldBefore s g = cond (g .begins) 0 (streamIn s (foundFor s g) .held)
 
 abbrev pub total : State → Segment → ℕ
 total s g = heldBefore s g + dataLength g
@@ -33,11 +33,11 @@ abbrev pub wrongSize : Bool → ℕ → ℕ → Bool
 wrongSize end n mtu = cond end (ltb mtu n) (not (eqb n mtu))
 
 unfoldable pub missized : State → Segment → Bool
-missized s g = wrongSize (g .end) (dataLength g) (s .mtu)
+missized s g = wrongSize (g .ends) (dataLength g) (s .mtu)
 
 -- 8: continuation or end, flow not open
 unfoldable pub notOpen : State → Segment → Bool
-notOpen s g = not (g .start) && not (flowOpen s g)
+notOpen s g = not (g .begins) && not (flowOpen s g)
 
 -- 9: total would pass R
 unfoldable pub passesRoom : State → Segment → Bool
@@ -45,11 +45,12 @@ passesRoom s g = ltb (s .room) (total s g)
 
 -- 10: start or single, flow not open, no context free
 unfoldable pub noneFree : State → Segment → Bool
-noneFree s g = g .start && (not (flowOpen s g) && not (ltb (freeStream s) 16))
+noneFree s g = g .begins && (not (flowOpen s g) && not (ltb (freeStream s) 16))
 
 -- 11: end, total differs from PDU length
+-- (of a segment with E set; a single, which has no PDU length, is left out below)
 abbrev pub wrongLength : Segment → ℕ → Bool
-wrongLength g n = g .end && not (eqb n (pduLength (g .field)))
+wrongLength g n = g .ends && not (eqb n (pduLength (g .field)))
 
 unfoldable pub lengthDiffers : State → Segment → Bool
-lengthDiffers s g = not (g .start) && wrongLength g (total s g)
+lengthDiffers s g = not (g .begins) && wrongLength g (total s g)

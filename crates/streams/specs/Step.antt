@@ -31,7 +31,7 @@ unfoldable pub stepped : State → List ℕ → List ℕ → Segment → Joined
 stepped s memory p g =
     cond (malformed g) (refusedClosing s memory g 6)
     (cond (missized s g) (refusedClosing s memory g 7)
-    (cond (g .start) (begun s memory p g) (continued s memory p g)))
+    (cond (g .begins) (begun s memory p g) (continued s memory p g)))
 
 -- what every step may rely on: words of a state that 19 does not name, the stream memory's size, data inside the packet
 pub record Ready (words memory packet : List ℕ) (g : Segment) : Type 0 where
@@ -50,9 +50,9 @@ pub record Closing (s : State) (found number : ℕ) (says : Said) (dropped : Boo
 
 -- context n delivered or kept with `count` bytes
 pub record Kept (s : State) (n : ℕ) (g : Segment) (stream count : ℕ) (gave : Bool) (says : Said) (dropped : Bool) (after : State) : Type 0 where
-  pub answer : says ≡ cond (g .end) (delivered n (g .flow .source) (g .flow .cos) stream count) held
+  pub answer : says ≡ cond (g .ends) (delivered n (g .flow .source) (g .flow .cos) stream count) held
   pub drop : dropped ≡ gave
-  pub state : after ≡ withStream s n (cond (g .end) closedStream (record { live = 1; flow = g .flow; stream = stream; held = count }))
+  pub state : after ≡ withStream s n (cond (g .ends) closedStream (record { live = 1; flow = g .flow; stream = stream; held = count }))
 
 -- the segment's data fit behind `base` bytes of room n
 pub record Fits (s : State) (g : Segment) (n base count : ℕ) : Type 0 where
@@ -70,8 +70,8 @@ pub record Passed (s : State) (g : Segment) (found count : ℕ) : Type 0 where
 
 pub record Begins (s : State) (g : Segment) (found count : ℕ) : Type 0 where
   pub passed : Passed s g found count
-  pub start : g .start ≡ true
+  pub start : g .begins ≡ true
 
 pub record Continues (s : State) (g : Segment) (found count : ℕ) : Type 0 where
   pub passed : Passed s g found count
-  pub start : g .start ≡ false
+  pub start : g .begins ≡ false

@@ -60,7 +60,7 @@ fn is_missized(end: bool, n: usize, mtu: usize) -> bool
 fn length_differs(g: Segment, n: usize) -> bool
     ensures { λ r. ⌜ r ≡ wrongLength g n ⌝ }
 {
-    if g.end {
+    if g.ends {
         return n != wire::pdu_length(g.field);
     }
     false
@@ -84,7 +84,7 @@ fn refused_closing(state: &mut [usize], found: usize, number: usize) -> Reading
     }
 }
 
-// Context n, which now holds `total` bytes of the PDU, is delivered by an end and kept by any other segment.
+// Context n, which now holds `total` bytes of the PDU, is delivered by an end or single and kept by any other segment.
 fn keep(
     state: &mut [usize],
     n: usize,
@@ -97,7 +97,7 @@ fn keep(
     ensures { λ r. ⌜ Kept (stateOf (now (state .entry))) n g stream total dropped (said (r .answer)) (r .dropped) (stateOf (now (state .exit))) ⌝ }
 {
     let flow = g.flow;
-    if g.end {
+    if g.ends {
         contexts::put_stream(state, n, closed());
         return Reading {
             answer: Answer::Delivered {
@@ -228,10 +228,10 @@ pub fn step(state: &mut [usize], memory: &mut [u8], packet: &[u8], g: Segment) -
     }
     let count = wire::data_length(g);
     let mtu = contexts::mtu(state);
-    if is_missized(g.end, count, mtu) {
+    if is_missized(g.ends, count, mtu) {
         return refused_closing(state, found, 7);
     }
-    if g.start {
+    if g.begins {
         return begin(state, memory, packet, g, found, count);
     }
     go_on(state, memory, packet, g, found, count)

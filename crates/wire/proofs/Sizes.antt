@@ -2,11 +2,11 @@
 use Prim.Native.Nat.{ℕ, zero, suc, _≤_, _%_}
 use mathlib.Core.Path.{_≡_, refl}
 use mathlib.Core.List.{List, [], _∷_}
-use mathlib.Core.Bool.{Bool, true, false, cond, _&&_, false≢true}
+use mathlib.Core.Bool.{Bool, true, false, _&&_, false≢true}
 use native.Mathlib.Omega.{arith}
-use lib.Dec.{leb, ltb, eqb}
+use lib.Dec.{leb, eqb}
 use lib.ListN.{getD}
-use borrow.Author.Tests.{leb-true, ltb-false}
+use borrow.Author.Tests.{leb-true}
 use Rattle.wire.specs.Type11.{ssizes, bytesOf, inEights}
 
 -- whether every number of a list is at most a bound
@@ -30,9 +30,9 @@ bytes-le code = at-most 256 ssizes code refl
 
 pub eights-le : (n size : ℕ) → inEights n size ≡ true → n ≤ size
 unfolding inEights
-eights-le n size = go (ltb n 8) (ltb size n) refl
+eights-le n size = go (leb 8 n) (leb n size) refl
   where
-    go : (a b : Bool) → ltb size n ≡ b → cond a false (cond b false (eqb (n % 8) 0)) ≡ true → n ≤ size
-    go true b h e = absurd (false≢true e)
-    go false true h e = absurd (false≢true e)
-    go false false h e = ltb-false size n h
+    go : (a b : Bool) → leb n size ≡ b → (a && (b && eqb (n % 8) 0)) ≡ true → n ≤ size
+    go true true h e = leb-true n size h
+    go true false h e = absurd (false≢true e)
+    go false b h e = absurd (false≢true e)

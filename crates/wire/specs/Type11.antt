@@ -1,9 +1,9 @@
--- Type 11, message: document 01, 'Packet bytes'; 002 (Part 2, rev. 2.1), 4.1 and table 4-2.
+-- Type 11, message: document 01, 'Packet bytes'; 002 (Part 2, rev. 2.1), 4.2.5 and table 4-4.
 use Prim.Native.Nat.{ℕ, _+_, _-_, _*_, _/_, _%_}
 use mathlib.Core.List.{List, [], _∷_}
-use mathlib.Core.Bool.{Bool, false, cond, _||_}
+use mathlib.Core.Bool.{Bool, cond, _||_, _&&_}
 use lib.ListN.{length, getD}
-use lib.Dec.{eqb, ltb}
+use lib.Dec.{eqb, leb}
 use Rattle.lists.specs.Bytes.{byte}
 use Rattle.wire.specs.Packet.{header, source}
 use Rattle.wire.specs.declared.MessageSegment.{MessageSegment}
@@ -26,8 +26,8 @@ abbrev pub msgseg : List ℕ → ℕ
 msgseg p = byte p (header + 1) % 16
 
 -- data from byte 7
-abbrev pub messageFrom : ℕ
-messageFrom = header + 2
+abbrev pub messageDataFrom : ℕ
+messageDataFrom = header + 2
 
 -- what a type 11 packet says
 unfoldable pub messageOf : List ℕ → MessageSegment
@@ -38,7 +38,7 @@ messageOf p = record {
   msglen = msglen p;
   ssize = ssize p;
   msgseg = msgseg p;
-  raw = length p - messageFrom;
+  raw = length p - messageDataFrom;
 }
 
 -- the bytes that an ssize code means; 0: reserved
@@ -62,4 +62,4 @@ mailbox m = cond (isSingle m) (4 * m .msgseg + m .mbox) (m .mbox)
 
 -- 8 to `size` bytes in eights
 unfoldable pub inEights : ℕ → ℕ → Bool
-inEights n size = cond (ltb n 8) false (cond (ltb size n) false (eqb (n % 8) 0))
+inEights n size = leb 8 n && (leb n size && eqb (n % 8) 0)

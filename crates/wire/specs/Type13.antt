@@ -1,4 +1,4 @@
--- Type 13, message response, 7 bytes: document 01, 'Packet bytes'; 002 (Part 2, rev. 2.1), 4.2.5 and table 4-7.
+-- Type 13, message response, 7 bytes: document 01, 'Packet bytes'; 002 (Part 2, rev. 2.1), 4.3.3 and tables 4-6 and 4-7.
 use Prim.Native.Nat.{ℕ, _+_, _*_}
 use mathlib.Core.List.{List, [], _∷_}
 use mathlib.Core.Bool.{cond}

@@ -44,8 +44,8 @@ sameFlow a b = eqb (a .source) (b .source) && eqb (a .cos) (b .cos)
 -- what the packet says, where its data begin at `from`
 unfoldable pub segmentAt : List ℕ → ℕ → ℕ → Segment
 segmentAt p from field = record {
-  start = isS p;
-  end = isE p;
+  begins = isS p;
+  ends = isE p;
   flow = flowOf p;
   field = field;
   from = from;

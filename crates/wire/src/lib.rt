@@ -25,10 +25,11 @@ pub struct Flow {
     pub cos: usize,
 }
 
-// A type 9 packet: its data lie from `from` on, `raw` bytes with the pad.
+// A type 9 packet. `begins` is S: a start or a single; `ends` is E: an end or a single. `field` is the streamID where it begins a PDU,
+// the PDU length of an end, 0 of a continuation. Its data lie from `from` on, `raw` bytes with the pad. `odd` is O, `pad` is P.
 pub struct Segment {
-    pub start: bool,
-    pub end: bool,
+    pub begins: bool,
+    pub ends: bool,
     pub flow: Flow,
     pub field: usize,
     pub from: usize,
@@ -84,8 +85,8 @@ fn segment_at(packet: &[u8], from: usize, field: usize) -> Segment
         cos: lists::wide(packet[HEADER]),
     };
     Segment {
-        start: bit(flags, 128),
-        end: bit(flags, 64),
+        begins: bit(flags, 128),
+        ends: bit(flags, 64),
         flow,
         field,
         from,

@@ -13,7 +13,7 @@ refused-requires c κs = search needs
 returns : tie.Need-returns
 returns c =
     let s = c .before .before .before .before .before .before .before in
-    let x = lent (s .args .state .now) (s .args .streams .now) (s .args .messages .now) (s .args .response .now) (s .args .packet .now) in
+    let x = lent (s .args .state .now) (s .args .stream-memory .now) (s .args .message-memory .now) (s .args .response .now) (s .args .packet .now) in
     refusing x 12 _ (c .refused .ensures) (no-words x (c .before .if1 .taken))
 
 named-by-19-requires : tie.Need-named-by-19-requires
@@ -28,7 +28,7 @@ same-length c = search needs
 returns-2 : tie.Need-returns-2
 returns-2 c =
     let s = c .before .before .before .before .before .before .before .before .before .before in
-    let x = lent (s .args .state .now) (s .args .streams .now) (s .args .messages .now) (s .args .response .now) (s .args .packet .now) in
+    let x = lent (s .args .state .now) (s .args .stream-memory .now) (s .args .message-memory .now) (s .args .response .now) (s .args .packet .now) in
     refusing x 19 _ (c .refused2 .ensures) (named x (c .before .before .before .before .if1 .left) (sym (c .before .before .named-by-19 .ensures) ∙ c .before .if2 .taken))
 
 wrong-memory-requires : tie.Need-wrong-memory-requires
@@ -52,14 +52,14 @@ same-length-5 c = search needs
 returns-3 : tie.Need-returns-3
 returns-3 c =
     let s = c .before .before .before .before .before .before .before .before .before .before .before .before .before .before .before .before in
-    let x = lent (s .args .state .now) (s .args .streams .now) (s .args .messages .now) (s .args .response .now) (s .args .packet .now) in
+    let x = lent (s .args .state .now) (s .args .stream-memory .now) (s .args .message-memory .now) (s .args .response .now) (s .args .packet .now) in
     refusing x 12 _ (c .refused3 .ensures) (missized x (c .before .before .before .before .before .before .before .before .before .before .if1 .left) (sym (c .before .before .before .before .before .before .before .before .named-by-19 .ensures) ∙ c .before .before .before .before .before .before .before .if2 .left) (sym (c .before .before .wrong-memory .ensures) ∙ c .before .if3 .taken))
 
 step-requires : tie.Need-step-requires
 step-requires c κs =
     let s = c .before .before .before .before .before .before .before .before .before .before .before .before .before .before .before .before .before .before .before in
-    let x = lent (s .args .state .now) (s .args .streams .now) (s .args .messages .now) (s .args .response .now) (s .args .packet .now) in
-    let fit = sizes-fit (stateOf (s .args .state .now)) (s .args .streams .now) (s .args .messages .now) (s .args .response .now) (sym (c .before .before .before .before .before .wrong-memory .ensures) ∙ c .before .before .before .before .if3 .left) in
+    let x = lent (s .args .state .now) (s .args .stream-memory .now) (s .args .message-memory .now) (s .args .response .now) (s .args .packet .now) in
+    let fit = sizes-fit (stateOf (s .args .state .now)) (s .args .stream-memory .now) (s .args .message-memory .now) (s .args .response .now) (sym (c .before .before .before .before .before .wrong-memory .ensures) ∙ c .before .before .before .before .if3 .left) in
     record { whole = c .before .before .before .before .before .before .before .before .before .before .before .before .before .if1 .left; good = sym (c .before .before .before .before .before .before .before .before .before .before .before .named-by-19 .ensures) ∙ c .before .before .before .before .before .before .before .before .before .before .if2 .left; rooms = fit .0; boxes = fit .1; reply = fit .2 }
 
 same-length-6 : tie.Need-same-length-6

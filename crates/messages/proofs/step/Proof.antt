@@ -1,4 +1,4 @@
-use Rattle.messages.proofs.Laws.{sound, step-refused, step-joined}
+use Rattle.messages.proofs.Laws.{sound, step-refused, step-matched}
 use borrow.Author.Tests.{eq-eqb, ne-eqb}
 use Rattle.contexts.specs.Words.{stateOf}
 use mathlib.Core.Path.{sym, _∙_}
@@ -48,7 +48,7 @@ returns-2 c =
     let rep = s .args .response .now in
     let p = s .args .packet .now in
     let m = s .args .m in
-    c .before .before .before .before .before .before .take-alone .ensures ∙ step-joined st mem rep p m (sym (c .before .before .before .before .before .before .before .before .before .before .before .before .before .judge .ensures) ∙ c .before .before .before .before .before .before .before .before .before .before .before .before .if1 .left)
+    c .before .before .before .before .before .before .take-alone .ensures ∙ step-matched st mem rep p m (sym (c .before .before .before .before .before .before .before .before .before .before .before .before .before .judge .ensures) ∙ c .before .before .before .before .before .before .before .before .before .before .before .before .if1 .left)
 
 find-message-requires : tie.Need-find-message-requires
 find-message-requires c κs = search needs
@@ -76,7 +76,7 @@ returns-3 c =
     let rep = s .args .response .now in
     let p = s .args .packet .now in
     let m = s .args .m in
-    c .before .before .before .before .before .before .join .ensures ∙ step-joined st mem rep p m (sym (c .before .before .before .before .before .before .before .before .before .before .before .before .before .before .before .before .judge .ensures) ∙ c .before .before .before .before .before .before .before .before .before .before .before .before .before .before .before .if1 .left)
+    c .before .before .before .before .before .before .join .ensures ∙ step-matched st mem rep p m (sym (c .before .before .before .before .before .before .before .before .before .before .before .before .before .before .before .before .judge .ensures) ∙ c .before .before .before .before .before .before .before .before .before .before .before .before .before .before .before .if1 .left)
 
 begin-requires : tie.Need-begin-requires
 begin-requires c κs =
@@ -101,7 +101,7 @@ returns-4 c =
     let rep = s .args .response .now in
     let p = s .args .packet .now in
     let m = s .args .m in
-    c .before .before .before .before .before .before .begin .ensures ∙ step-joined st mem rep p m (sym (c .before .before .before .before .before .before .before .before .before .before .before .before .before .before .before .before .judge .ensures) ∙ c .before .before .before .before .before .before .before .before .before .before .before .before .before .before .before .if1 .left)
+    c .before .before .before .before .before .before .begin .ensures ∙ step-matched st mem rep p m (sym (c .before .before .before .before .before .before .before .before .before .before .before .before .before .before .before .before .judge .ensures) ∙ c .before .before .before .before .before .before .before .before .before .before .before .before .before .before .before .if1 .left)
 
 pub step-spec : {M : Type 1} → statement M
 step-spec =

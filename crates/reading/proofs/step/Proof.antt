@@ -54,9 +54,9 @@ same-length c = search needs
 returns : tie.Need-returns
 returns c =
     let s = c .before .before .before .before .before .before .before .before .before .before .before .before in
-    let x = lent (s .args .state .now) (s .args .streams .now) (s .args .messages .now) (s .args .response .now) (s .args .packet .now) in
+    let x = lent (s .args .state .now) (s .args .stream-memory .now) (s .args .message-memory .now) (s .args .response .now) (s .args .packet .now) in
     let e = (ap (λ (d : ℕ). parsed d (s .args .packet .now)) (sym (c .before .before .before .before .before .device .ensures)) ∙ (sym (c .before .before .before .before .parse .ensures) ∙ c .before .before .number .given .1)) in
-    refusing x _ _ (c .refused .ensures) (sym (by-packet x (s .pre .whole) (s .pre .good) (sizes-right (stateOf (s .args .state .now)) (s .args .streams .now) (s .args .messages .now) (s .args .response .now) (s .pre .rooms) (s .pre .boxes) (s .pre .reply)) ∙ ap (byParsed x) e))
+    refusing x _ _ (c .refused .ensures) (sym (by-packet x (s .pre .whole) (s .pre .good) (sizes-right (stateOf (s .args .state .now)) (s .args .stream-memory .now) (s .args .message-memory .now) (s .args .response .now) (s .pre .rooms) (s .pre .boxes) (s .pre .reply)) ∙ ap (byParsed x) e))
 
 same-length-2 : tie.Need-same-length-2
 same-length-2 c = search needs
@@ -67,10 +67,10 @@ same-length-3 c = search needs
 returns-2 : tie.Need-returns-2
 returns-2 c =
     let s = c .before .before .before .before .before .before .before .before .before .before .before .before .before .before .before .before .before .before in
-    let x = lent (s .args .state .now) (s .args .streams .now) (s .args .messages .now) (s .args .response .now) (s .args .packet .now) in
+    let x = lent (s .args .state .now) (s .args .stream-memory .now) (s .args .message-memory .now) (s .args .response .now) (s .args .packet .now) in
     let e = (ap (λ (d : ℕ). parsed d (s .args .packet .now)) (sym (c .before .before .before .before .before .before .before .before .before .before .before .device .ensures)) ∙ (sym (c .before .before .before .before .before .before .before .before .before .before .parse .ensures) ∙ c .before .before .before .before .before .before .before .before .g .given .1)) in
     let t = c .before .before .before .before .step in
-    stream-left x _ _ (t .last .0) (t .last .1 .0) _ (t .kept .0 ∙ s .pre .whole) (t .ensures) ∙ sym (by-packet x (s .pre .whole) (s .pre .good) (sizes-right (stateOf (s .args .state .now)) (s .args .streams .now) (s .args .messages .now) (s .args .response .now) (s .pre .rooms) (s .pre .boxes) (s .pre .reply)) ∙ ap (byParsed x) e)
+    stream-left x _ _ (t .last .0) (t .last .1 .0) _ (t .kept .0 ∙ s .pre .whole) (t .ensures) ∙ sym (by-packet x (s .pre .whole) (s .pre .good) (sizes-right (stateOf (s .args .state .now)) (s .args .stream-memory .now) (s .args .message-memory .now) (s .args .response .now) (s .pre .rooms) (s .pre .boxes) (s .pre .reply)) ∙ ap (byParsed x) e)
 
 same-length-4 : tie.Need-same-length-4
 same-length-4 c = search needs
@@ -84,10 +84,10 @@ same-length-6 c = search needs
 returns-3 : tie.Need-returns-3
 returns-3 c =
     let s = c .before .before .before .before .before .before .before .before .before .before .before .before .before .before .before .before .before .before .before .before .before in
-    let x = lent (s .args .state .now) (s .args .streams .now) (s .args .messages .now) (s .args .response .now) (s .args .packet .now) in
+    let x = lent (s .args .state .now) (s .args .stream-memory .now) (s .args .message-memory .now) (s .args .response .now) (s .args .packet .now) in
     let e = (ap (λ (d : ℕ). parsed d (s .args .packet .now)) (sym (c .before .before .before .before .before .before .before .before .before .before .before .before .before .before .device .ensures)) ∙ (sym (c .before .before .before .before .before .before .before .before .before .before .before .before .before .parse .ensures) ∙ c .before .before .before .before .before .before .before .before .before .before .before .m .given .1)) in
     let t = c .before .before .before .before .before .before .step2 in
-    message-left x _ (t .last .0) (t .last .1 .0) (t .last .1 .1 .0) _ (t .kept .0 ∙ s .pre .whole) (t .ensures) ∙ sym (by-packet x (s .pre .whole) (s .pre .good) (sizes-right (stateOf (s .args .state .now)) (s .args .streams .now) (s .args .messages .now) (s .args .response .now) (s .pre .rooms) (s .pre .boxes) (s .pre .reply)) ∙ ap (byParsed x) e)
+    message-left x _ (t .last .0) (t .last .1 .0) (t .last .1 .1 .0) _ (t .kept .0 ∙ s .pre .whole) (t .ensures) ∙ sym (by-packet x (s .pre .whole) (s .pre .good) (sizes-right (stateOf (s .args .state .now)) (s .args .stream-memory .now) (s .args .message-memory .now) (s .args .response .now) (s .pre .rooms) (s .pre .boxes) (s .pre .reply)) ∙ ap (byParsed x) e)
 
 pub step-spec : {M : Type 1} → statement M
 step-spec =

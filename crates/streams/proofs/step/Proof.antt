@@ -62,7 +62,7 @@ begin-requires : tie.Need-begin-requires
 begin-requires c κs =
     let s = c .before .before .before .before .before .before .before .before .before .before .before .before .before .before .before .before in
     let g = s .args .g in
-    let small = size-le (g .end) _ _ (sym (c .before .before .before .before .is-missized .ensures) ∙ c .before .before .before .if2 .left) in
+    let small = size-le (g .ends) _ _ (sym (c .before .before .before .before .is-missized .ensures) ∙ c .before .before .before .if2 .left) in
     (s .pre, record { passed = record { flow = c .before .before .before .before .before .before .before .before .before .before .find-stream .ensures; size = c .before .before .before .before .before .before .before .data-length .ensures; within = rw (c .before .before .before .before .before .before .before .data-length .ensures) (data-le g); small = rw (← c .before .before .before .before .before .mtu .ensures) small }; start = c .before .before .if3 .taken })
 
 same-length-3 : tie.Need-same-length-3
@@ -86,7 +86,7 @@ go-on-requires : tie.Need-go-on-requires
 go-on-requires c κs =
     let s = c .before .before .before .before .before .before .before .before .before .before .before .before .before .before .before .before in
     let g = s .args .g in
-    let small = size-le (g .end) _ _ (sym (c .before .before .before .before .is-missized .ensures) ∙ c .before .before .before .if2 .left) in
+    let small = size-le (g .ends) _ _ (sym (c .before .before .before .before .is-missized .ensures) ∙ c .before .before .before .if2 .left) in
     (s .pre, record { passed = record { flow = c .before .before .before .before .before .before .before .before .before .before .find-stream .ensures; size = c .before .before .before .before .before .before .before .data-length .ensures; within = rw (c .before .before .before .before .before .before .before .data-length .ensures) (data-le g); small = rw (← c .before .before .before .before .before .mtu .ensures) small }; start = c .before .before .if3 .left })
 
 same-length-5 : tie.Need-same-length-5
