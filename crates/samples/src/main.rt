@@ -69,51 +69,21 @@ fn main() {
     let mut response = [0u8; 7];
     endpoint::setup(&mut state, 1, 32, 2048);
 
-    let pdu = [
-        0x19,
-        0x00,
-        0x01,
-        0x00,
-        0x02,
-        0x05,
-        0xc1,
-        0x00,
-        0x07,
-        0xaa,
-        0xbb,
-        0xcc,
-        0x00,
-    ];
-    let read = endpoint::read(&mut state, &mut streams, &mut messages, &mut response, &pdu);
+    let pdu = b"\x19\x00\x01\x00\x02\x05\xc1\x00\x07\xaa\xbb\xcc\x00";
+    let read = endpoint::read(&mut state, &mut streams, &mut messages, &mut response, pdu);
     let answer = read.answer;
     line(answer);
     word(b"its bytes:");
     bytes(endpoint::stream_room(&state, &streams, 0, 3));
     word(b"\n");
 
-    let message = [
-        0x1b,
-        0x00,
-        0x01,
-        0x00,
-        0x02,
-        0x09,
-        0x60,
-        0x11,
-        0x12,
-        0x13,
-        0x14,
-        0x15,
-        0x16,
-        0x17,
-        0x18,
-    ];
+    let message = b"\x1b\x00\x01\x00\x02\x09\x60\x11\x12\x13\x14\x15\x16\x17\x18";
     let read = endpoint::read(
         &mut state,
         &mut streams,
         &mut messages,
         &mut response,
-        &message,
+        message,
     );
     let answer = read.answer;
     line(answer);
