@@ -19,18 +19,19 @@ use Rattle.contexts.proofs.Bits.{mark-set, mark-other}
 use Rattle.contexts.proofs.Good.{Message, good, neither, message-found}
 use Rattle.contexts.proofs.Kept.{closed-message, kept-message, message-kept}
 use Rattle.contexts.proofs.Marks.{room-for-mark, nothing-marked}
-use Rattle.messages.specs.Rows.{foundFor, messageOpen, reservedSize, wrongLength, pastLast, otherMessage, alreadyMarked}
-use Rattle.messages.specs.Joining.{accepted, alone, placed, kept, complete, marksWith, lastWith, contextWith}
-use Rattle.messages.proofs.Laws.{seg-le}
+use Rattle.messages.specs.Rows.{foundFor, messageOpen, otherMessage, alreadyMarked}
+use Rattle.messages.specs.Joining.{accepted, alone, placed, kept, complete, marksWith, contextWith}
+use Rattle.rules.specs.Messages.{reservedSize, badLength, pastLast, lastWith}
+use Rattle.rules.proofs.Laws.{seg-le}
 
 by-test : {P : Type 0} (b : Bool) → (b ≡ true → P) → (b ≡ false → P) → P
 by-test true yes-case no-case = yes-case refl
 by-test false yes-case no-case = no-case refl
 
 -- the kept length of the last segment, with this segment
-last-kept : (m : MessageSegment) (marks last : ℕ) → isSingle m ≡ false → marked marks (m .msgseg) ≡ false → wrongLength m ≡ false → badLast (kept m marks last) ≡ false
+last-kept : (m : MessageSegment) (marks last : ℕ) → isSingle m ≡ false → marked marks (m .msgseg) ≡ false → badLength m ≡ false → badLast (kept m marks last) ≡ false
     → badLast (kept m (marksWith m marks) (lastWith m last)) ≡ false
-unfolding badLast wrongLength
+unfolding badLast badLength
 last-kept m marks last several unset right before = go (ℕ-discrete (m .msgseg) (m .msglen))
   where
     go : Dec (m .msgseg ≡ m .msglen)
@@ -46,7 +47,7 @@ last-kept m marks last several unset right before = go (ℕ-discrete (m .msgseg)
 
 -- a segment placed with marks that leave it out
 placed-kept : (s : State) (memory response p : List ℕ) (m : MessageSegment) (n marks last : ℕ) → namedBy19 s ≡ false
-    → isSingle m ≡ false → m .msglen < 16 → reservedSize m ≡ false → wrongLength m ≡ false → pastLast m ≡ false
+    → isSingle m ≡ false → m .msglen < 16 → reservedSize m ≡ false → badLength m ≡ false → pastLast m ≡ false
     → marks < 2 ^ (m .msglen + 1) → marked marks (m .msgseg) ≡ false → badLast (kept m marks last) ≡ false
     → namedBy19 (placed s memory response p m n marks last .state) ≡ false
 unfolding placed reservedSize
@@ -58,7 +59,7 @@ placed-kept s memory response p m n marks last fine several few size right past 
     (room-for-mark marks (m .msgseg) (m .msglen + 1) inside (omega (arith, seg-le m past several)) unset) (λ z. omega (arith, pow-pos (m .msgseg))) c (last-kept m marks last several unset right before))))
 
 module _ (s : State) (memory response p : List ℕ) (m : MessageSegment) (fine : namedBy19 s ≡ false) (eight : length (s .messages) ≡ 8) (few : m .msglen < 16)
-    (size : reservedSize m ≡ false) (right : wrongLength m ≡ false) (past : pastLast m ≡ false) where
+    (size : reservedSize m ≡ false) (right : badLength m ≡ false) (past : pastLast m ≡ false) where
   alone-kept : (n : ℕ) → namedBy19 (alone s memory response p m n .state) ≡ false
   unfolding alone
   alone-kept n = message-kept s n closedMessage fine closed-message

@@ -23,9 +23,10 @@ use Rattle.contexts.specs.Refusal19.{badLast, namedBy19}
 use Rattle.contexts.specs.Words.{stateOf}
 use Rattle.contexts.proofs.Words.{eight}
 use Rattle.contexts.proofs.Good.{Message, good, message-found}
-use Rattle.messages.specs.Rows.{foundFor, messageOpen, reservedSize, wrongLength, pastLast, otherMessage, alreadyMarked, noneFree}
-use Rattle.messages.specs.Joining.{joining, alone, dataOf, marksWith, lastWith, placed, accepted, refusedWith}
-use Rattle.messages.specs.Step.{judged, matched, stepped, Sound, Kept, Replied}
+use Rattle.rules.specs.Messages.{judged, lastWith, reservedSize, badLength, pastLast, Sound}
+use Rattle.messages.specs.Rows.{foundFor, messageOpen, otherMessage, alreadyMarked, noneFree}
+use Rattle.messages.specs.Joining.{joining, alone, dataOf, marksWith, placed, accepted, refusedWith}
+use Rattle.messages.specs.Step.{matched, stepped, Kept, Replied}
 
 -- ---- numbers that stay inside
 
@@ -53,52 +54,6 @@ marks-le marks msglen h m =
     let bound : 2 ^ (msglen + 1) ≤ 65536 = pow-mono {j = 16} (omega arith) in
     omega arith
 
-pub last-with-le : (m : MessageSegment) (last : ℕ) → last ≤ 256 → m .raw ≤ 256 → lastWith m last ≤ 256
-last-with-le m last h r = go (eqb (m .msgseg) (m .msglen))
-  where
-    go : (b : Bool) → cond b (m .raw) last ≤ 256
-    go true = r
-    go false = h
-
--- ---- rows 20 to 22
-raw-le : (m : MessageSegment) → wrongLength m ≡ false → m .raw ≤ bytesOf (m .ssize)
-unfolding wrongLength
-raw-le m = go (isLast m)
-  where
-    go : (b : Bool) → cond b (not (inEights (m .raw) (bytesOf (m .ssize)))) (not (eqb (m .raw) (bytesOf (m .ssize)))) ≡ false → m .raw ≤ bytesOf (m .ssize)
-    go true e = eights-le (m .raw) (bytesOf (m .ssize)) (not-false _ e)
-    go false e = omega (arith, eqb-true (m .raw) (bytesOf (m .ssize)) (not-false _ e))
-
-pub seg-le : (m : MessageSegment) → pastLast m ≡ false → isSingle m ≡ false → m .msgseg ≤ m .msglen
-unfolding pastLast
-seg-le m e s = ltb-false (m .msglen) (m .msgseg) (ap (λ (b : Bool). not b && ltb (m .msglen) (m .msgseg)) (sym s) ∙ e)
-
-pub sound : (m : MessageSegment) → judged m ≡ 0 → Sound m
-unfolding judged
-sound m = go (reservedSize m) (wrongLength m) (pastLast m) refl refl
-  where
-    go : (a b d : Bool) → wrongLength m ≡ b → pastLast m ≡ d → _≡_ {A = ℕ} (cond a 20 (cond b 21 (cond d 22 0))) 0 → Sound m
-    go true b d p q e = absurd (omega arith)
-    go false true d p q e = absurd (omega arith)
-    go false false true p q e = absurd (omega arith)
-    go false false false p q e = record { fits = raw-le m p; past = seg-le m q }
-
--- the code's numbers are these
-pub judge-length : (m : MessageSegment) → (bytesOf (m .ssize) ≡ 0 → ⊥) → wrongLength m ≡ true → 21 ≡ judged m
-unfolding judged reservedSize
-judge-length m a e = rw (ne-eqb (bytesOf (m .ssize)) 0 a, e)
-
-pub judge-single : (m : MessageSegment) → (bytesOf (m .ssize) ≡ 0 → ⊥) → wrongLength m ≡ false → m .msglen ≡ 0 → 0 ≡ judged m
-unfolding judged reservedSize pastLast
-judge-single m a e s = rw (ne-eqb (bytesOf (m .ssize)) 0 a, e, eq-eqb (m .msglen) 0 s)
-
-pub judge-past : (m : MessageSegment) → (bytesOf (m .ssize) ≡ 0 → ⊥) → wrongLength m ≡ false → (m .msglen ≡ 0 → ⊥) → m .msglen < m .msgseg → 22 ≡ judged m
-unfolding judged reservedSize pastLast
-judge-past m a e s h = rw (ne-eqb (bytesOf (m .ssize)) 0 a, e, ne-eqb (m .msglen) 0 s, lt-ltb (m .msglen) (m .msgseg) h)
-
-pub judge-none : (m : MessageSegment) → (bytesOf (m .ssize) ≡ 0 → ⊥) → wrongLength m ≡ false → (m .msglen ≡ 0 → ⊥) → m .msgseg ≤ m .msglen → 0 ≡ judged m
-unfolding judged reservedSize pastLast
-judge-none m a e s h = rw (ne-eqb (bytesOf (m .ssize)) 0 a, e, ne-eqb (m .msglen) 0 s, le-ltb (m .msglen) (m .msgseg) h)
 
 -- ---- rows 23 to 25
 replying : (s : State) (memory response p : List ℕ) (number status : ℕ) (says : Said) (after : List ℕ)

@@ -12,6 +12,7 @@ use Rattle.wire.specs.Type13.{DONE, answered}
 use Rattle.contexts.specs.declared.MessageContext.{MessageContext}
 use Rattle.contexts.specs.State.{State, messageIn, withMessage, closedMessage, freeMessage}
 use Rattle.contexts.specs.Marks.{withMark, allMarked}
+use Rattle.rules.specs.Messages.{lastWith}
 use Rattle.messages.specs.Rows.{foundFor, messageOpen}
 
 -- the answer, the state, the message memory and the response buffer
@@ -36,12 +37,9 @@ alone s memory response p m n =
     (written memory (n * 4096) (dataOf p))
     (answered response p DONE)
 
--- the marks and the kept length of the last segment, with this segment
+-- the marks with this segment
 abbrev pub marksWith : MessageSegment → ℕ → ℕ
 marksWith m marks = withMark marks (m .msgseg)
-
-abbrev pub lastWith : MessageSegment → ℕ → ℕ
-lastWith m last = cond (eqb (m .msgseg) (m .msglen)) (m .raw) last
 
 -- the context as it is kept with `marks` and `last`
 abbrev pub kept : MessageSegment → ℕ → ℕ → MessageContext

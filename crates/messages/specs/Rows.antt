@@ -1,9 +1,9 @@
--- The tests of rows 20 to 25 of the refusal table, for a type 11 packet and a state (document 01, 'Refusal numbers').
+-- The tests of rows 23 to 25 of the refusal table, for a type 11 packet and a state; rows 20 to 22 need no state (crate rules). (Document 01, 'Refusal numbers').
 use Prim.Native.Nat.{ℕ}
 use mathlib.Core.Bool.{Bool, cond, not, _||_, _&&_}
 use lib.Dec.{eqb, ltb}
 use Rattle.wire.specs.declared.MessageSegment.{MessageSegment}
-use Rattle.wire.specs.Type11.{bytesOf, isSingle, isLast, inEights}
+use Rattle.wire.specs.Type11.{isSingle}
 use Rattle.contexts.specs.State.{State, messageIn, messageContext, freeMessage}
 use Rattle.contexts.specs.Marks.{marked}
 
@@ -13,18 +13,6 @@ foundFor s m = cond (isSingle m) 8 (messageContext s (m .source) (m .letter) (m 
 
 abbrev pub messageOpen : State → MessageSegment → Bool
 messageOpen s m = ltb (foundFor s m) 8
-
--- 20: ssize reserved
-unfoldable pub reservedSize : MessageSegment → Bool
-reservedSize m = eqb (bytesOf (m .ssize)) 0
-
--- 21: the last segment has 8 to ssize bytes in eights, every other number, past msglen too, exactly ssize
-unfoldable pub wrongLength : MessageSegment → Bool
-wrongLength m = cond (isLast m) (not (inEights (m .raw) (bytesOf (m .ssize)))) (not (eqb (m .raw) (bytesOf (m .ssize))))
-
--- 22: msglen over 0, msgseg over msglen
-unfoldable pub pastLast : MessageSegment → Bool
-pastLast m = not (isSingle m) && ltb (m .msglen) (m .msgseg)
 
 -- 23: open message has another msglen or ssize
 unfoldable pub otherMessage : State → MessageSegment → Bool

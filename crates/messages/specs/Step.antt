@@ -13,12 +13,9 @@ use Rattle.contexts.specs.State.{State, withMessage, messageContext}
 use Rattle.contexts.specs.Words.{stateOf, stateWords}
 use Rattle.contexts.specs.Marks.{marked}
 use Rattle.contexts.specs.Refusal19.{namedBy19}
-use Rattle.messages.specs.Rows.{reservedSize, wrongLength, pastLast, otherMessage, alreadyMarked, noneFree}
+use Rattle.rules.specs.Messages.{judged, Sound}
+use Rattle.messages.specs.Rows.{otherMessage, alreadyMarked, noneFree}
 use Rattle.messages.specs.Joining.{Joined, accepted, refusedWith, answerWith, contextWith}
-
--- rows 20 to 22: the refusal of the packet alone, or 0
-unfoldable pub judged : MessageSegment → ℕ
-judged m = cond (reservedSize m) 20 (cond (wrongLength m) 21 (cond (pastLast m) 22 0))
 
 -- rows 23 to 25
 unfoldable pub matched : State → List ℕ → List ℕ → List ℕ → MessageSegment → Joined
@@ -43,11 +40,6 @@ pub record Ready (words memory response packet : List ℕ) (m : MessageSegment) 
   pub segments : m .msglen < 16
   pub number : m .msgseg < 16
   pub boxes : m .mbox < 4
-
--- rows 20 to 22 passed
-pub record Sound (m : MessageSegment) : Type 0 where
-  pub fits : m .raw ≤ bytesOf (m .ssize)
-  pub past : isSingle m ≡ false → m .msgseg ≤ m .msglen
 
 -- the segment is one more of its message: context n, and marks that leave it out
 pub record Fits (m : MessageSegment) (n marks last : ℕ) : Type 0 where

@@ -7,12 +7,12 @@ ghost use mathlib.Core.Bool.{true, false};
 ghost use Prim.Native.Nat.{_+_, _*_, _<_, _≤_, _^_};
 ghost use lib.ListN.{length};
 ghost use Rattle.answers.specs.Answers.{said};
-ghost use Rattle.wire.specs.Type11.{isLast, isSingle, mailbox};
+ghost use Rattle.wire.specs.Type11.{isSingle};
 ghost use Rattle.contexts.specs.State.{closedMessage, messageContext};
 ghost use Rattle.contexts.specs.Words.{stateOf, stateWords};
-ghost use Rattle.messages.specs.Rows.{wrongLength};
-ghost use Rattle.messages.specs.Joining.{joining, alone, lastWith, placed, refusedWith};
-ghost use Rattle.messages.specs.Step.{judged, matched, stepped, Ready, Sound, Fits, Kept, Replied};
+ghost use Rattle.messages.specs.Joining.{joining, placed};
+ghost use Rattle.messages.specs.Step.{matched, stepped, Ready, Fits, Kept, Replied};
+ghost use Rattle.rules.specs.Messages.{Sound};
 
 // The bytes of a message context's room.
 pub const ROOM: usize = 4096;
@@ -31,70 +31,6 @@ pub fn closed() -> MessageContext
         marks: 0,
         last: 0,
     }
-}
-
-// Whether a segment is its message's last, or only one.
-fn is_last(m: MessageSegment) -> bool
-    ensures { λ r. ⌜ r ≡ isLast m ⌝ }
-{
-    if m.msglen == 0 {
-        return true;
-    }
-    m.msgseg == m.msglen
-}
-
-// Row 21.
-fn wrong_length(m: MessageSegment) -> bool
-    ensures { λ r. ⌜ r ≡ wrongLength m ⌝ }
-{
-    let size = wire::bytes_of(m.ssize);
-    if is_last(m) {
-        if wire::in_eights(m.raw, size) {
-            return false;
-        }
-        return true;
-    }
-    m.raw != size
-}
-
-// Rows 20 to 22: the refusal, or 0.
-fn judge(m: MessageSegment) -> usize
-    ensures { λ r. ⌜ r ≡ judged m ⌝ }
-{
-    if wire::bytes_of(m.ssize) == 0 {
-        return 20;
-    }
-    if wrong_length(m) {
-        return 21;
-    }
-    if m.msglen == 0 {
-        return 0;
-    }
-    if m.msglen < m.msgseg {
-        return 22;
-    }
-    0
-}
-
-// The mailbox of a message of one segment, or of several.
-fn mailbox_of(m: MessageSegment) -> usize
-    requires { ⌜ (m .msgseg < 16) × (m .mbox < 4) ⌝ }
-    ensures { λ r. ⌜ r ≡ mailbox m ⌝ }
-{
-    if m.msglen == 0 {
-        return 4 * m.msgseg + m.mbox;
-    }
-    m.mbox
-}
-
-// The length of the last segment, once this one has come.
-fn last_with(m: MessageSegment, last: usize) -> usize
-    ensures { λ r. ⌜ r ≡ lastWith m last ⌝ }
-{
-    if m.msgseg == m.msglen {
-        return m.raw;
-    }
-    last
 }
 
 // A refusal: its response is written, and nothing else.
@@ -118,7 +54,7 @@ fn keep(state: &mut [usize], m: MessageSegment, n: usize, marks: usize, last: us
             context: n,
             source: m.source,
             letter: m.letter,
-            mailbox: mailbox_of(m),
+            mailbox: rules::mailbox_of(m),
             length: m.msglen * wire::bytes_of(m.ssize) + last,
         };
     }
@@ -163,7 +99,7 @@ fn place(
         &packet[wire::HEADER + 2..],
     );
     wire::respond(response, packet, wire::DONE);
-    keep(state, m, n, with_this, last_with(m, last))
+    keep(state, m, n, with_this, rules::last_with(m, last))
 }
 
 // A single-segment message: the lowest free context, delivered at once.
@@ -189,7 +125,7 @@ fn take_alone(
         context: n,
         source: m.source,
         letter: m.letter,
-        mailbox: mailbox_of(m),
+        mailbox: rules::mailbox_of(m),
         length: m.raw,
     }
 }
@@ -250,7 +186,7 @@ pub fn step(
     requires { ⌜ Ready (now state) (now memory) (now response) (now packet) m ⌝ }
     ensures { λ r. ⌜ joining (said r) (stateOf (now (state .exit))) (now (memory .exit)) (now (response .exit)) ≡ stepped (stateOf (now (state .entry))) (now (memory .entry)) (now (response .entry)) (now (packet .entry)) m ⌝ }
 {
-    let number = judge(m);
+    let number = rules::judge(m);
     if number != 0 {
         return refuse(response, packet, number, wire::ERROR);
     }

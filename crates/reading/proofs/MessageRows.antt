@@ -7,12 +7,13 @@ use Rattle.answers.specs.Refusals.{allERROR, allRETRY}
 use Rattle.wire.specs.Type13.{ERROR, RETRY}
 use Rattle.contexts.specs.Words.{stateWords}
 use Rattle.contexts.proofs.Words.{words-of}
-use Rattle.messages.specs.Rows.{reservedSize, wrongLength, pastLast, otherMessage, alreadyMarked, noneFree}
+use Rattle.messages.specs.Rows.{otherMessage, alreadyMarked, noneFree}
 use Rattle.messages.specs.Joining.{accepted, refusedWith}
-use Rattle.messages.specs.Step.{judged, matched, stepped}
+use Rattle.messages.specs.Step.{matched, stepped}
 use Rattle.reading.specs.Table.{Lent, stateIn, messageIn}
 use Rattle.reading.specs.Read.{Left, leaving, ofMessage}
 use Rattle.reading.proofs.Cases.{by-test, choose-message}
+use Rattle.rules.specs.Messages.{reservedSize, badLength, pastLast, judged}
 
 module _ (x : Lent) (whole : length (x .words) ≡ stateWords) where
   errs : (number : ℕ) → ofMessage x (refusedWith (stateIn x) (x .messageMemory) (x .response) (x .packet) number ERROR) ≡ leaving x number allERROR
@@ -37,9 +38,9 @@ module _ (x : Lent) (whole : length (x .words) ≡ stateWords) where
 
   -- rows 20 to 25
   pub message-rows : ofMessage x (stepped (stateIn x) (x .messageMemory) (x .response) (x .packet) (messageIn x))
-      ≡ cond (reservedSize (messageIn x)) (leaving x 20 allERROR) (cond (wrongLength (messageIn x)) (leaving x 21 allERROR) (cond (pastLast (messageIn x)) (leaving x 22 allERROR) later))
+      ≡ cond (reservedSize (messageIn x)) (leaving x 20 allERROR) (cond (badLength (messageIn x)) (leaving x 21 allERROR) (cond (pastLast (messageIn x)) (leaving x 22 allERROR) later))
   unfolding stepped judged
   message-rows =
       by-test (reservedSize (messageIn x)) (λ a. rw a (errs 20))
-      (λ a. by-test (wrongLength (messageIn x)) (λ b. rw (a, b) (errs 21))
+      (λ a. by-test (badLength (messageIn x)) (λ b. rw (a, b) (errs 21))
       (λ b. by-test (pastLast (messageIn x)) (λ d. rw (a, b, d) (errs 22)) (λ d. rw (a, b, d) joins)))

@@ -12,6 +12,8 @@ use Rattle.wire.specs.Parsed.{parsed, parsedByType, parsedStream, parsedFielded
 use Rattle.wire.specs.declared.Parsed.the-variants.{Message}
 use Rattle.contexts.specs.Words.{stateWords}
 use Rattle.contexts.specs.Refusal19.{namedBy19}
+use Rattle.rules.specs.Segments.{malformed}
+use Rattle.rules.specs.Messages.{reservedSize, badLength, pastLast}
 use Rattle.streams.specs.Rows as stream
 use Rattle.messages.specs.Rows as message
 use Rattle.reading.specs.Table.{Lent, stateIn, segmentIn, messageIn, under, is9, is11, isState, wrongMemory, table}
@@ -32,15 +34,15 @@ abbrev typed : Lent → Left
 typed x =
     cond (is9 x && xh (x .packet)) (leaving x 5 all)
     (cond (is9 x && ((isS (x .packet) || isE (x .packet)) && under 9 x)) (leaving x 1 all)
-    (cond (is9 x && stream.malformed (segmentIn x)) (leaving x 6 flowClosed)
+    (cond (is9 x && malformed (segmentIn x)) (leaving x 6 flowClosed)
     (cond (is9 x && stream.missized (stateIn x) (segmentIn x)) (leaving x 7 flowClosed)
     (cond (is9 x && stream.notOpen (stateIn x) (segmentIn x)) (leaving x 8 all)
     (cond (is9 x && stream.passesRoom (stateIn x) (segmentIn x)) (leaving x 9 flowClosed)
     (cond (is9 x && stream.noneFree (stateIn x) (segmentIn x)) (leaving x 10 all)
     (cond (is9 x && stream.lengthDiffers (stateIn x) (segmentIn x)) (leaving x 11 flowClosed)
-    (cond (is11 x && message.reservedSize (messageIn x)) (leaving x 20 allERROR)
-    (cond (is11 x && message.wrongLength (messageIn x)) (leaving x 21 allERROR)
-    (cond (is11 x && message.pastLast (messageIn x)) (leaving x 22 allERROR)
+    (cond (is11 x && reservedSize (messageIn x)) (leaving x 20 allERROR)
+    (cond (is11 x && badLength (messageIn x)) (leaving x 21 allERROR)
+    (cond (is11 x && pastLast (messageIn x)) (leaving x 22 allERROR)
     (cond (is11 x && message.otherMessage (stateIn x) (messageIn x)) (leaving x 23 allERROR)
     (cond (is11 x && message.alreadyMarked (stateIn x) (messageIn x)) (leaving x 24 allERROR)
     (cond (is11 x && message.noneFree (stateIn x) (messageIn x)) (leaving x 25 allRETRY)

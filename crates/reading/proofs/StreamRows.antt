@@ -13,13 +13,14 @@ use Rattle.contexts.specs.Words.{stateWords}
 use Rattle.contexts.specs.Refusal19.{namedBy19}
 use Rattle.contexts.proofs.Words.{words-of}
 use Rattle.contexts.proofs.Good.{good}
-use Rattle.streams.specs.Rows.{malformed, missized, notOpen, passesRoom, noneFree, lengthDiffers, wrongLength, total}
+use Rattle.streams.specs.Rows.{missized, notOpen, passesRoom, noneFree, lengthDiffers, total}
 use Rattle.streams.specs.Joining.{accepted, refusedStaying}
 use Rattle.streams.specs.Step.{begun, continued, stepped}
 use Rattle.streams.proofs.Laws.{size-le}
 use Rattle.reading.specs.Table.{Lent, stateIn, segmentIn}
 use Rattle.reading.specs.Read.{Left, leaving, ofStream}
 use Rattle.reading.proofs.Cases.{by-test, choose-stream}
+use Rattle.rules.specs.Segments.{malformed, wrongLength}
 
 -- rows 8 and 11 are for continuations and ends, row 10 for starts and singles
 started-open : (s : State) (g : Segment) → g .begins ≡ true → notOpen s g ≡ false

@@ -13,6 +13,8 @@ use Rattle.wire.specs.Type11.{messageOf}
 use Rattle.contexts.specs.State.{State}
 use Rattle.contexts.specs.Words.{stateOf, stateWords}
 use Rattle.contexts.specs.Refusal19.{namedBy19}
+use Rattle.rules.specs.Segments.{malformed}
+use Rattle.rules.specs.Messages.{reservedSize, badLength, pastLast}
 use Rattle.streams.specs.Rows as stream
 use Rattle.messages.specs.Rows as message
 
@@ -76,7 +78,7 @@ table x =
     -- type 9 with S or E, under 9 bytes
     ∷ row 1 (is9 x && ((isS (x .packet) || isE (x .packet)) && under 9 x)) all
     -- type 9: no data, odd bytes of data, or O wrong
-    ∷ row 6 (is9 x && stream.malformed (segmentIn x)) flowClosed
+    ∷ row 6 (is9 x && malformed (segmentIn x)) flowClosed
     -- start or continuation not MTU data bytes (pad not counted); end or single over MTU
     ∷ row 7 (is9 x && stream.missized (stateIn x) (segmentIn x)) flowClosed
     -- continuation or end, flow not open
@@ -88,11 +90,11 @@ table x =
     -- end, total differs from PDU length
     ∷ row 11 (is9 x && stream.lengthDiffers (stateIn x) (segmentIn x)) flowClosed
     -- ssize reserved
-    ∷ row 20 (is11 x && message.reservedSize (messageIn x)) allERROR
+    ∷ row 20 (is11 x && reservedSize (messageIn x)) allERROR
     -- message data length breaks the rule
-    ∷ row 21 (is11 x && message.wrongLength (messageIn x)) allERROR
+    ∷ row 21 (is11 x && badLength (messageIn x)) allERROR
     -- msglen over 0, msgseg over msglen
-    ∷ row 22 (is11 x && message.pastLast (messageIn x)) allERROR
+    ∷ row 22 (is11 x && pastLast (messageIn x)) allERROR
     -- open message has another msglen or ssize
     ∷ row 23 (is11 x && message.otherMessage (stateIn x) (messageIn x)) allERROR
     -- segment already marked

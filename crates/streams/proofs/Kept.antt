@@ -14,8 +14,9 @@ use Rattle.contexts.specs.State.{State, withStream, closedStream}
 use Rattle.contexts.specs.Refusal19.{badStream, namedBy19}
 use Rattle.contexts.proofs.Good.{neither}
 use Rattle.contexts.proofs.Kept.{closed-stream, held-stream, stream-kept}
-use Rattle.streams.specs.Rows.{malformed, wrongO, passesRoom, heldBefore, total}
+use Rattle.streams.specs.Rows.{passesRoom, heldBefore, total}
 use Rattle.streams.specs.Joining.{accepted, placed, refusedClosing, contextFor, streamID}
+use Rattle.rules.specs.Segments.{malformed, wrongO}
 
 -- row 6 passed: there is at least one byte besides a pad
 pub data-there : (g : Segment) → malformed g ≡ false → 0 < dataLength g

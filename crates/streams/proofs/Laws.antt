@@ -17,9 +17,10 @@ use Rattle.wire.specs.Type9.{dataLength}
 use Rattle.contexts.specs.declared.StreamContext.{StreamContext}
 use Rattle.contexts.specs.State.{State, streamIn, withStream, closedStream, flowContext, freeStream}
 use Rattle.contexts.proofs.Good.{neither}
-use Rattle.streams.specs.Rows.{foundFor, total, malformed, wrongO, missized, notOpen, passesRoom, noneFree, wrongLength, lengthDiffers, wrongSize}
+use Rattle.streams.specs.Rows.{foundFor, total, missized, notOpen, passesRoom, noneFree, lengthDiffers}
 use Rattle.streams.specs.Joining.{joining, placed, accepted, refusedClosing, refusedStaying}
 use Rattle.streams.specs.Step.{begun, continued, stepped, Closing, Kept, Fits}
+use Rattle.rules.specs.Segments.{malformed, wrongO, wrongLength, wrongSize}
 
 -- room n ends inside the memory
 pub room-ends : (n base count room : ℕ) → n < 16 → base + count ≤ room → n * room + base + count ≤ 16 * room

@@ -1,9 +1,10 @@
--- The tests of rows 6 to 11 of the refusal table, for a type 9 packet and a state (document 01, 'Refusal numbers').
-use Prim.Native.Nat.{ℕ, _+_, _/_, _%_}
-use mathlib.Core.Bool.{Bool, cond, not, _||_, _&&_}
-use lib.Dec.{eqb, ltb}
+-- The tests of rows 7 to 11 of the refusal table, for a type 9 packet and a state; row 6 needs no state (crate rules). (Document 01, 'Refusal numbers').
+use Prim.Native.Nat.{ℕ, _+_}
+use mathlib.Core.Bool.{Bool, cond, not, _&&_}
+use lib.Dec.{ltb}
 use Rattle.wire.specs.declared.Segment.{Segment}
-use Rattle.wire.specs.Type9.{dataLength, pduLength}
+use Rattle.wire.specs.Type9.{dataLength}
+use Rattle.rules.specs.Segments.{wrongSize, wrongLength}
 use Rattle.contexts.specs.State.{State, streamIn, flowContext, freeStream}
 
 -- the flow's open context, 16 where it has none, and whether it has one
@@ -20,18 +21,7 @@ heldBefore s g = cond (g .begins) 0 (streamIn s (foundFor s g) .held)
 abbrev pub total : State → Segment → ℕ
 total s g = heldBefore s g + dataLength g
 
--- O=1 exactly if the number of half-words is odd
-abbrev pub wrongO : Segment → Bool
-wrongO g = cond (eqb (g .raw / 2 % 2) 1) (not (g .odd)) (g .odd)
-
--- 6: no data, odd bytes of data, or O wrong
-unfoldable pub malformed : Segment → Bool
-malformed g = eqb (g .raw) 0 || eqb (g .raw % 2) 1 || wrongO g
-
 -- 7: start or continuation not MTU data bytes (pad not counted); end or single over MTU
-abbrev pub wrongSize : Bool → ℕ → ℕ → Bool
-wrongSize end n mtu = cond end (ltb mtu n) (not (eqb n mtu))
-
 unfoldable pub missized : State → Segment → Bool
 missized s g = wrongSize (g .ends) (dataLength g) (s .mtu)
 
@@ -48,9 +38,5 @@ unfoldable pub noneFree : State → Segment → Bool
 noneFree s g = g .begins && (not (flowOpen s g) && not (ltb (freeStream s) 16))
 
 -- 11: end, total differs from PDU length
--- (of a segment with E set; a single, which has no PDU length, is left out below)
-abbrev pub wrongLength : Segment → ℕ → Bool
-wrongLength g n = g .ends && not (eqb n (pduLength (g .field)))
-
 unfoldable pub lengthDiffers : State → Segment → Bool
 lengthDiffers s g = not (g .begins) && wrongLength g (total s g)

@@ -11,8 +11,9 @@ use Rattle.wire.specs.Type9.{dataLength}
 use Rattle.contexts.specs.State.{State, withStream, closedStream}
 use Rattle.contexts.specs.Words.{stateOf, stateWords}
 use Rattle.contexts.specs.Refusal19.{namedBy19}
-use Rattle.streams.specs.Rows.{foundFor, malformed, missized, notOpen, passesRoom, noneFree, lengthDiffers}
+use Rattle.streams.specs.Rows.{foundFor, missized, notOpen, passesRoom, noneFree, lengthDiffers}
 use Rattle.streams.specs.Joining.{Joined, accepted, refusedClosing, refusedStaying}
+use Rattle.rules.specs.Segments.{malformed}
 
 -- a start or single: row 10; row 9 cannot hold, since 7 bounds its data by the MTU and 19 the MTU by R
 unfoldable pub begun : State → List ℕ → List ℕ → Segment → Joined

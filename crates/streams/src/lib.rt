@@ -10,7 +10,6 @@ ghost use lib.ListN.{length};
 ghost use Rattle.answers.specs.Answers.{said};
 ghost use Rattle.contexts.specs.Words.{stateOf, stateWords};
 ghost use Rattle.contexts.specs.State.{closedStream};
-ghost use Rattle.streams.specs.Rows.{malformed, wrongSize, wrongLength};
 ghost use Rattle.streams.specs.Joining.{joining, placed};
 ghost use Rattle.streams.specs.Step.{begun, continued, stepped, Ready, Closing, Kept, Fits, Begins, Continues};
 
@@ -25,45 +24,6 @@ pub fn closed() -> StreamContext
         stream: 0,
         held: 0,
     }
-}
-
-// Row 6.
-fn is_malformed(g: Segment) -> bool
-    ensures { λ r. ⌜ r ≡ malformed g ⌝ }
-{
-    if g.raw == 0 {
-        return true;
-    }
-    if g.raw % 2 == 1 {
-        return true;
-    }
-    if g.raw / 2 % 2 == 1 {
-        if g.odd {
-            return false;
-        }
-        return true;
-    }
-    g.odd
-}
-
-// Row 7, for n bytes of data.
-fn is_missized(end: bool, n: usize, mtu: usize) -> bool
-    ensures { λ r. ⌜ r ≡ wrongSize end n mtu ⌝ }
-{
-    if end {
-        return mtu < n;
-    }
-    n != mtu
-}
-
-// Row 11, for n bytes in all.
-fn length_differs(g: Segment, n: usize) -> bool
-    ensures { λ r. ⌜ r ≡ wrongLength g n ⌝ }
-{
-    if g.ends {
-        return n != wire::pdu_length(g.field);
-    }
-    false
 }
 
 // A refusal that closes the flow's context, where it has one.
@@ -200,7 +160,7 @@ fn go_on(
     if contexts::room(state) < total {
         return refused_closing(state, found, 9);
     }
-    if length_differs(g, total) {
+    if rules::length_differs(g, total) {
         return refused_closing(state, found, 11);
     }
     place(
@@ -223,12 +183,12 @@ pub fn step(state: &mut [usize], memory: &mut [u8], packet: &[u8], g: Segment) -
 {
     let flow = g.flow;
     let found = contexts::find_stream(state, flow);
-    if is_malformed(g) {
+    if rules::is_malformed(g) {
         return refused_closing(state, found, 6);
     }
     let count = wire::data_length(g);
     let mtu = contexts::mtu(state);
-    if is_missized(g.ends, count, mtu) {
+    if rules::is_missized(g.ends, count, mtu) {
         return refused_closing(state, found, 7);
     }
     if g.begins {

@@ -1,4 +1,4 @@
-use Rattle.messages.proofs.Laws.{placing, product-le, segment-ends, marks-le, last-with-le}
+use Rattle.messages.proofs.Laws.{placing, product-le, segment-ends, marks-le}
 use Rattle.contexts.proofs.Marks.{room-for-mark}
 use Rattle.wire.proofs.Sizes.{bytes-le}
 use lib.ListN.{length-take, length-drop}
@@ -9,6 +9,7 @@ use native.Mathlib.Omega.{arith}
 use borrow.Author.Needs.{needs}
 use Rattle.messages.proofs.place.Statement.{statement}
 use Rattle.messages.proofs.place.Tie as tie
+use Rattle.rules.proofs.Laws.{last-with-le}
 
 bytes-of-requires : tie.Need-bytes-of-requires
 bytes-of-requires c κs = search needs

@@ -1,10 +1,11 @@
-use Rattle.messages.proofs.Laws.{sound, step-refused, step-matched}
+use Rattle.messages.proofs.Laws.{step-refused, step-matched}
 use borrow.Author.Tests.{eq-eqb, ne-eqb}
 use Rattle.contexts.specs.Words.{stateOf}
 use mathlib.Core.Path.{sym, _∙_}
 use borrow.Author.Needs.{needs}
 use Rattle.messages.proofs.step.Statement.{statement}
 use Rattle.messages.proofs.step.Tie as tie
+use Rattle.rules.proofs.Laws.{sound}
 
 judge-requires : tie.Need-judge-requires
 judge-requires c κs = search needs

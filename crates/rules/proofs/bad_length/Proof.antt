@@ -1,7 +1,7 @@
-use Rattle.messages.specs.Rows.{wrongLength}
+use Rattle.rules.specs.Messages.{badLength}
 use borrow.Author.Needs.{needs}
-use Rattle.messages.proofs.wrong_length.Statement.{statement}
-use Rattle.messages.proofs.wrong_length.Tie as tie
+use Rattle.rules.proofs.bad_length.Statement.{statement}
+use Rattle.rules.proofs.bad_length.Tie as tie
 
 bytes-of-requires : tie.Need-bytes-of-requires
 bytes-of-requires c κs = search needs
@@ -13,18 +13,18 @@ in-eights-requires : tie.Need-in-eights-requires
 in-eights-requires c κs = search needs
 
 returns : tie.Need-returns
-unfolding wrongLength
+unfolding badLength
 returns c = simp (← c .before .before .before .before .bytes-of .ensures, ← c .before .before .before .is-last .ensures, c .before .before .if1 .taken, ← c .before .in-eights .ensures, c .if2 .taken)
 
 returns-2 : tie.Need-returns-2
-unfolding wrongLength
+unfolding badLength
 returns-2 c = simp (← c .before .before .before .before .bytes-of .ensures, ← c .before .before .before .is-last .ensures, c .before .before .if1 .taken, ← c .before .in-eights .ensures, c .if2 .left)
 
 returns-3 : tie.Need-returns-3
-unfolding wrongLength
+unfolding badLength
 returns-3 c = simp (← c .before .before .before .bytes-of .ensures, ← c .before .before .is-last .ensures, c .before .if1 .left)
 
-pub wrong-length-spec : {M : Type 1} → statement M
-wrong-length-spec =
+pub bad-length-spec : {M : Type 1} → statement M
+bad-length-spec =
     tie.close
     (tie.spec bytes-of-requires is-last-requires in-eights-requires returns returns-2 returns-3)

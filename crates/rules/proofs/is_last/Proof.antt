@@ -1,6 +1,6 @@
 use borrow.Author.Tests.{eq-eqb, ne-eqb}
-use Rattle.messages.proofs.is_last.Statement.{statement}
-use Rattle.messages.proofs.is_last.Tie as tie
+use Rattle.rules.proofs.is_last.Statement.{statement}
+use Rattle.rules.proofs.is_last.Tie as tie
 
 returns : tie.Need-returns
 returns c = simp (eq-eqb _ _ (c .if1 .taken))

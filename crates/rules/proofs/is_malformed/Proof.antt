@@ -1,7 +1,7 @@
-use Rattle.streams.specs.Rows.{malformed}
+use Rattle.rules.specs.Segments.{malformed}
 use borrow.Author.Tests.{eq-eqb, ne-eqb}
-use Rattle.streams.proofs.is_malformed.Statement.{statement}
-use Rattle.streams.proofs.is_malformed.Tie as tie
+use Rattle.rules.proofs.is_malformed.Statement.{statement}
+use Rattle.rules.proofs.is_malformed.Tie as tie
 
 returns : tie.Need-returns
 unfolding malformed

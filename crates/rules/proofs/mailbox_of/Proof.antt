@@ -1,7 +1,7 @@
 use borrow.Author.Tests.{eq-eqb, ne-eqb}
 use borrow.Author.Needs.{needs}
-use Rattle.messages.proofs.mailbox_of.Statement.{statement}
-use Rattle.messages.proofs.mailbox_of.Tie as tie
+use Rattle.rules.proofs.mailbox_of.Statement.{statement}
+use Rattle.rules.proofs.mailbox_of.Tie as tie
 
 mul-result : tie.Need-mul-result
 mul-result c = search needs

@@ -1,5 +1,5 @@
-use Rattle.streams.proofs.is_missized.Statement.{statement}
-use Rattle.streams.proofs.is_missized.Tie as tie
+use Rattle.rules.proofs.is_missized.Statement.{statement}
+use Rattle.rules.proofs.is_missized.Tie as tie
 
 returns : tie.Need-returns
 returns c = simp (c .if1 .taken)

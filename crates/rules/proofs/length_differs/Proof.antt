@@ -1,6 +1,6 @@
 use borrow.Author.Needs.{needs}
-use Rattle.streams.proofs.length_differs.Statement.{statement}
-use Rattle.streams.proofs.length_differs.Tie as tie
+use Rattle.rules.proofs.length_differs.Statement.{statement}
+use Rattle.rules.proofs.length_differs.Tie as tie
 
 pdu-length-requires : tie.Need-pdu-length-requires
 pdu-length-requires c κs = search needs

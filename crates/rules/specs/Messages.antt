@@ -1,0 +1,32 @@
+-- What makes a type 11 packet wrong by itself: rows 20 to 22 (document 01, 'Refusal numbers').
+use Prim.Native.Nat.{ℕ, _≤_}
+use mathlib.Core.Path.{_≡_}
+use mathlib.Core.Bool.{Bool, false, cond, not, _&&_}
+use lib.Dec.{eqb, ltb}
+use Rattle.wire.specs.declared.MessageSegment.{MessageSegment}
+use Rattle.wire.specs.Type11.{bytesOf, isSingle, isLast, inEights}
+
+-- 20: ssize reserved
+unfoldable pub reservedSize : MessageSegment → Bool
+reservedSize m = eqb (bytesOf (m .ssize)) 0
+
+-- 21: the last segment has 8 to ssize bytes in eights, every other number, past msglen too, exactly ssize
+unfoldable pub badLength : MessageSegment → Bool
+badLength m = cond (isLast m) (not (inEights (m .raw) (bytesOf (m .ssize)))) (not (eqb (m .raw) (bytesOf (m .ssize))))
+
+-- 22: msglen over 0, msgseg over msglen
+unfoldable pub pastLast : MessageSegment → Bool
+pastLast m = not (isSingle m) && ltb (m .msglen) (m .msgseg)
+
+-- the refusal by these rows, or 0
+unfoldable pub judged : MessageSegment → ℕ
+judged m = cond (reservedSize m) 20 (cond (badLength m) 21 (cond (pastLast m) 22 0))
+
+-- the kept length of the last segment, with this segment
+abbrev pub lastWith : MessageSegment → ℕ → ℕ
+lastWith m last = cond (eqb (m .msgseg) (m .msglen)) (m .raw) last
+
+-- rows 20 to 22 passed
+pub record Sound (m : MessageSegment) : Type 0 where
+  pub fits : m .raw ≤ bytesOf (m .ssize)
+  pub past : isSingle m ≡ false → m .msgseg ≤ m .msglen

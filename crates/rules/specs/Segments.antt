@@ -1,0 +1,23 @@
+-- What makes a type 9 packet wrong by itself: row 6, and the sizes of rows 7 and 11 (document 01, 'Refusal numbers').
+use Prim.Native.Nat.{ℕ, _/_, _%_}
+use mathlib.Core.Bool.{Bool, cond, not, _||_, _&&_}
+use lib.Dec.{eqb, ltb}
+use Rattle.wire.specs.declared.Segment.{Segment}
+use Rattle.wire.specs.Type9.{pduLength}
+
+-- O=1 exactly if the number of half-words is odd
+abbrev pub wrongO : Segment → Bool
+wrongO g = cond (eqb (g .raw / 2 % 2) 1) (not (g .odd)) (g .odd)
+
+-- 6: no data, odd bytes of data, or O wrong
+unfoldable pub malformed : Segment → Bool
+malformed g = eqb (g .raw) 0 || eqb (g .raw % 2) 1 || wrongO g
+
+-- 7, for n bytes of data: start or continuation not MTU data bytes (pad not counted); end or single over MTU
+abbrev pub wrongSize : Bool → ℕ → ℕ → Bool
+wrongSize end n mtu = cond end (ltb mtu n) (not (eqb n mtu))
+
+-- 11, for n bytes in all: end, total differs from PDU length
+-- (of a segment with E set; a single, which has no PDU length, is left out below)
+abbrev pub wrongLength : Segment → ℕ → Bool
+wrongLength g n = g .ends && not (eqb n (pduLength (g .field)))
