@@ -1,4 +1,3 @@
 pub mod State
 pub mod Words
 pub mod Marks
-pub mod Refusal19

@@ -1,5 +1,6 @@
 // The endpoint's state in words that the caller lends, one context at a time as a small struct by value.
-// Two functions for each kind of context know where its words lie. No packet is known here.
+// Two functions for each kind of context know where its words lie. No packet is known here. Every caller has tested that the state is
+// 147 words long, and that a context's number is one of its kind's.
 use wire::Flow;
 ghost use mathlib.Core.Path.{_≡_};
 ghost use mathlib.Core.List.{_∷_};
@@ -8,8 +9,6 @@ ghost use lib.ListN.{length, replicate};
 ghost use Rattle.contexts.specs.State.{isFreeStream, isOfFlow, isOfMessage, streamIn, messageIn, withStream, withMessage, flowContext, freeStream, messageContext, freeMessage};
 ghost use Rattle.contexts.specs.Words.{stateOf, stateWords};
 ghost use Rattle.contexts.specs.Marks.{marked as markedOf, withMark, allMarked};
-ghost use Rattle.contexts.specs.Refusal19.{badRoom, badStream, badLast, badMarks, badMessage, namedBy19};
-ghost use Rattle.lists.specs.First.{any};
 
 // The words of a state.
 pub const WORDS: usize = 147;
@@ -144,12 +143,12 @@ pub fn find_stream(state: &[usize], flow: Flow) -> usize
     requires { ⌜ length (now state) ≡ stateWords ⌝ }
     ensures { λ r. ⌜ r ≡ flowContext (stateOf (now (state .entry))) flow ⌝ }
 {
-    let mut i = 0;
-    while i < 16 {
-        if is_of_flow(stream_at(state, i), flow) {
-            return i;
+    let mut n = 0;
+    while n < 16 {
+        if is_of_flow(stream_at(state, n), flow) {
+            return n;
         }
-        i += 1;
+        n += 1;
     }
     16
 }
@@ -246,126 +245,6 @@ pub fn all_marked(marks: u16, count: usize) -> bool
         }
     }
     true
-}
-
-// Whether R is under the MTU or over 65,536.
-pub fn bad_room(mtu: usize, room: usize) -> bool
-    ensures { λ r. ⌜ r ≡ badRoom mtu room ⌝ }
-{
-    if room < mtu {
-        return true;
-    }
-    65536 < room
-}
-
-fn bad_stream(c: StreamContext, room: usize) -> bool
-    ensures { λ r. ⌜ r ≡ badStream room c ⌝ }
-{
-    if c.live == 0 {
-        return false;
-    }
-    if c.held == 0 {
-        return true;
-    }
-    room < c.held
-}
-
-fn bad_last(c: MessageContext) -> bool
-    requires { ⌜ (c .msglen < 16) × (c .marks < 65536) ⌝ }
-    ensures { λ r. ⌜ r ≡ badLast c ⌝ }
-{
-    let size = wire::bytes_of(c.ssize);
-    if marked(c.marks as u16, c.msglen) {
-        if wire::in_eights(c.last, size) {
-            return false;
-        }
-        return true;
-    }
-    c.last != 0
-}
-
-fn bad_marks(c: MessageContext) -> bool
-    requires { ⌜ c .msglen < 16 ⌝ }
-    ensures { λ r. ⌜ r ≡ badMarks c ⌝ }
-{
-    let count = c.msglen + 1;
-    if power(count) <= c.marks {
-        return true;
-    }
-    if c.marks == 0 {
-        return true;
-    }
-    if all_marked(c.marks as u16, count) {
-        return true;
-    }
-    bad_last(c)
-}
-
-fn bad_message(c: MessageContext) -> bool
-    ensures { λ r. ⌜ r ≡ badMessage c ⌝ }
-{
-    if c.live == 0 {
-        return false;
-    }
-    if wire::bytes_of(c.ssize) == 0 {
-        return true;
-    }
-    if c.msglen == 0 {
-        return true;
-    }
-    if 15 < c.msglen {
-        return true;
-    }
-    bad_marks(c)
-}
-
-// Whether an open stream context holds 0 or over R bytes.
-fn any_bad_stream(state: &[usize], room: usize) -> bool
-    requires { ⌜ length (now state) ≡ stateWords ⌝ }
-    ensures { λ r. ⌜ r ≡ any (badStream room) (stateOf (now (state .entry)) .streams) ⌝ }
-{
-    let mut i = 0;
-    while i < 16 {
-        if bad_stream(stream_at(state, i), room) {
-            return true;
-        }
-        i += 1;
-    }
-    false
-}
-
-// Whether an open message context is one that 19 names.
-fn any_bad_message(state: &[usize]) -> bool
-    requires { ⌜ length (now state) ≡ stateWords ⌝ }
-    ensures { λ r. ⌜ r ≡ any badMessage (stateOf (now (state .entry)) .messages) ⌝ }
-{
-    let mut i = 0;
-    while i < 8 {
-        if bad_message(message_at(state, i)) {
-            return true;
-        }
-        i += 1;
-    }
-    false
-}
-
-// Whether refusal 19 names the state.
-pub fn named_by_19(state: &[usize]) -> bool
-    requires { ⌜ length (now state) ≡ stateWords ⌝ }
-    ensures { λ r. ⌜ r ≡ namedBy19 (stateOf (now (state .entry))) ⌝ }
-{
-    let m = mtu(state);
-    let r = room(state);
-    if wire::bad_mtu(m) {
-        return true;
-    }
-    if bad_room(m, r) {
-        return true;
-    }
-    if any_bad_stream(state, r) {
-        return true;
-    }
-    any_bad_message(state)
 }
 
 // A state of zeros.

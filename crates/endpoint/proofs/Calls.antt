@@ -15,9 +15,9 @@ use Rattle.answers.specs.Refusals.{verdict}
 use Rattle.wire.specs.Type9.{badMTU}
 use Rattle.contexts.specs.State.{State}
 use Rattle.contexts.specs.Words.{stateOf, wordsOf, stateWords}
-use Rattle.contexts.specs.Refusal19.{badRoom, namedBy19}
+use Rattle.refusal19.specs.Refusal19.{badRoom, namedBy19}
 use Rattle.contexts.proofs.Words.{words-of}
-use Rattle.contexts.proofs.Good.{neither}
+use Rattle.refusal19.proofs.Good.{neither}
 use Rattle.endpoint.specs.Calls.{stands, setup, setupTable, abandonTable, abandonBy, noState, Part, part, roomPart, IsPart}
 
 -- ---- setup

@@ -13,7 +13,7 @@ use Rattle.answers.specs.Refusals.{RowOf, Row, row, all, VerdictOf, Verdict, re
 use Rattle.wire.specs.Type9.{badMTU}
 use Rattle.contexts.specs.State.{State, fresh, streamIn, messageIn, withStream, withMessage, closedStream, closedMessage, isFreeStream, isFreeMessage}
 use Rattle.contexts.specs.Words.{stateOf, wordsOf, stateWords}
-use Rattle.contexts.specs.Refusal19.{badRoom, namedBy19}
+use Rattle.refusal19.specs.Refusal19.{badRoom, namedBy19}
 
 -- an answer and the words it leaves
 pub record Stands : Type 0 where

@@ -26,7 +26,7 @@ pub fn setup(state: &mut [usize], device: u16, mtu: usize, room: usize) -> Begun
         contexts::clear(state);
         return Begun::Refused(18);
     }
-    if contexts::bad_room(mtu, room) {
+    if refusal19::bad_room(mtu, room) {
         contexts::clear(state);
         return Begun::Refused(19);
     }
@@ -47,7 +47,7 @@ pub fn read(
     if state.len() != contexts::WORDS {
         return reading::refused(12);
     }
-    if contexts::named_by_19(state) {
+    if refusal19::named_by_19(state) {
         return reading::refused(19);
     }
     if reading::wrong_memory(state, stream_memory, message_memory, response) {
@@ -63,7 +63,7 @@ pub fn abandon_stream(state: &mut [usize], n: usize) -> Abandoned
     if state.len() != contexts::WORDS {
         return Abandoned::Refused(12);
     }
-    if contexts::named_by_19(state) {
+    if refusal19::named_by_19(state) {
         return Abandoned::Refused(19);
     }
     if 16 <= n {
@@ -84,7 +84,7 @@ pub fn abandon_message(state: &mut [usize], n: usize) -> Abandoned
     if state.len() != contexts::WORDS {
         return Abandoned::Refused(12);
     }
-    if contexts::named_by_19(state) {
+    if refusal19::named_by_19(state) {
         return Abandoned::Refused(19);
     }
     if 8 <= n {
@@ -105,7 +105,7 @@ fn no_state(state: &[usize]) -> bool
     if state.len() != contexts::WORDS {
         return true;
     }
-    contexts::named_by_19(state)
+    refusal19::named_by_19(state)
 }
 
 // The first l bytes of room n of a memory of so many rooms, or an empty part. Every caller knows the sizes to be small.

@@ -14,10 +14,10 @@ use Rattle.wire.specs.Type11.{bytesOf, inEights, isSingle, isLast}
 use Rattle.contexts.specs.declared.MessageContext.{MessageContext}
 use Rattle.contexts.specs.State.{State, messageIn, withMessage, closedMessage, messageContext, freeMessage}
 use Rattle.contexts.specs.Marks.{marked, allMarked}
-use Rattle.contexts.specs.Refusal19.{badLast, badMessage, namedBy19}
+use Rattle.refusal19.specs.Refusal19.{badLast, badMessage, namedBy19}
 use Rattle.contexts.proofs.Bits.{mark-set, mark-other}
-use Rattle.contexts.proofs.Good.{Message, good, neither, message-found}
-use Rattle.contexts.proofs.Kept.{closed-message, kept-message, message-kept}
+use Rattle.refusal19.proofs.Good.{Message, good, neither, message-found}
+use Rattle.refusal19.proofs.Kept.{closed-message, kept-message, message-kept}
 use Rattle.contexts.proofs.Marks.{room-for-mark, nothing-marked}
 use Rattle.messages.specs.Rows.{foundFor, messageOpen, otherMessage, alreadyMarked}
 use Rattle.messages.specs.Joining.{accepted, alone, placed, kept, complete, marksWith, contextWith}

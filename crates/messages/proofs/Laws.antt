@@ -19,10 +19,10 @@ use Rattle.wire.proofs.Sizes.{bytes-le, eights-le}
 use Rattle.contexts.specs.declared.MessageContext.{MessageContext}
 use Rattle.contexts.specs.State.{State, messageIn, withMessage, closedMessage, messageContext, freeMessage}
 use Rattle.contexts.specs.Marks.{marked}
-use Rattle.contexts.specs.Refusal19.{badLast, namedBy19}
+use Rattle.refusal19.specs.Refusal19.{badLast, namedBy19}
 use Rattle.contexts.specs.Words.{stateOf}
 use Rattle.contexts.proofs.Words.{eight}
-use Rattle.contexts.proofs.Good.{Message, good, message-found}
+use Rattle.refusal19.proofs.Good.{Message, good, message-found}
 use Rattle.rules.specs.Messages.{judged, lastWith, reservedSize, badLength, pastLast, Sound}
 use Rattle.messages.specs.Rows.{foundFor, messageOpen, otherMessage, alreadyMarked, noneFree}
 use Rattle.messages.specs.Joining.{joining, alone, dataOf, marksWith, placed, accepted, refusedWith}

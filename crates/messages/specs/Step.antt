@@ -12,7 +12,7 @@ use Rattle.wire.specs.Type13.{ERROR, RETRY, answered}
 use Rattle.contexts.specs.State.{State, withMessage, messageContext}
 use Rattle.contexts.specs.Words.{stateOf, stateWords}
 use Rattle.contexts.specs.Marks.{marked}
-use Rattle.contexts.specs.Refusal19.{namedBy19}
+use Rattle.refusal19.specs.Refusal19.{namedBy19}
 use Rattle.rules.specs.Messages.{judged, Sound}
 use Rattle.messages.specs.Rows.{otherMessage, alreadyMarked, noneFree}
 use Rattle.messages.specs.Joining.{Joined, accepted, refusedWith, answerWith, contextWith}

@@ -12,9 +12,9 @@ use Rattle.answers.proofs.Exactly.{none-held}
 use Rattle.wire.specs.Type9.{badMTU}
 use Rattle.contexts.specs.State.{State, fresh, withStream, withMessage, closedStream, closedMessage, isFreeStream, isFreeMessage}
 use Rattle.contexts.specs.Words.{stateOf, wordsOf}
-use Rattle.contexts.specs.Refusal19.{badRoom, badStream, badMessage, namedBy19}
+use Rattle.refusal19.specs.Refusal19.{badRoom, badStream, badMessage, namedBy19}
 use Rattle.contexts.proofs.Words.{state-of, length-words}
-use Rattle.contexts.proofs.Kept.{stream-kept, message-kept, closed-stream, closed-message}
+use Rattle.refusal19.proofs.Kept.{stream-kept, message-kept, closed-stream, closed-message}
 use Rattle.reading.specs.Good.{GoodWords, StillGood}
 use Rattle.reading.proofs.Kept.{settled, unchanged, stays-good}
 use Rattle.endpoint.specs.Calls.{Stands, stands, SetupLeaves, setupTable, setup, setupBy, abandonTable, abandonBy, abandonStream, abandonMessage}

@@ -10,7 +10,7 @@ use Rattle.answers.proofs.Exactly.{none-held}
 use Rattle.wire.specs.Type11.{messageOf, isSingle}
 use Rattle.contexts.specs.State.{State, freeMessage}
 use Rattle.contexts.specs.Words.{stateOf, wordsOf, stateWords}
-use Rattle.contexts.specs.Refusal19.{namedBy19}
+use Rattle.refusal19.specs.Refusal19.{namedBy19}
 use Rattle.contexts.proofs.Words.{sixteen, eight, state-of, length-words}
 use Rattle.streams.specs.Joining as stream
 use Rattle.messages.specs.Joining as message

@@ -12,7 +12,7 @@ use Rattle.answers.specs.Refusals.{all}
 use Rattle.contexts.specs.State.{State}
 use Rattle.contexts.specs.Words.{stateOf, stateWords}
 use Rattle.contexts.proofs.Words.{words-of}
-use Rattle.contexts.proofs.Good.{neither}
+use Rattle.refusal19.proofs.Good.{neither}
 use Rattle.streams.specs.Joining as stream
 use Rattle.messages.specs.Joining as message
 use Rattle.reading.specs.Table.{Lent, wrongSizes}

@@ -11,7 +11,7 @@ use Rattle.wire.specs.Type9.{isS, isE, xh}
 use Rattle.wire.specs.Parsed.{parsed, parsedByType, parsedStream, parsedFielded}
 use Rattle.wire.specs.declared.Parsed.the-variants.{Message}
 use Rattle.contexts.specs.Words.{stateWords}
-use Rattle.contexts.specs.Refusal19.{namedBy19}
+use Rattle.refusal19.specs.Refusal19.{namedBy19}
 use Rattle.rules.specs.Segments.{malformed}
 use Rattle.rules.specs.Messages.{reservedSize, badLength, pastLast}
 use Rattle.streams.specs.Rows as stream

@@ -10,9 +10,9 @@ use Rattle.wire.specs.declared.Segment.{Segment}
 use Rattle.wire.specs.Type9.{dataLength}
 use Rattle.contexts.specs.State.{State}
 use Rattle.contexts.specs.Words.{stateWords}
-use Rattle.contexts.specs.Refusal19.{namedBy19}
+use Rattle.refusal19.specs.Refusal19.{namedBy19}
 use Rattle.contexts.proofs.Words.{words-of}
-use Rattle.contexts.proofs.Good.{good}
+use Rattle.refusal19.proofs.Good.{good}
 use Rattle.streams.specs.Rows.{missized, notOpen, passesRoom, noneFree, lengthDiffers, total}
 use Rattle.streams.specs.Joining.{accepted, refusedStaying}
 use Rattle.streams.specs.Step.{begun, continued, stepped}

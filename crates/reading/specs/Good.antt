@@ -6,7 +6,7 @@ use mathlib.Core.Bool.{false}
 use lib.ListN.{length}
 use Rattle.contexts.specs.State.{State}
 use Rattle.contexts.specs.Words.{stateOf, stateWords}
-use Rattle.contexts.specs.Refusal19.{namedBy19}
+use Rattle.refusal19.specs.Refusal19.{namedBy19}
 
 pub record GoodWords (words : List ℕ) : Type 0 where
   pub whole : length words ≡ stateWords

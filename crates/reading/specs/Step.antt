@@ -11,7 +11,7 @@ use Rattle.wire.specs.declared.Parsed.{Parsed}
 use Rattle.wire.specs.declared.Parsed.the-variants.{Refused, Stream, Message}
 use Rattle.wire.specs.Parsed.{parsed}
 use Rattle.contexts.specs.Words.{stateOf, stateWords}
-use Rattle.contexts.specs.Refusal19.{namedBy19}
+use Rattle.refusal19.specs.Refusal19.{namedBy19}
 use Rattle.streams.specs.Step as stream
 use Rattle.messages.specs.Step as message
 use Rattle.reading.specs.Table.{Lent, stateIn, isState, wrongMemory}

@@ -6,7 +6,7 @@ ghost use mathlib.Core.Path.{_≡_};
 ghost use mathlib.Core.Bool.{false};
 ghost use lib.ListN.{length};
 ghost use Rattle.contexts.specs.Words.{stateOf, stateWords};
-ghost use Rattle.contexts.specs.Refusal19.{namedBy19};
+ghost use Rattle.refusal19.specs.Refusal19.{namedBy19};
 ghost use Rattle.reading.specs.Table.{wrongSizes};
 ghost use Rattle.reading.specs.Read.{lent, ReadPromise};
 ghost use Rattle.reading.specs.Step.{Ready, Refusal};

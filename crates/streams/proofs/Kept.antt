@@ -11,9 +11,9 @@ use Rattle.wire.specs.declared.Segment.{Segment}
 use Rattle.wire.specs.Type9.{dataLength}
 use Rattle.contexts.specs.declared.StreamContext.{StreamContext}
 use Rattle.contexts.specs.State.{State, withStream, closedStream}
-use Rattle.contexts.specs.Refusal19.{badStream, namedBy19}
-use Rattle.contexts.proofs.Good.{neither}
-use Rattle.contexts.proofs.Kept.{closed-stream, held-stream, stream-kept}
+use Rattle.refusal19.specs.Refusal19.{badStream, namedBy19}
+use Rattle.refusal19.proofs.Good.{neither}
+use Rattle.refusal19.proofs.Kept.{closed-stream, held-stream, stream-kept}
 use Rattle.streams.specs.Rows.{passesRoom, heldBefore, total}
 use Rattle.streams.specs.Joining.{accepted, placed, refusedClosing, contextFor, streamID}
 use Rattle.rules.specs.Segments.{malformed, wrongO}

@@ -16,7 +16,7 @@ use Rattle.wire.specs.declared.Segment.{Segment}
 use Rattle.wire.specs.Type9.{dataLength}
 use Rattle.contexts.specs.declared.StreamContext.{StreamContext}
 use Rattle.contexts.specs.State.{State, streamIn, withStream, closedStream, flowContext, freeStream}
-use Rattle.contexts.proofs.Good.{neither}
+use Rattle.refusal19.proofs.Good.{neither}
 use Rattle.streams.specs.Rows.{foundFor, total, missized, notOpen, passesRoom, noneFree, lengthDiffers}
 use Rattle.streams.specs.Joining.{joining, placed, accepted, refusedClosing, refusedStaying}
 use Rattle.streams.specs.Step.{begun, continued, stepped, Closing, Kept, Fits}

@@ -10,7 +10,7 @@ use Rattle.wire.specs.declared.Segment.{Segment}
 use Rattle.wire.specs.Type9.{dataLength}
 use Rattle.contexts.specs.State.{State, withStream, closedStream}
 use Rattle.contexts.specs.Words.{stateOf, stateWords}
-use Rattle.contexts.specs.Refusal19.{namedBy19}
+use Rattle.refusal19.specs.Refusal19.{namedBy19}
 use Rattle.streams.specs.Rows.{foundFor, missized, notOpen, passesRoom, noneFree, lengthDiffers}
 use Rattle.streams.specs.Joining.{Joined, accepted, refusedClosing, refusedStaying}
 use Rattle.rules.specs.Segments.{malformed}

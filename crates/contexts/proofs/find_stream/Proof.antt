@@ -30,8 +30,8 @@ returns c =
     let l = c .before .before .before in
     first-found _ _ closedStream _ (rw sixteen (l .loop-test .taken)) (l .before .loop .inv .1) (rw (← c .before .before .stream-at .ensures) (sym (c .before .is-of-flow .ensures) ∙ c .if1 .taken))
 
-add-i : tie.Need-add-i Inv-loop μ-loop
-add-i c = search needs
+add-n : tie.Need-add-n Inv-loop μ-loop
+add-n c = search needs
 
 loop-less : tie.Need-loop-less Inv-loop μ-loop
 loop-less c = search needs
@@ -55,7 +55,7 @@ find-stream-spec =
     stream-at-requires
     is-of-flow-requires
     returns
-    add-i
+    add-n
     loop-less
     loop-again
     returns-2)

@@ -1,6 +1,6 @@
 use Rattle.endpoint.proofs.Calls.{state-there, ranged}
 use Rattle.endpoint.specs.Calls.{streamRoom}
-use Rattle.contexts.proofs.Good.{good}
+use Rattle.refusal19.proofs.Good.{good}
 use Rattle.contexts.specs.Words.{stateOf}
 use mathlib.Core.Path.{refl, sym, _∙_}
 use native.Mathlib.Omega.{arith}

@@ -1,4 +1,4 @@
-use Rattle.contexts.proofs.Good.{good}
+use Rattle.refusal19.proofs.Good.{good}
 use Rattle.contexts.specs.Words.{stateOf}
 use Rattle.reading.specs.Table.{wrongSizes}
 use borrow.Author.Tests.{eq-eqb, ne-eqb}

@@ -2,7 +2,7 @@ use Rattle.streams.specs.Joining.{placed, refusedStaying}
 use mathlib.Core.Bool.{true, false}
 use Prim.Native.Nat.{ℕ}
 use Rattle.streams.proofs.Laws.{begin-own, begin-free, begin-none}
-use Rattle.contexts.proofs.Good.{good}
+use Rattle.refusal19.proofs.Good.{good}
 use Rattle.contexts.specs.Words.{stateOf}
 use mathlib.Core.Path.{ap, _∙_}
 use native.Mathlib.Omega.{arith}

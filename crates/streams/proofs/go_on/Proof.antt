@@ -4,7 +4,7 @@ use Rattle.streams.specs.Joining.{refusedStaying}
 use lib.ListN.{length}
 use Prim.Native.Nat.{_<_, _≤_}
 use Rattle.streams.proofs.Laws.{closing, go-closed, go-passes, go-differs, go-placed}
-use Rattle.contexts.proofs.Good.{good, found-holds}
+use Rattle.refusal19.proofs.Good.{good, found-holds}
 use Rattle.contexts.specs.Words.{stateOf}
 use mathlib.Core.Path.{refl, sym, _∙_}
 use native.Mathlib.Omega.{arith}

@@ -1,6 +1,6 @@
 use lib.ListN.{length-take, length-drop}
 use native.Mathlib.Nat.{mul-le-mul-right, le-of-lt}
-use Rattle.contexts.proofs.Good.{good}
+use Rattle.refusal19.proofs.Good.{good}
 use Rattle.streams.proofs.Laws.{room-ends, placing}
 use Rattle.contexts.specs.Words.{stateOf}
 use native.Mathlib.Omega.{arith}

@@ -1,8 +1,8 @@
-use Rattle.contexts.specs.Refusal19.{badMarks}
+use Rattle.refusal19.specs.Refusal19.{badMarks}
 use borrow.Author.Tests.{le-leb, lt-leb, eq-eqb, ne-eqb}
 use borrow.Author.Needs.{needs}
-use Rattle.contexts.proofs.bad_marks.Statement.{statement}
-use Rattle.contexts.proofs.bad_marks.Tie as tie
+use Rattle.refusal19.proofs.bad_marks.Statement.{statement}
+use Rattle.refusal19.proofs.bad_marks.Tie as tie
 
 add-count : tie.Need-add-count
 add-count c = search needs

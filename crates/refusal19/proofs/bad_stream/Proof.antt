@@ -1,8 +1,8 @@
-use Rattle.contexts.specs.Refusal19.{badStream}
+use Rattle.refusal19.specs.Refusal19.{badStream}
 use Rattle.contexts.specs.State.{isFreeStream}
 use borrow.Author.Tests.{eq-eqb, ne-eqb}
-use Rattle.contexts.proofs.bad_stream.Statement.{statement}
-use Rattle.contexts.proofs.bad_stream.Tie as tie
+use Rattle.refusal19.proofs.bad_stream.Statement.{statement}
+use Rattle.refusal19.proofs.bad_stream.Tie as tie
 
 returns : tie.Need-returns
 unfolding badStream isFreeStream

@@ -1,14 +1,14 @@
--- `contexts::any_bad_stream` meets its contract: the walk stands at i and no context before it is bad. The contexts that are left fall.
+-- `refusal19::any_bad_stream` meets its contract: the walk stands at i and no context before it is bad. The contexts that are left fall.
 use Prim.Native.Nat.{_≤_, _-_}
 use mathlib.Core.Path.{sym, _∙_}
 use borrow.Author.Needs.{needs}
 use Rattle.lists.proofs.First.{Passed, first-next, any-found, any-none}
 use Rattle.contexts.specs.State.{closedStream}
-use Rattle.contexts.specs.Refusal19.{badStream}
+use Rattle.refusal19.specs.Refusal19.{badStream}
 use Rattle.contexts.specs.Words.{stateOf}
 use Rattle.contexts.proofs.Words.{sixteen}
-use Rattle.contexts.proofs.any_bad_stream.Statement.{statement}
-use Rattle.contexts.proofs.any_bad_stream.Tie as tie
+use Rattle.refusal19.proofs.any_bad_stream.Statement.{statement}
+use Rattle.refusal19.proofs.any_bad_stream.Tie as tie
 
 abbrev Inv-loop : tie.InvT-loop
 Inv-loop state room i₀ i = (i ≤ 16) × Passed (badStream room) (stateOf state .streams) i

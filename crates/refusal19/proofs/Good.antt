@@ -11,11 +11,11 @@ use Rattle.lists.proofs.First.{first-passes, none-passes}
 use Rattle.wire.specs.declared.Flow.{Flow}
 use Rattle.wire.specs.Type9.{badMTU}
 use Rattle.wire.specs.Type11.{bytesOf}
 use Rattle.contexts.specs.declared.StreamContext.{StreamContext}
 use Rattle.contexts.specs.declared.MessageContext.{MessageContext}
 use Rattle.contexts.specs.State.{State, streamIn, messageIn, closedStream, closedMessage, isFreeStream, isFreeMessage, isOfFlow, isOfMessage, flowContext, messageContext}
 use Rattle.contexts.specs.Marks.{allMarked}
-use Rattle.contexts.specs.Refusal19.{badRoom, badStream, badLast, badMarks, badMessage, namedBy19}
+use Rattle.refusal19.specs.Refusal19.{badRoom, badStream, badLast, badMarks, badMessage, namedBy19}
 
 -- ---- tests that failed
 pub neither : (a b : Bool) → (a || b) ≡ false → (a ≡ false) × (b ≡ false)

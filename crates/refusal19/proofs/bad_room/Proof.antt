@@ -1,7 +1,7 @@
-use Rattle.contexts.specs.Refusal19.{badRoom}
+use Rattle.refusal19.specs.Refusal19.{badRoom}
 use borrow.Author.Tests.{le-ltb, lt-ltb}
-use Rattle.contexts.proofs.bad_room.Statement.{statement}
-use Rattle.contexts.proofs.bad_room.Tie as tie
+use Rattle.refusal19.proofs.bad_room.Statement.{statement}
+use Rattle.refusal19.proofs.bad_room.Tie as tie
 
 returns : tie.Need-returns
 unfolding badRoom

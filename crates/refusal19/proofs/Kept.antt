@@ -13,12 +13,12 @@ use Rattle.lists.specs.First.{any}
 use Rattle.lists.proofs.First.{none-passes, all-fail}
 use Rattle.wire.specs.Type9.{badMTU}
 use Rattle.wire.specs.Type11.{bytesOf}
 use Rattle.contexts.specs.declared.StreamContext.{StreamContext}
 use Rattle.contexts.specs.declared.MessageContext.{MessageContext}
 use Rattle.contexts.specs.State.{State, withStream, withMessage, closedStream, closedMessage, isFreeStream, isFreeMessage}
 use Rattle.contexts.specs.Marks.{allMarked}
-use Rattle.contexts.specs.Refusal19.{badRoom, badStream, badLast, badMarks, badMessage, namedBy19}
-use Rattle.contexts.proofs.Good.{neither}
+use Rattle.refusal19.specs.Refusal19.{badRoom, badStream, badLast, badMarks, badMessage, namedBy19}
+use Rattle.refusal19.proofs.Good.{neither}
 
 -- a list none of which passes, with one that does not in place n
 module _ {A : Type 0} (p : A → Bool) (d : A) (l : List A) (n : ℕ) (a : A) where

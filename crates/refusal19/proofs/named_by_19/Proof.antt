@@ -1,7 +1,7 @@
-use Rattle.contexts.specs.Refusal19.{namedBy19}
+use Rattle.refusal19.specs.Refusal19.{namedBy19}
 use borrow.Author.Needs.{needs}
-use Rattle.contexts.proofs.named_by_19.Statement.{statement}
-use Rattle.contexts.proofs.named_by_19.Tie as tie
+use Rattle.refusal19.proofs.named_by_19.Statement.{statement}
+use Rattle.refusal19.proofs.named_by_19.Tie as tie
 
 mtu-requires : tie.Need-mtu-requires
 mtu-requires c κs = search needs

@@ -1,7 +1,7 @@
-use Rattle.contexts.specs.Refusal19.{badLast}
+use Rattle.refusal19.specs.Refusal19.{badLast}
 use borrow.Author.Needs.{needs}
-use Rattle.contexts.proofs.bad_last.Statement.{statement}
-use Rattle.contexts.proofs.bad_last.Tie as tie
+use Rattle.refusal19.proofs.bad_last.Statement.{statement}
+use Rattle.refusal19.proofs.bad_last.Tie as tie
 
 bytes-of-requires : tie.Need-bytes-of-requires
 bytes-of-requires c κs = search needs

@@ -1,10 +1,10 @@
-use Rattle.contexts.specs.Refusal19.{badMarks, badMessage}
+use Rattle.refusal19.specs.Refusal19.{badMarks, badMessage}
 use Rattle.contexts.specs.State.{isFreeMessage}
 use Rattle.wire.specs.Type11.{bytesOf}
 use borrow.Author.Tests.{eq-eqb, le-ltb, lt-ltb, ne-eqb}
 use borrow.Author.Needs.{needs}
-use Rattle.contexts.proofs.bad_message.Statement.{statement}
-use Rattle.contexts.proofs.bad_message.Tie as tie
+use Rattle.refusal19.proofs.bad_message.Statement.{statement}
+use Rattle.refusal19.proofs.bad_message.Tie as tie
 
 returns : tie.Need-returns
 unfolding badMessage badMarks isFreeMessage bytesOf
