@@ -1,6 +1,6 @@
 -- Laws of a type 9 step: what each way through the code leaves is what the definition says.
 use Prim.Native.Nat.{ℕ, _≤_, _<_, _+_, _-_, _*_, _%_}
-use mathlib.Core.Path.{_≡_, ap, sym, _∙_}
+use mathlib.Core.Path.{_≡_, ap, ap₂, sym, _∙_}
 use mathlib.Core.List.{List}
 use mathlib.Core.Bool.{Bool, true, false, cond, not, _||_, _&&_}
 use native.Mathlib.Omega.{arith}
@@ -11,15 +11,16 @@ use lib.Seq.{set-out}
 use borrow.Author.Tests.{lt-ltb, le-ltb, eqb-false, eqb-true, ltb-false, not-false}
 use Rattle.lists.specs.Bytes.{written}
 use Rattle.lists.proofs.First.{first-le}
-use Rattle.answers.specs.Answers.{Said}
+use Rattle.answers.specs.Answers.{Said, refused}
 use Rattle.wire.specs.declared.Segment.{Segment}
 use Rattle.wire.specs.Type9.{dataLength}
 use Rattle.contexts.specs.declared.StreamContext.{StreamContext}
 use Rattle.contexts.specs.State.{State, streamIn, withStream, closedStream, flowContext, freeStream}
-use Rattle.refusal19.proofs.Good.{neither}
+use Rattle.refusal19.specs.Refusal19.{namedBy19}
+use Rattle.refusal19.proofs.Good.{neither, good}
 use Rattle.streams.specs.Rows.{foundFor, total, missized, notOpen, passesRoom, noneFree, lengthDiffers}
-use Rattle.streams.specs.Joining.{joining, placed, accepted, refusedClosing, refusedStaying}
-use Rattle.streams.specs.Step.{begun, continued, stepped, Closing, Kept, Fits}
+use Rattle.streams.specs.Joining.{Joined, joining, placed, accepted, refusedClosing, refusedStaying}
+use Rattle.streams.specs.Step.{begun, continued, stepped, Closing, Kept, Fits, Passed}
 use Rattle.rules.specs.Segments.{malformed, wrongO, wrongLength, wrongSize}
 
 -- room n ends inside the memory
@@ -59,6 +60,10 @@ pub size-le : (end : Bool) (n mtu : ℕ) → wrongSize end n mtu ≡ false → n
 size-le true n mtu e = ltb-false mtu n e
 size-le false n mtu e = omega (arith, eqb-true n mtu (not-false (eqb n mtu) e))
 
+-- a start or single fits any room
+pub start-fits : (s : State) (g : Segment) {found count n : ℕ} → namedBy19 s ≡ false → Passed s g found count → n < 16 → Fits s g n 0 count
+start-fits s g e q h = record { context = h; size = q .size; within = q .within; behind = omega (arith, q .small, good s e .holds) }
+
 -- the store and the context make the placing
 pub placing : (s : State) (memory after p : List ℕ) (g : Segment) (n base stream count : ℕ) (gave : Bool) (says : Said) (dropped : Bool) (state : State)
     → Fits s g n base count
@@ -71,79 +76,91 @@ placing s memory after p g n base stream count gave says dropped state f k m =
     rw (k .answer, k .drop, k .state, m, same, f .size)
 
 -- a closing refusal
-pub closing : (s : State) (memory : List ℕ) (g : Segment) (found number : ℕ) (says : Said) (dropped : Bool) (state : State)
+closing : (s : State) (memory : List ℕ) (g : Segment) {found number : ℕ} {says : Said} {dropped : Bool} {state : State}
     → found ≡ foundFor s g → Closing s found number says dropped state → joining says dropped state memory ≡ refusedClosing s memory g number
 unfolding refusedClosing
-closing s memory g found number says dropped state f c = rw (c .answer, c .drop, c .state, f)
+closing s memory g f c = rw (c .answer, c .drop, c .state, f)
+
+-- ---- the tests of a continuation or end by what the code has: the flow's context and R
+module _ (s : State) (g : Segment) (t : g .begins ≡ false) {found count : ℕ} (q : Passed s g found count) where
+  open-flow : found < 16 → notOpen s g ≡ false
+  unfolding notOpen
+  open-flow o = rw (t, ← q .flow, lt-ltb found 16 o)
+
+  module _ {c : StreamContext} (e : c ≡ streamIn s found) where
+    total-is : total s g ≡ c .held + count
+    total-is = ap (λ (b : Bool). cond b 0 (streamIn s (foundFor s g) .held) + dataLength g) t ∙ rw (← q .flow, ← e, ← q .size)
+
+    passes : {room : ℕ} → room ≡ s .room → passesRoom s g ≡ ltb room (c .held + count)
+    unfolding passesRoom
+    passes r = ap₂ ltb (sym r) total-is
+
+    differs : lengthDiffers s g ≡ wrongLength g (c .held + count)
+    unfolding lengthDiffers
+    differs = ap₂ (λ (b : Bool) (n : ℕ). not b && wrongLength g n) t total-is
+
+-- ---- row 7 by what the code has: the bytes of data and the MTU
+module _ (s : State) (g : Segment) {count mtu : ℕ} (z : count ≡ dataLength g) (m : mtu ≡ s .mtu) where
+  sizes : {b : Bool} → wrongSize (g .ends) count mtu ≡ b → missized s g ≡ b
+  unfolding missized
+  sizes e = rw (← z, ← m) e
+
+  pub passed : {found : ℕ} → found ≡ foundFor s g → wrongSize (g .ends) count mtu ≡ false → Passed s g found count
+  passed f e = record { flow = f; size = z; within = rw z (data-le g); small = rw (← m) (size-le (g .ends) count mtu e) }
 
 module _ (s : State) (memory p : List ℕ) (g : Segment) where
   -- ---- a start or single
-  pub begin-own : g .begins ≡ true → foundFor s g < 16 → placed s memory p g (foundFor s g) 0 (g .field) true ≡ begun s memory p g
-  unfolding begun noneFree accepted
-  begin-own t o = rw (t, lt-ltb (foundFor s g) 16 o)
+  module _ (t : g .begins ≡ true) {found count : ℕ} (q : Passed s g found count) where
+    pub begin-own : {j : Joined} → found < 16 → j ≡ placed s memory p g found 0 (g .field) true → j ≡ begun s memory p g
+    unfolding begun noneFree accepted
+    begin-own o e = e ∙ rw (t, ← q .flow, lt-ltb found 16 o)
 
-  pub begin-free : g .begins ≡ true → 16 ≤ foundFor s g → freeStream s < 16 → placed s memory p g (freeStream s) 0 (g .field) false ≡ begun s memory p g
-  unfolding begun noneFree accepted
-  begin-free t o f = rw (t, le-ltb (foundFor s g) 16 o, lt-ltb (freeStream s) 16 f)
+    module _ (o : 16 ≤ found) {free : ℕ} (f : free ≡ freeStream s) where
+      pub begin-free : {j : Joined} → free < 16 → j ≡ placed s memory p g free 0 (g .field) false → j ≡ begun s memory p g
+      unfolding begun noneFree accepted
+      begin-free h e = e ∙ rw (t, ← q .flow, le-ltb found 16 o, ← f, lt-ltb free 16 h)
 
-  pub begin-none : g .begins ≡ true → 16 ≤ foundFor s g → 16 ≤ freeStream s → refusedStaying s memory 10 ≡ begun s memory p g
-  unfolding begun noneFree
-  begin-none t o f = rw (t, le-ltb (foundFor s g) 16 o, le-ltb (freeStream s) 16 f)
+      pub begin-none : 16 ≤ free → joining (refused 10) false s memory ≡ begun s memory p g
+      unfolding begun noneFree refusedStaying
+      begin-none h = rw (t, ← q .flow, le-ltb found 16 o, ← f, le-ltb free 16 h)
 
   -- ---- a continuation or end
-  pub go-closed : g .begins ≡ false → 16 ≤ foundFor s g → refusedStaying s memory 8 ≡ continued s memory p g
-  unfolding continued notOpen
-  go-closed t o = rw (t, le-ltb (foundFor s g) 16 o)
+  module _ (t : g .begins ≡ false) {found count : ℕ} (q : Passed s g found count) where
+    pub go-closed : 16 ≤ found → joining (refused 8) false s memory ≡ continued s memory p g
+    unfolding continued notOpen refusedStaying
+    go-closed o = rw (t, ← q .flow, le-ltb found 16 o)
 
-  module _ (t : g .begins ≡ false) where
-    total-behind : total s g ≡ streamIn s (foundFor s g) .held + dataLength g
-    total-behind = ap (λ (b : Bool). cond b 0 (streamIn s (foundFor s g) .held) + dataLength g) t
-
-    open-flow : foundFor s g < 16 → notOpen s g ≡ false
-    unfolding notOpen
-    open-flow o = rw (t, lt-ltb (foundFor s g) 16 o)
-
-    passes : passesRoom s g ≡ ltb (s .room) (streamIn s (foundFor s g) .held + dataLength g)
-    unfolding passesRoom
-    passes = ap (ltb (s .room)) total-behind
-
-    differs : lengthDiffers s g ≡ wrongLength g (streamIn s (foundFor s g) .held + dataLength g)
-    unfolding lengthDiffers
-    differs = ap (λ (b : Bool). not b && wrongLength g (total s g)) t ∙ ap (λ (n : ℕ). wrongLength g n) total-behind
-
-    pub go-passes : foundFor s g < 16 → s .room < streamIn s (foundFor s g) .held + dataLength g → refusedClosing s memory g 9 ≡ continued s memory p g
-    unfolding continued
-    go-passes o h = rw (open-flow o, passes, lt-ltb (s .room) (streamIn s (foundFor s g) .held + dataLength g) h)
-
-    module _ (o : foundFor s g < 16) (h : streamIn s (foundFor s g) .held + dataLength g ≤ s .room) where
-      pub go-differs : wrongLength g (streamIn s (foundFor s g) .held + dataLength g) ≡ true → refusedClosing s memory g 11 ≡ continued s memory p g
+    module _ (o : found < 16) {c : StreamContext} {room : ℕ} (e : c ≡ streamIn s found) (r : room ≡ s .room) where
+      pub go-passes : {says : Said} {dropped : Bool} {state : State} → room < c .held + count → Closing s found 9 says dropped state → joining says dropped state memory ≡ continued s memory p g
       unfolding continued
-      go-differs e = rw (open-flow o, passes, le-ltb (s .room) (streamIn s (foundFor s g) .held + dataLength g) h, differs, e)
+      go-passes h k = closing s memory g (q .flow) k ∙ rw (open-flow s g t q o, passes s g t q e r, lt-ltb room (c .held + count) h)
 
-      pub go-placed : wrongLength g (streamIn s (foundFor s g) .held + dataLength g) ≡ false
-          → placed s memory p g (foundFor s g) (streamIn s (foundFor s g) .held) (streamIn s (foundFor s g) .stream) false ≡ continued s memory p g
-      unfolding continued accepted
-      go-placed e = rw (open-flow o, passes, le-ltb (s .room) (streamIn s (foundFor s g) .held + dataLength g) h, differs, e) (rw (t, lt-ltb (foundFor s g) 16 o))
+      module _ (h : c .held + count ≤ room) where
+        pub go-differs : {says : Said} {dropped : Bool} {state : State} → wrongLength g (c .held + count) ≡ true → Closing s found 11 says dropped state → joining says dropped state memory ≡ continued s memory p g
+        unfolding continued
+        go-differs d k = closing s memory g (q .flow) k ∙ rw (open-flow s g t q o, passes s g t q e r, le-ltb room (c .held + count) h, differs s g t q e, d)
+
+        pub go-placed : {j : Joined} → wrongLength g (c .held + count) ≡ false → j ≡ placed s memory p g found (c .held) (c .stream) false → j ≡ continued s memory p g
+        unfolding continued accepted
+        go-placed d k =
+            k ∙ rw (open-flow s g t q o, passes s g t q e r, le-ltb room (c .held + count) h, differs s g t q e, d) (rw (t, ← q .flow, lt-ltb found 16 o, ← e))
 
   -- ---- rows 6 and 7
-  pub step-malformed : malformed g ≡ true → refusedClosing s memory g 6 ≡ stepped s memory p g
-  unfolding stepped
-  step-malformed e = rw e
-
-  module _ (d : malformed g ≡ false) where
-    pub step-missized : missized s g ≡ true → refusedClosing s memory g 7 ≡ stepped s memory p g
+  module _ {found : ℕ} (f : found ≡ foundFor s g) where
+    pub step-malformed : {says : Said} {dropped : Bool} {state : State} → malformed g ≡ true → Closing s found 6 says dropped state → joining says dropped state memory ≡ stepped s memory p g
     unfolding stepped
-    step-missized e = rw (d, e)
+    step-malformed d k = closing s memory g f k ∙ rw d
 
-    pub step-begins : missized s g ≡ false → g .begins ≡ true → begun s memory p g ≡ stepped s memory p g
+  module _ (d : malformed g ≡ false) {count mtu : ℕ} (z : count ≡ dataLength g) (m : mtu ≡ s .mtu) where
+    pub step-missized : {found : ℕ} {says : Said} {dropped : Bool} {state : State} → found ≡ foundFor s g → wrongSize (g .ends) count mtu ≡ true → Closing s found 7 says dropped state
+        → joining says dropped state memory ≡ stepped s memory p g
     unfolding stepped
-    step-begins e t = rw (d, e, t)
+    step-missized f e k = closing s memory g f k ∙ rw (d, sizes s g z m e)
 
-    pub step-continues : missized s g ≡ false → g .begins ≡ false → continued s memory p g ≡ stepped s memory p g
+    pub step-begins : {j : Joined} → wrongSize (g .ends) count mtu ≡ false → g .begins ≡ true → j ≡ begun s memory p g → j ≡ stepped s memory p g
     unfolding stepped
-    step-continues e t = rw (d, e, t)
+    step-begins e t k = k ∙ rw (d, sizes s g z m e, t)
 
--- row 7 by the numbers that the code has
-pub sizes : (s : State) (g : Segment) {n mtu : ℕ} {b : Bool} → n ≡ dataLength g → mtu ≡ s .mtu → wrongSize (g .ends) n mtu ≡ b → missized s g ≡ b
-unfolding missized
-sizes s g p q e = rw (← p, ← q) e
+    pub step-continues : {j : Joined} → wrongSize (g .ends) count mtu ≡ false → g .begins ≡ false → j ≡ continued s memory p g → j ≡ stepped s memory p g
+    unfolding stepped
+    step-continues e t k = k ∙ rw (d, sizes s g z m e, t)

@@ -1,27 +1,20 @@
 use Rattle.contexts.proofs.Words.{sixteen}
 use Rattle.streams.specs.Rows.{foundFor}
-use Rattle.streams.specs.Joining.{refusedStaying}
 use lib.ListN.{length}
 use Prim.Native.Nat.{_<_, _≤_}
-use Rattle.streams.proofs.Laws.{closing, go-closed, go-passes, go-differs, go-placed}
+use Rattle.streams.proofs.Laws.{go-closed, go-passes, go-differs, go-placed}
 use Rattle.refusal19.proofs.Good.{good, found-holds}
 use Rattle.contexts.specs.Words.{stateOf}
-use mathlib.Core.Path.{refl, sym, _∙_}
+use mathlib.Core.Path.{sym, _∙_}
 use native.Mathlib.Omega.{arith}
 use borrow.Author.Needs.{needs}
 use Rattle.streams.proofs.go_on.Statement.{statement}
 use Rattle.streams.proofs.go_on.Tie as tie
 
 returns : tie.Need-returns
-unfolding refusedStaying
 returns c =
     let s = c .before .before .before .before in
-    let st = stateOf (s .args .state .now) in
-    let m = s .args .memory .now in
-    let p = s .args .packet .now in
-    let g = s .args .g in
-    let q = s .pre .1 .passed in
-    go-closed st m p g (s .pre .1 .start) (rw (← q .flow) (c .if1 .taken))
+    go-closed _ _ _ _ (s .pre .1 .start) (s .pre .1 .passed) (c .if1 .taken)
 
 stream-at-requires : tie.Need-stream-at-requires
 stream-at-requires c κs = search needs
@@ -48,15 +41,9 @@ same-length c = search needs
 
 returns-2 : tie.Need-returns-2
 returns-2 c =
-    let s = c .before .before .before .before .before .before .before .before .before .before .before .before .before .before in
-    let st = stateOf (s .args .state .now) in
-    let m = s .args .memory .now in
-    let p = s .args .packet .now in
-    let g = s .args .g in
-    let q = s .pre .1 .passed in
-    let e = c .before .before .before .before .before .before .before .before .stream-at .ensures in
-    closing st m g _ 9 _ _ _ (q .flow) (c .before .before .refused-closing .ensures)
-    ∙ go-passes st m p g (s .pre .1 .start) (rw (← q .flow) (c .before .before .before .before .before .before .before .before .before .before .if1 .left)) (rw (← q .flow, ← e, ← q .size, ← c .before .before .before .before .before .room .ensures) (omega (arith, c .before .before .before .before .if2 .taken)))
+    let a = c .before .before .before .before in
+    let s = a .before .before .before .before .before .before .before .before .before .before in
+    go-passes _ _ _ _ (s .pre .1 .start) (s .pre .1 .passed) (a .before .before .before .before .before .before .if1 .left) (a .before .before .before .before .stream-at .ensures) (a .before .room .ensures) (omega (arith, a .if2 .taken)) (c .before .before .refused-closing .ensures)
 
 length-differs-requires : tie.Need-length-differs-requires
 length-differs-requires c κs = search needs
@@ -69,22 +56,17 @@ same-length-2 c = search needs
 
 returns-3 : tie.Need-returns-3
 returns-3 c =
-    let s = c .before .before .before .before .before .before .before .before .before .before .before .before .before .before .before .before in
-    let st = stateOf (s .args .state .now) in
-    let m = s .args .memory .now in
-    let p = s .args .packet .now in
-    let g = s .args .g in
-    let q = s .pre .1 .passed in
-    let e = c .before .before .before .before .before .before .before .before .before .before .stream-at .ensures in
-    closing st m g _ 11 _ _ _ (q .flow) (c .before .before .refused-closing2 .ensures)
-    ∙ go-differs st m p g (s .pre .1 .start) (rw (← q .flow) (c .before .before .before .before .before .before .before .before .before .before .before .before .if1 .left)) (rw (← q .flow, ← e, ← q .size, ← c .before .before .before .before .before .before .before .room .ensures) (c .before .before .before .before .before .before .if2 .left))
-    (rw (← q .flow, ← e, ← q .size) (sym (c .before .before .before .before .before .length-differs .ensures) ∙ c .before .before .before .before .if3 .taken))
+    let a = c .before .before .before .before .before .before in
+    let s = a .before .before .before .before .before .before .before .before .before .before in
+    go-differs _ _ _ _ (s .pre .1 .start) (s .pre .1 .passed) (a .before .before .before .before .before .before .if1 .left) (a .before .before .before .before .stream-at .ensures) (a .before .room .ensures) (a .if2 .left)
+    (sym (c .before .before .before .before .before .length-differs .ensures) ∙ c .before .before .before .before .if3 .taken) (c .before .before .refused-closing2 .ensures)
 
 place-requires : tie.Need-place-requires
 place-requires c κs =
-    let s = c .before .before .before .before .before .before .before .before .before .before .before .before .before .before in
+    let a = c .before .before .before .before in
+    let s = a .before .before .before .before .before .before .before .before .before .before in
     let q = s .pre .1 .passed in
-    (s .pre .0, record { context = c .before .before .before .before .before .before .before .before .before .before .if1 .left; size = q .size; within = q .within; behind = rw (← c .before .before .before .before .before .room .ensures) (c .before .before .before .before .if2 .left) })
+    (s .pre .0, record { context = a .before .before .before .before .before .before .if1 .left; size = q .size; within = q .within; behind = rw (← a .before .room .ensures) (a .if2 .left) })
 
 same-length-3 : tie.Need-same-length-3
 same-length-3 c = search needs
@@ -94,17 +76,10 @@ same-length-4 c = search needs
 
 returns-4 : tie.Need-returns-4
 returns-4 c =
-    let s = c .before .before .before .before .before .before .before .before .before .before .before .before .before .before .before .before .before .before .before in
-    let st = stateOf (s .args .state .now) in
-    let m = s .args .memory .now in
-    let p = s .args .packet .now in
-    let g = s .args .g in
-    let q = s .pre .1 .passed in
-    let e = c .before .before .before .before .before .before .before .before .before .before .before .before .before .stream-at .ensures in
-    c .before .before .before .before .place .ensures
-    ∙ (rw (e, q .flow) refl
-    ∙ go-placed st m p g (s .pre .1 .start) (rw (← q .flow) (c .before .before .before .before .before .before .before .before .before .before .before .before .before .before .before .if1 .left)) (rw (← q .flow, ← e, ← q .size, ← c .before .before .before .before .before .before .before .before .before .before .room .ensures) (c .before .before .before .before .before .before .before .before .before .if2 .left))
-    (rw (← q .flow, ← e, ← q .size) (sym (c .before .before .before .before .before .before .before .before .length-differs .ensures) ∙ c .before .before .before .before .before .before .before .if3 .left)))
+    let a = c .before .before .before .before .before .before .before .before .before in
+    let s = a .before .before .before .before .before .before .before .before .before .before in
+    go-placed _ _ _ _ (s .pre .1 .start) (s .pre .1 .passed) (a .before .before .before .before .before .before .if1 .left) (a .before .before .before .before .stream-at .ensures) (a .before .room .ensures) (a .if2 .left)
+    (sym (c .before .before .before .before .before .before .before .before .length-differs .ensures) ∙ c .before .before .before .before .before .before .before .if3 .left) (c .before .before .before .before .place .ensures)
 
 pub go-on-spec : {M : Type 1} → statement M
 go-on-spec =

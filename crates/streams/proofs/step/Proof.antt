@@ -1,5 +1,5 @@
 use Rattle.contexts.proofs.Words.{sixteen}
-use Rattle.streams.proofs.Laws.{closing, some-data, size-le, data-le, found-le, sizes, step-malformed, step-missized, step-begins, step-continues}
+use Rattle.streams.proofs.Laws.{some-data, found-le, passed, step-malformed, step-missized, step-begins, step-continues}
 use Rattle.contexts.specs.Words.{stateOf}
 use mathlib.Core.Path.{sym, _∙_}
 use borrow.Author.Needs.{needs}
@@ -22,13 +22,7 @@ same-length c = search needs
 
 returns : tie.Need-returns
 returns c =
-    let s = c .before .before .before .before .before .before .before .before .before .before .before .before in
-    let st = stateOf (s .args .state .now) in
-    let m = s .args .memory .now in
-    let p = s .args .packet .now in
-    let g = s .args .g in
-    closing st m g _ 6 _ _ _ (c .before .before .before .before .before .before .find-stream .ensures) (c .before .before .refused-closing .ensures)
-    ∙ step-malformed st m p g (sym (c .before .before .before .before .before .is-malformed .ensures) ∙ c .before .before .before .before .if1 .taken)
+    step-malformed _ _ _ _ (c .before .before .before .before .before .before .find-stream .ensures) (sym (c .before .before .before .before .before .is-malformed .ensures) ∙ c .before .before .before .before .if1 .taken) (c .before .before .refused-closing .ensures)
 
 data-length-requires : tie.Need-data-length-requires
 data-length-requires c κs = some-data (c .before .before .before .before .before .before .before .before .args .g) (sym (c .before .is-malformed .ensures) ∙ c .if1 .left)
@@ -49,21 +43,14 @@ same-length-2 c = search needs
 
 returns-2 : tie.Need-returns-2
 returns-2 c =
-    let s = c .before .before .before .before .before .before .before .before .before .before .before .before .before .before .before .before .before in
-    let st = stateOf (s .args .state .now) in
-    let m = s .args .memory .now in
-    let p = s .args .packet .now in
-    let g = s .args .g in
-    closing st m g _ 7 _ _ _ (c .before .before .before .before .before .before .before .before .before .before .before .find-stream .ensures) (c .before .before .refused-closing2 .ensures)
-    ∙ step-missized st m p g (sym (c .before .before .before .before .before .before .before .before .before .before .is-malformed .ensures) ∙ c .before .before .before .before .before .before .before .before .before .if1 .left)
-    (sizes st g (c .before .before .before .before .before .before .before .before .data-length .ensures) (c .before .before .before .before .before .before .mtu .ensures) (sym (c .before .before .before .before .before .is-missized .ensures) ∙ c .before .before .before .before .if2 .taken))
+    let a = c .before .before .before .before .before .before .before .before .before in
+    step-missized _ _ _ _ (sym (a .before .is-malformed .ensures) ∙ a .if1 .left) (c .before .before .before .before .before .before .before .before .data-length .ensures) (c .before .before .before .before .before .before .mtu .ensures) (a .before .before .find-stream .ensures)
+    (sym (c .before .before .before .before .before .is-missized .ensures) ∙ c .before .before .before .before .if2 .taken) (c .before .before .refused-closing2 .ensures)
 
 begin-requires : tie.Need-begin-requires
 begin-requires c κs =
-    let s = c .before .before .before .before .before .before .before .before .before .before .before .before .before .before .before .before in
-    let g = s .args .g in
-    let small = size-le (g .ends) _ _ (sym (c .before .before .before .before .is-missized .ensures) ∙ c .before .before .before .if2 .left) in
-    (s .pre, record { passed = record { flow = c .before .before .before .before .before .before .before .before .before .before .find-stream .ensures; size = c .before .before .before .before .before .before .before .data-length .ensures; within = rw (c .before .before .before .before .before .before .before .data-length .ensures) (data-le g); small = rw (← c .before .before .before .before .before .mtu .ensures) small }; start = c .before .before .if3 .taken })
+    let a = c .before .before .before in
+    (c .before .before .before .before .before .before .before .before .before .before .before .before .before .before .before .before .pre, record { passed = passed _ _ (a .before .before .before .before .data-length .ensures) (a .before .before .mtu .ensures) (a .before .before .before .before .before .before .before .find-stream .ensures) (sym (a .before .is-missized .ensures) ∙ a .if2 .left); start = c .before .before .if3 .taken })
 
 same-length-3 : tie.Need-same-length-3
 same-length-3 c = search needs
@@ -73,21 +60,14 @@ same-length-4 c = search needs
 
 returns-3 : tie.Need-returns-3
 returns-3 c =
-    let s = c .before .before .before .before .before .before .before .before .before .before .before .before .before .before .before .before .before .before .before .before .before in
-    let st = stateOf (s .args .state .now) in
-    let m = s .args .memory .now in
-    let p = s .args .packet .now in
-    let g = s .args .g in
-    c .before .before .before .before .begin .ensures
-    ∙ step-begins st m p g (sym (c .before .before .before .before .before .before .before .before .before .before .before .before .before .before .is-malformed .ensures) ∙ c .before .before .before .before .before .before .before .before .before .before .before .before .before .if1 .left)
-    (sizes st g (c .before .before .before .before .before .before .before .before .before .before .before .before .data-length .ensures) (c .before .before .before .before .before .before .before .before .before .before .mtu .ensures) (sym (c .before .before .before .before .before .before .before .before .before .is-missized .ensures) ∙ c .before .before .before .before .before .before .before .before .if2 .left)) (c .before .before .before .before .before .before .before .if3 .taken)
+    let a = c .before .before .before .before .before .before .before .before in
+    step-begins _ _ _ _ (sym (a .before .before .before .before .before .before .is-malformed .ensures) ∙ a .before .before .before .before .before .if1 .left) (a .before .before .before .before .data-length .ensures) (a .before .before .mtu .ensures)
+    (sym (a .before .is-missized .ensures) ∙ a .if2 .left) (c .before .before .before .before .before .before .before .if3 .taken) (c .before .before .before .before .begin .ensures)
 
 go-on-requires : tie.Need-go-on-requires
 go-on-requires c κs =
-    let s = c .before .before .before .before .before .before .before .before .before .before .before .before .before .before .before .before in
-    let g = s .args .g in
-    let small = size-le (g .ends) _ _ (sym (c .before .before .before .before .is-missized .ensures) ∙ c .before .before .before .if2 .left) in
-    (s .pre, record { passed = record { flow = c .before .before .before .before .before .before .before .before .before .before .find-stream .ensures; size = c .before .before .before .before .before .before .before .data-length .ensures; within = rw (c .before .before .before .before .before .before .before .data-length .ensures) (data-le g); small = rw (← c .before .before .before .before .before .mtu .ensures) small }; start = c .before .before .if3 .left })
+    let a = c .before .before .before in
+    (c .before .before .before .before .before .before .before .before .before .before .before .before .before .before .before .before .pre, record { passed = passed _ _ (a .before .before .before .before .data-length .ensures) (a .before .before .mtu .ensures) (a .before .before .before .before .before .before .before .find-stream .ensures) (sym (a .before .is-missized .ensures) ∙ a .if2 .left); start = c .before .before .if3 .left })
 
 same-length-5 : tie.Need-same-length-5
 same-length-5 c = search needs
@@ -97,14 +77,9 @@ same-length-6 c = search needs
 
 returns-4 : tie.Need-returns-4
 returns-4 c =
-    let s = c .before .before .before .before .before .before .before .before .before .before .before .before .before .before .before .before .before .before .before .before .before in
-    let st = stateOf (s .args .state .now) in
-    let m = s .args .memory .now in
-    let p = s .args .packet .now in
-    let g = s .args .g in
-    c .before .before .before .before .go-on .ensures
-    ∙ step-continues st m p g (sym (c .before .before .before .before .before .before .before .before .before .before .before .before .before .before .is-malformed .ensures) ∙ c .before .before .before .before .before .before .before .before .before .before .before .before .before .if1 .left)
-    (sizes st g (c .before .before .before .before .before .before .before .before .before .before .before .before .data-length .ensures) (c .before .before .before .before .before .before .before .before .before .before .mtu .ensures) (sym (c .before .before .before .before .before .before .before .before .before .is-missized .ensures) ∙ c .before .before .before .before .before .before .before .before .if2 .left)) (c .before .before .before .before .before .before .before .if3 .left)
+    let a = c .before .before .before .before .before .before .before .before in
+    step-continues _ _ _ _ (sym (a .before .before .before .before .before .before .is-malformed .ensures) ∙ a .before .before .before .before .before .if1 .left) (a .before .before .before .before .data-length .ensures) (a .before .before .mtu .ensures)
+    (sym (a .before .is-missized .ensures) ∙ a .if2 .left) (c .before .before .before .before .before .before .before .if3 .left) (c .before .before .before .before .go-on .ensures)
 
 pub step-spec : {M : Type 1} → statement M
 step-spec =
