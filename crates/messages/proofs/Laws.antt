@@ -54,7 +54,6 @@ marks-le marks msglen h m =
     let bound : 2 ^ (msglen + 1) ≤ 65536 = pow-mono {j = 16} (omega arith) in
     omega arith
 
-
 -- ---- rows 23 to 25
 replying : (s : State) (memory response p : List ℕ) (number status : ℕ) (says : Said) (after : List ℕ)
     → Replied response p number status says after → joining says s memory after ≡ refusedWith s memory response p number status

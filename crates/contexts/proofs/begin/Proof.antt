@@ -1,3 +1,4 @@
+-- `contexts::begin` meets its contract: a state of zeros with the first three words set.
 use lib.ListN.{replicate}
 use mathlib.Core.Path.{ap, _∙_}
 use Prim.Native.Nat.{ℕ}

@@ -1,3 +1,4 @@
+-- `contexts::device` meets its contract: word 0 is the device ID.
 use Rattle.contexts.specs.Words.{stateOf}
 use mathlib.Core.Path.{refl}
 use borrow.Author.Needs.{needs}

@@ -1,3 +1,4 @@
+-- `contexts::is_of_flow` meets its contract: each return follows from the tests on the way.
 use Rattle.contexts.specs.State.{isFreeStream, isOfFlow}
 use Rattle.wire.specs.Type9.{sameFlow}
 use borrow.Author.Tests.{eq-eqb, ne-eqb}

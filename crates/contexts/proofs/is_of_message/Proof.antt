@@ -1,3 +1,4 @@
+-- `contexts::is_of_message` meets its contract: each return follows from the tests on the way.
 use Rattle.contexts.proofs.Found.{of-message}
 use Rattle.contexts.specs.State.{isFreeMessage, isOfMessage}
 use borrow.Author.Tests.{eq-eqb, ne-eqb}

@@ -1,3 +1,4 @@
+-- `contexts::marked` meets its contract: a shift by k is a division by 2 to the k.
 use mathlib.Core.Path.{refl}
 use Rattle.contexts.specs.Marks.{marked}
 use borrow.Author.Needs.{needs}

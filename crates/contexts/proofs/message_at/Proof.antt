@@ -1,3 +1,4 @@
+-- `contexts::message_at` meets its contract: eight words of the table are row n.
 use Rattle.contexts.proofs.Words.{message-read}
 use borrow.Author.Needs.{needs}
 use Rattle.contexts.proofs.message_at.Statement.{statement}

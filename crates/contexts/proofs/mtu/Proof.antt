@@ -1,3 +1,4 @@
+-- `contexts::mtu` meets its contract: word 1 is the MTU.
 use Rattle.contexts.specs.Words.{stateOf}
 use mathlib.Core.Path.{refl}
 use borrow.Author.Needs.{needs}

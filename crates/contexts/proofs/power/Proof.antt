@@ -1,3 +1,4 @@
+-- `contexts::power` meets its contract: a shift by at most 16 loses no bit.
 use Rattle.contexts.proofs.Marks.{power-fits}
 use borrow.Author.Needs.{needs}
 use Rattle.contexts.proofs.power.Statement.{statement}

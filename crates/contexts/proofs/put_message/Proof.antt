@@ -1,3 +1,4 @@
+-- `contexts::put_message` meets its contract: eight stores are one row of the table, and touch no other.
 use Rattle.contexts.proofs.Words.{message-put}
 use lib.ListN.{length-set}
 use native.Mathlib.Omega.{arith}

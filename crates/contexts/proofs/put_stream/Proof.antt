@@ -1,3 +1,4 @@
+-- `contexts::put_stream` meets its contract: five stores are one row of the table, and touch no other.
 use Rattle.contexts.proofs.Words.{stream-put}
 use lib.ListN.{length-set}
 use native.Mathlib.Omega.{arith}

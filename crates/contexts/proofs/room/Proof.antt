@@ -1,3 +1,4 @@
+-- `contexts::room` meets its contract: word 2 is R.
 use Rattle.contexts.specs.Words.{stateOf}
 use mathlib.Core.Path.{refl}
 use borrow.Author.Needs.{needs}

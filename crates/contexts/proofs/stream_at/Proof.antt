@@ -1,3 +1,4 @@
+-- `contexts::stream_at` meets its contract: five words of the table are row n.
 use Rattle.contexts.proofs.Words.{stream-read}
 use borrow.Author.Needs.{needs}
 use Rattle.contexts.proofs.stream_at.Statement.{statement}

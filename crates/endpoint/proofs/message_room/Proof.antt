@@ -1,3 +1,4 @@
+-- `endpoint::message_room` meets its contract: an empty part where there is no state, else the part of the room.
 use Rattle.endpoint.proofs.Calls.{ranged}
 use Rattle.endpoint.specs.Calls.{messageRoom}
 use mathlib.Core.Path.{refl, sym, _∙_}

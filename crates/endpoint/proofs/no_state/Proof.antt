@@ -1,3 +1,4 @@
+-- `endpoint::no_state` meets its contract: each return follows from the tests on the way.
 use Rattle.endpoint.specs.Calls.{noState}
 use borrow.Author.Tests.{eq-eqb, ne-eqb}
 use borrow.Author.Needs.{needs}

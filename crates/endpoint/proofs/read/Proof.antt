@@ -1,3 +1,4 @@
+-- `endpoint::read` meets its contract: rows 19 and 12, then what the step below promises.
 use Rattle.reading.proofs.Rows.{no-words, named, missized}
 use Rattle.reading.proofs.Left.{refusing, sizes-fit}
 use Rattle.reading.specs.Read.{lent}

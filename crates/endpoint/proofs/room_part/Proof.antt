@@ -1,3 +1,4 @@
+-- `endpoint::room_part` meets its contract: a room that the tests let through ends inside the memory.
 use Rattle.endpoint.proofs.Calls.{other-size, past-last, over-long, a-room, ranged, room-inside, room-bound}
 use Rattle.endpoint.specs.Calls.{part}
 use lib.ListN.{length}

@@ -1,3 +1,4 @@
+-- `endpoint::setup` meets its contract: each return is a row of setup's table, or a fresh state.
 use Rattle.endpoint.proofs.Calls.{setup-short, setup-mtu, setup-room, setup-ready}
 use mathlib.Core.Path.{sym, _∙_}
 use borrow.Author.Needs.{needs}

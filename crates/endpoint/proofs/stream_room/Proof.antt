@@ -1,3 +1,4 @@
+-- `endpoint::stream_room` meets its contract: an empty part where there is no state, else the part of the room.
 use Rattle.endpoint.proofs.Calls.{state-there, ranged}
 use Rattle.endpoint.specs.Calls.{streamRoom}
 use Rattle.refusal19.proofs.Good.{good}

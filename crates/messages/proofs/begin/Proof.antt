@@ -1,3 +1,4 @@
+-- `messages::begin` meets its contract: a free context is taken with no marks, or none is free.
 use Rattle.messages.proofs.Laws.{begin-none, begin-placed}
 use Rattle.messages.specs.Joining.{placed}
 use Rattle.contexts.proofs.Marks.{nothing-marked}

@@ -1,3 +1,4 @@
+-- `messages::join` meets its contract: rows 23 and 24, else one more segment of the message found.
 use Rattle.messages.proofs.Laws.{join-msglen, join-ssize, join-marked, join-placed, found-message, marks-le, last-le}
 use Rattle.messages.specs.Joining.{placed}
 use Prim.Native.Nat.{ℕ}

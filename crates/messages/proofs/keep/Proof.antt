@@ -1,3 +1,4 @@
+-- `messages::keep` meets its contract: delivered where all are marked, else kept.
 use Prim.Native.Nat.{_≤_}
 use Rattle.wire.proofs.Sizes.{bytes-le}
 use Rattle.messages.proofs.Laws.{product-le}

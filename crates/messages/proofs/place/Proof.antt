@@ -1,3 +1,4 @@
+-- `messages::place` meets its contract: the store ends inside the room, and a mark that was not set leaves room for it.
 use Rattle.messages.proofs.Laws.{placing, product-le, segment-ends, marks-le}
 use Rattle.contexts.proofs.Marks.{room-for-mark}
 use Rattle.wire.proofs.Sizes.{bytes-le}

@@ -1,3 +1,4 @@
+-- `messages::step` meets its contract: rows 20 to 22, then by the kind of message.
 use Rattle.messages.proofs.Laws.{step-refused, step-matched}
 use borrow.Author.Tests.{eq-eqb, ne-eqb}
 use Rattle.contexts.specs.Words.{stateOf}

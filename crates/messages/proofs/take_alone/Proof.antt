@@ -1,3 +1,4 @@
+-- `messages::take_alone` meets its contract: the lowest free context, or none is free.
 use Rattle.messages.proofs.Laws.{alone-none, alone-taken, taking}
 use Rattle.messages.specs.Joining.{alone}
 use Rattle.wire.proofs.Sizes.{bytes-le}

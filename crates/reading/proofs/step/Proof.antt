@@ -1,3 +1,4 @@
+-- `reading::step` meets its contract: by what the packet is: the step of its type, in the words that it leaves.
 use Rattle.reading.proofs.Packets.{stream-parsed, message-parsed, message-small}
 use Rattle.reading.proofs.Rows.{by-packet}
 use Rattle.reading.proofs.Left.{refusing, sizes-right, stream-left, message-left}

@@ -1,3 +1,4 @@
+-- `reading::wrong_memory` meets its contract: each return follows from the tests on the way; 16 R fits, since R is at most 65,536.
 use Rattle.refusal19.proofs.Good.{good}
 use Rattle.contexts.specs.Words.{stateOf}
 use Rattle.reading.specs.Table.{wrongSizes}

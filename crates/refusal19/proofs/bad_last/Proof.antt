@@ -1,3 +1,4 @@
+-- `refusal19::bad_last` meets its contract: each return follows from the tests on the way.
 use Rattle.refusal19.specs.Refusal19.{badLast}
 use borrow.Author.Needs.{needs}
 use Rattle.refusal19.proofs.bad_last.Statement.{statement}

@@ -1,3 +1,4 @@
+-- `refusal19::bad_marks` meets its contract: each return follows from the tests on the way; marks below 2 to the 16 fit the cast.
 use Rattle.refusal19.specs.Refusal19.{badMarks}
 use borrow.Author.Tests.{le-leb, lt-leb, eq-eqb, ne-eqb}
 use borrow.Author.Needs.{needs}

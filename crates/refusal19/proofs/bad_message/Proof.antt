@@ -1,3 +1,4 @@
+-- `refusal19::bad_message` meets its contract: each return follows from the tests on the way.
 use Rattle.refusal19.specs.Refusal19.{badMarks, badMessage}
 use Rattle.contexts.specs.State.{isFreeMessage}
 use Rattle.wire.specs.Type11.{bytesOf}

@@ -1,3 +1,4 @@
+-- `refusal19::bad_room` meets its contract: each return follows from the tests on the way.
 use Rattle.refusal19.specs.Refusal19.{badRoom}
 use borrow.Author.Tests.{le-ltb, lt-ltb}
 use Rattle.refusal19.proofs.bad_room.Statement.{statement}

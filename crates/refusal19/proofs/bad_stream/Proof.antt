@@ -1,3 +1,4 @@
+-- `refusal19::bad_stream` meets its contract: each return follows from the tests on the way.
 use Rattle.refusal19.specs.Refusal19.{badStream}
 use Rattle.contexts.specs.State.{isFreeStream}
 use borrow.Author.Tests.{eq-eqb, ne-eqb}

@@ -1,3 +1,4 @@
+-- `refusal19::named_by_19` meets its contract: the four parts of 19, in the paper's order.
 use Rattle.refusal19.specs.Refusal19.{namedBy19}
 use borrow.Author.Needs.{needs}
 use Rattle.refusal19.proofs.named_by_19.Statement.{statement}

@@ -1,3 +1,4 @@
+-- `rules::bad_length` meets its contract: each return follows from the tests on the way.
 use Rattle.rules.specs.Messages.{badLength}
 use borrow.Author.Needs.{needs}
 use Rattle.rules.proofs.bad_length.Statement.{statement}

@@ -1,3 +1,4 @@
+-- `rules::is_last` meets its contract: each return follows from the tests on the way.
 use borrow.Author.Tests.{eq-eqb, ne-eqb}
 use Rattle.rules.proofs.is_last.Statement.{statement}
 use Rattle.rules.proofs.is_last.Tie as tie

@@ -1,3 +1,4 @@
+-- `rules::is_malformed` meets its contract: each return follows from the tests on the way.
 use Rattle.rules.specs.Segments.{malformed}
 use borrow.Author.Tests.{eq-eqb, ne-eqb}
 use Rattle.rules.proofs.is_malformed.Statement.{statement}

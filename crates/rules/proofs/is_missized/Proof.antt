@@ -1,3 +1,4 @@
+-- `rules::is_missized` meets its contract: each return follows from the tests on the way.
 use Rattle.rules.proofs.is_missized.Statement.{statement}
 use Rattle.rules.proofs.is_missized.Tie as tie
 

@@ -1,3 +1,4 @@
+-- `rules::judge` meets its contract: each return follows from the tests on the way.
 use Rattle.rules.proofs.Laws.{judge-length, judge-single, judge-past, judge-none}
 use mathlib.Core.Path.{sym, _∙_}
 use Rattle.rules.specs.Messages.{pastLast, reservedSize, badLength}

@@ -1,3 +1,4 @@
+-- `rules::last_with` meets its contract: each return follows from the tests on the way.
 use borrow.Author.Tests.{eq-eqb, ne-eqb}
 use Rattle.rules.proofs.last_with.Statement.{statement}
 use Rattle.rules.proofs.last_with.Tie as tie

@@ -1,3 +1,4 @@
+-- `rules::length_differs` meets its contract: each return follows from the tests on the way.
 use borrow.Author.Needs.{needs}
 use Rattle.rules.proofs.length_differs.Statement.{statement}
 use Rattle.rules.proofs.length_differs.Tie as tie

@@ -1,3 +1,4 @@
+-- `rules::mailbox_of` meets its contract: each return follows from the tests on the way.
 use borrow.Author.Tests.{eq-eqb, ne-eqb}
 use borrow.Author.Needs.{needs}
 use Rattle.rules.proofs.mailbox_of.Statement.{statement}

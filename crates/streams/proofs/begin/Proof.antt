@@ -1,3 +1,4 @@
+-- `streams::begin` meets its contract: the flow's own context from its beginning, else the lowest free one, else none.
 use Rattle.streams.proofs.Laws.{start-fits, begin-own, begin-free, begin-none}
 use borrow.Author.Needs.{needs}
 use Rattle.streams.proofs.begin.Statement.{statement}

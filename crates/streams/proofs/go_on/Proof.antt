@@ -1,3 +1,4 @@
+-- `streams::go_on` meets its contract: rows 8, 9 and 11, else behind what the context holds.
 use Rattle.contexts.proofs.Words.{sixteen}
 use Rattle.streams.specs.Rows.{foundFor}
 use lib.ListN.{length}

@@ -1,3 +1,4 @@
+-- `streams::keep` meets its contract: an end or single closes the context and is delivered, else it is kept.
 use Rattle.contexts.specs.Words.{stateOf}
 use Rattle.contexts.specs.State.{withStream}
 use Rattle.contexts.specs.declared.StreamContext.{StreamContext}

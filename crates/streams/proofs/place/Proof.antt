@@ -1,3 +1,4 @@
+-- `streams::place` meets its contract: the store ends inside the room, and the context is kept or delivered.
 use lib.ListN.{length-take, length-drop}
 use native.Mathlib.Nat.{mul-le-mul-right, le-of-lt}
 use Rattle.refusal19.proofs.Good.{good}

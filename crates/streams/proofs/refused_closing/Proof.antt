@@ -1,3 +1,4 @@
+-- `streams::refused_closing` meets its contract: the context is closed where there is one.
 use borrow.Author.Tests.{lt-ltb, le-ltb}
 use Rattle.contexts.proofs.Words.{sixteen}
 use Rattle.streams.proofs.Laws.{put-nowhere}

@@ -1,3 +1,4 @@
+-- `streams::step` meets its contract: rows 6 and 7, then by kind.
 use Rattle.contexts.proofs.Words.{sixteen}
 use Rattle.streams.proofs.Laws.{some-data, found-le, passed, step-malformed, step-missized, step-begins, step-continues}
 use Rattle.contexts.specs.Words.{stateOf}

@@ -1,3 +1,4 @@
+-- `wire::above` meets its contract: each return follows from the tests on the way.
 use borrow.Author.Tests.{lt-ltb, le-ltb}
 use borrow.Author.Needs.{needs}
 use Rattle.wire.proofs.above.Statement.{statement}

@@ -1,3 +1,4 @@
+-- `wire::bad_mtu` meets its contract: each return follows from the tests on the way.
 use Rattle.wire.specs.Type9.{badMTU}
 use borrow.Author.Tests.{le-ltb, lt-ltb}
 use Rattle.wire.proofs.bad_mtu.Statement.{statement}

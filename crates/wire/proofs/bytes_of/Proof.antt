@@ -1,3 +1,4 @@
+-- `wire::bytes_of` meets its contract: the table's entry, and 0 past its end.
 use Rattle.wire.specs.Type11.{ssizes}
 use lib.ListN.{List·getD-eq-default}
 use mathlib.Core.Path.{sym}

@@ -1,3 +1,4 @@
+-- `wire::data_length` meets its contract: each return follows from the tests on the way.
 use Rattle.wire.specs.Type9.{dataLength}
 use borrow.Author.Needs.{needs}
 use Rattle.wire.proofs.data_length.Statement.{statement}

@@ -1,3 +1,4 @@
+-- `wire::in_eights` meets its contract: each return follows from the tests on the way.
 use Rattle.wire.specs.Type11.{inEights}
 use borrow.Author.Tests.{le-leb, lt-leb}
 use Rattle.wire.proofs.in_eights.Statement.{statement}

@@ -1,3 +1,4 @@
+-- `wire::parse_by_type` meets its contract: each return follows from the tests on the way.
 use Rattle.wire.specs.Parsed.{parsedByType}
 use borrow.Author.Tests.{eq-eqb, le-ltb, lt-ltb, ne-eqb}
 use borrow.Author.Needs.{needs}

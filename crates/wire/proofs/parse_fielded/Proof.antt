@@ -1,3 +1,4 @@
+-- `wire::parse_fielded` meets its contract: the packet has a field, so its data begin at byte 9.
 use Rattle.wire.proofs.Forms.{with-field}
 use Rattle.wire.specs.Parsed.{parsedFielded}
 use borrow.Author.Tests.{lt-ltb, le-ltb}

@@ -1,3 +1,4 @@
+-- `wire::parse_message` meets its contract: each field is read from its place.
 use Rattle.wire.specs.Type11.{messageOf}
 use borrow.Author.Needs.{needs}
 use Rattle.wire.proofs.parse_message.Statement.{statement}

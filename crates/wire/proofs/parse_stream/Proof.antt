@@ -1,3 +1,4 @@
+-- `wire::parse_stream` meets its contract: xh, then S, then E; without both the data begin at byte 7.
 use Rattle.wire.proofs.Forms.{without-field}
 use Rattle.wire.specs.Parsed.{parsedStream}
 use borrow.Author.Needs.{needs}

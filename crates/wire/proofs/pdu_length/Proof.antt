@@ -1,3 +1,4 @@
+-- `wire::pdu_length` meets its contract: each return follows from the tests on the way.
 use Rattle.wire.specs.Type9.{pduLength}
 use borrow.Author.Tests.{eq-eqb, ne-eqb}
 use Rattle.wire.proofs.pdu_length.Statement.{statement}

@@ -1,3 +1,4 @@
+-- `wire::respond` meets its contract: the seven bytes are the definition's, written over the buffer's first.
 use Rattle.lists.specs.Bytes.{written}
 use Rattle.wire.specs.Type13.{answered, responseTo}
 use borrow.Author.Needs.{needs}

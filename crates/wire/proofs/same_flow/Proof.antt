@@ -1,3 +1,4 @@
+-- `wire::same_flow` meets its contract: each return follows from the tests on the way.
 use Rattle.wire.specs.Type9.{sameFlow}
 use borrow.Author.Tests.{eq-eqb, ne-eqb}
 use Rattle.wire.proofs.same_flow.Statement.{statement}

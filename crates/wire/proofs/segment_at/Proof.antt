@@ -1,3 +1,4 @@
+-- `wire::segment_at` meets its contract: each field is read from its place.
 use Rattle.wire.specs.Type9.{segmentAt}
 use borrow.Author.Needs.{needs}
 use Rattle.wire.proofs.segment_at.Statement.{statement}
