@@ -25,8 +25,8 @@ use Rattle.contexts.proofs.Words.{eight}
 use Rattle.refusal19.proofs.Good.{Message, good, message-found}
 use Rattle.rules.specs.Messages.{judged, lastWith, reservedSize, badLength, pastLast, Sound}
 use Rattle.messages.specs.Rows.{foundFor, messageOpen, otherMessage, alreadyMarked, noneFree}
-use Rattle.messages.specs.Joining.{joining, alone, dataOf, marksWith, placed, accepted, refusedWith}
-use Rattle.messages.specs.Step.{matched, stepped, Kept, Replied}
+use Rattle.messages.specs.Joining.{joining, alone, dataOf, marksWith, placed, accepted}
+use Rattle.messages.specs.Step.{matched, stepped, Kept, Replied, refusedWith}
 
 -- ---- numbers that stay inside
 

@@ -80,7 +80,3 @@ accepted s memory response p m =
     (cond (messageOpen s m)
     (placed s memory response p m (foundFor s m) (messageIn s (foundFor s m) .marks) (messageIn s (foundFor s m) .last))
     (placed s memory response p m (freeMessage s) 0 0))
-
--- refused: all stays but the response
-unfoldable pub refusedWith : State → List ℕ → List ℕ → List ℕ → ℕ → ℕ → Joined
-refusedWith s memory response p number status = joining (refused number) s memory (answered response p status)

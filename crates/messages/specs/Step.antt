@@ -15,7 +15,11 @@ use Rattle.contexts.specs.Marks.{marked}
 use Rattle.refusal19.specs.Refusal19.{namedBy19}
 use Rattle.rules.specs.Messages.{judged, Sound}
 use Rattle.messages.specs.Rows.{otherMessage, alreadyMarked, noneFree}
-use Rattle.messages.specs.Joining.{Joined, accepted, refusedWith, answerWith, contextWith}
+use Rattle.messages.specs.Joining.{Joined, joining, accepted, answerWith, contextWith}
+
+-- refused: all stays but the response
+unfoldable pub refusedWith : State → List ℕ → List ℕ → List ℕ → ℕ → ℕ → Joined
+refusedWith s memory response p number status = joining (refused number) s memory (answered response p status)
 
 -- rows 23 to 25
 unfoldable pub matched : State → List ℕ → List ℕ → List ℕ → MessageSegment → Joined

@@ -8,12 +8,12 @@ use Rattle.answers.specs.Answers.{Said, held, refused}
 use Rattle.answers.specs.Refusals.{Leaves, all, flowClosed, allERROR, allRETRY, Verdict, refuse, accept, verdict, none}
 use Rattle.answers.proofs.Exactly.{answered, exactly, accepted, none-held}
 use Rattle.wire.specs.Type11.{isSingle}
-use Rattle.contexts.specs.State.{State, streamIn, messageIn as contextOf, withStream, withMessage, closedStream, closedMessage, isFreeStream, isFreeMessage}
+use Rattle.contexts.specs.State.{State, streamIn, messageIn, withStream, withMessage, closedStream, closedMessage, isFreeStream, isFreeMessage}
 use Rattle.contexts.specs.Words.{stateOf}
 use Rattle.streams.specs.Joining as stream
 use Rattle.messages.specs.Joining as message
 use Rattle.messages.specs.Rows.{messageOpen}
-use Rattle.reading.specs.Table.{Lent, stateIn, segmentIn, messageIn, is9, table}
+use Rattle.reading.specs.Table.{Lent, stateIn, segmentIn, messageSegmentIn, is9, table}
 use Rattle.reading.specs.Read.{Left, reading, outcome, leaving, accepting}
 use Rattle.segments.specs.Cutting.{packetOf}
 use Rattle.segments.specs.Writer.{writerTable, writing, wroteBy}
@@ -44,16 +44,16 @@ stream-no : (x : Lent) → no-refusal (stream.accepted (stateIn x) (x .streamMem
 unfolding stream.accepted stream.placed
 stream-no x = chosen no-refusal (segmentIn x .ends) _ held (λ number e. let z : _≡_ {A = ℕ} 0 1 = cc in omega arith) held-no
 
-placed-no : (x : Lent) (n marks last : ℕ) → no-refusal (message.placed (stateIn x) (x .messageMemory) (x .response) (x .packet) (messageIn x) n marks last .says)
+placed-no : (x : Lent) (n marks last : ℕ) → no-refusal (message.placed (stateIn x) (x .messageMemory) (x .response) (x .packet) (messageSegmentIn x) n marks last .says)
 unfolding message.placed
 placed-no x n marks last =
-    chosen no-refusal (message.complete (messageIn x) (message.marksWith (messageIn x) marks)) _ held (λ number e. let z : _≡_ {A = ℕ} 0 1 = cc in omega arith) held-no
+    chosen no-refusal (message.complete (messageSegmentIn x) (message.marksWith (messageSegmentIn x) marks)) _ held (λ number e. let z : _≡_ {A = ℕ} 0 1 = cc in omega arith) held-no
 
-message-no : (x : Lent) → no-refusal (message.accepted (stateIn x) (x .messageMemory) (x .response) (x .packet) (messageIn x) .says)
+message-no : (x : Lent) → no-refusal (message.accepted (stateIn x) (x .messageMemory) (x .response) (x .packet) (messageSegmentIn x) .says)
 unfolding message.accepted message.alone
 message-no x =
-    chosen (λ (j : message.Joined). no-refusal (j .says)) (isSingle (messageIn x)) _ _ (λ number e. let z : _≡_ {A = ℕ} 0 1 = cc in omega arith)
-    (chosen (λ (j : message.Joined). no-refusal (j .says)) (messageOpen (stateIn x) (messageIn x)) _ _ (placed-no x _ _ _) (placed-no x _ 0 0))
+    chosen (λ (j : message.Joined). no-refusal (j .says)) (isSingle (messageSegmentIn x)) _ _ (λ number e. let z : _≡_ {A = ℕ} 0 1 = cc in omega arith)
+    (chosen (λ (j : message.Joined). no-refusal (j .says)) (messageOpen (stateIn x) (messageSegmentIn x)) _ _ (placed-no x _ _ _) (placed-no x _ 0 0))
 
 accepted-no : (x : Lent) → no-refusal (accepting x .says)
 accepted-no x = chosen (λ (l : Left). no-refusal (l .says)) (is9 x) _ _ (stream-no x) (message-no x)
@@ -99,7 +99,7 @@ abandon-stream-exactly words n number =
 pub abandon-message-exactly : AbandonMessageExactly
 unfolding abandonMessage
 abandon-message-exactly words n number =
-    let isFree = isFreeMessage (contextOf (stateOf words) n) in
+    let isFree = isFreeMessage (messageIn (stateOf words) n) in
     let after = withMessage (stateOf words) n closedMessage in
     exactly (λ (v : Verdict). abandonBy words isFree after v .says) (λ k l. refl) (accepted-free words isFree after) (abandonTable words 8 n) number
 

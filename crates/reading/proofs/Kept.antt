@@ -17,7 +17,7 @@ use Rattle.messages.specs.Joining as message
 use Rattle.messages.specs.Rows.{messageOpen, foundFor}
 use Rattle.streams.proofs.Kept as streams
 use Rattle.messages.proofs.Kept as messages
-use Rattle.reading.specs.Table.{Lent, stateIn, segmentIn, messageIn, is9, is11, table}
+use Rattle.reading.specs.Table.{Lent, stateIn, segmentIn, messageSegmentIn, is9, is11, table}
 use Rattle.reading.specs.Read.{reading, outcome, leaving}
 use Rattle.reading.specs.Good.{StillGood}
 use Rattle.reading.proofs.Cases.{by-test}
@@ -53,20 +53,20 @@ module _ (x : Lent) where
   unfolding stream.accepted stream.placed
   stream-same = record { device = refl; mtu = refl; room = refl; streams = simp length-set; messages = refl }
 
-  placed-same : (n marks last : ℕ) → Same (stateIn x) (message.placed (stateIn x) (x .messageMemory) (x .response) (x .packet) (messageIn x) n marks last .state)
+  placed-same : (n marks last : ℕ) → Same (stateIn x) (message.placed (stateIn x) (x .messageMemory) (x .response) (x .packet) (messageSegmentIn x) n marks last .state)
   unfolding message.placed
   placed-same n marks last = record { device = refl; mtu = refl; room = refl; streams = refl; messages = simp length-set }
 
-  alone-same : (n : ℕ) → Same (stateIn x) (message.alone (stateIn x) (x .messageMemory) (x .response) (x .packet) (messageIn x) n .state)
+  alone-same : (n : ℕ) → Same (stateIn x) (message.alone (stateIn x) (x .messageMemory) (x .response) (x .packet) (messageSegmentIn x) n .state)
   unfolding message.alone
   alone-same n = record { device = refl; mtu = refl; room = refl; streams = refl; messages = simp length-set }
 
-  message-same : Same (stateIn x) (message.accepted (stateIn x) (x .messageMemory) (x .response) (x .packet) (messageIn x) .state)
+  message-same : Same (stateIn x) (message.accepted (stateIn x) (x .messageMemory) (x .response) (x .packet) (messageSegmentIn x) .state)
   unfolding message.accepted
   message-same =
-      by-test (isSingle (messageIn x)) (λ t. rw t (alone-same (freeMessage (stateIn x))))
-      (λ t. by-test (messageOpen (stateIn x) (messageIn x))
-      (λ o. rw (t, o) (placed-same (foundFor (stateIn x) (messageIn x)) _ _))
+      by-test (isSingle (messageSegmentIn x)) (λ t. rw t (alone-same (freeMessage (stateIn x))))
+      (λ t. by-test (messageOpen (stateIn x) (messageSegmentIn x))
+      (λ o. rw (t, o) (placed-same (foundFor (stateIn x) (messageSegmentIn x)) _ _))
       (λ o. rw (t, o) (placed-same (freeMessage (stateIn x)) 0 0)))
 
   -- every row of an accepted packet has failed
@@ -85,7 +85,7 @@ module _ (x : Lent) where
         settled (x .words) _ stream-same
         (streams.accepted-kept (stateIn x) (x .streamMemory) (x .packet) (segmentIn x) fine (of-type (is9 x) _ t (n .1 .1 .1 .1 .1 .1 .1 .1 .1 .0)) (of-type (is9 x) _ t (n .1 .1 .1 .1 .1 .1 .1 .1 .1 .1 .1 .1 .0)))
 
-    few : messageIn x .msglen < 16
+    few : messageSegmentIn x .msglen < 16
     unfolding messageOf
     few = omega (arith, small)
 
@@ -95,12 +95,12 @@ module _ (x : Lent) where
     other-type false true e f = refl
     other-type false false e f = absurd (true≢false e)
 
-    message-settled : Passed → is9 x ≡ false → StillGood (stateIn x) (wordsOf (message.accepted (stateIn x) (x .messageMemory) (x .response) (x .packet) (messageIn x) .state))
+    message-settled : Passed → is9 x ≡ false → StillGood (stateIn x) (wordsOf (message.accepted (stateIn x) (x .messageMemory) (x .response) (x .packet) (messageSegmentIn x) .state))
     unfolding none table
     message-settled n f =
         let t : is11 x ≡ true = other-type (is9 x) (is11 x) (n .1 .1 .1 .1 .1 .0) f in
         settled (x .words) _ message-same
-        (messages.accepted-kept (stateIn x) (x .messageMemory) (x .response) (x .packet) (messageIn x) fine (eight (x .words)) few (of-type (is11 x) _ t (n .1 .1 .1 .1 .1 .1 .1 .1 .1 .1 .1 .1 .1 .1 .1 .0))
+        (messages.accepted-kept (stateIn x) (x .messageMemory) (x .response) (x .packet) (messageSegmentIn x) fine (eight (x .words)) few (of-type (is11 x) _ t (n .1 .1 .1 .1 .1 .1 .1 .1 .1 .1 .1 .1 .1 .1 .1 .0))
         (of-type (is11 x) _ t (n .1 .1 .1 .1 .1 .1 .1 .1 .1 .1 .1 .1 .1 .1 .1 .1 .0)) (of-type (is11 x) _ t (n .1 .1 .1 .1 .1 .1 .1 .1 .1 .1 .1 .1 .1 .1 .1 .1 .1 .0)) (of-type (is11 x) _ t (n .1 .1 .1 .1 .1 .1 .1 .1 .1 .1 .1 .1 .1 .1 .1 .1 .1 .1 .0)) (of-type (is11 x) _ t (n .1 .1 .1 .1 .1 .1 .1 .1 .1 .1 .1 .1 .1 .1 .1 .1 .1 .1 .1 .0)))
 
     pub stays-good : StillGood (stateIn x) (reading x .words)

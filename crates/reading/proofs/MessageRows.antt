@@ -8,9 +8,9 @@ use Rattle.wire.specs.Type13.{ERROR, RETRY}
 use Rattle.contexts.specs.Words.{stateWords}
 use Rattle.contexts.proofs.Words.{words-of}
 use Rattle.messages.specs.Rows.{otherMessage, alreadyMarked, noneFree}
-use Rattle.messages.specs.Joining.{accepted, refusedWith}
-use Rattle.messages.specs.Step.{matched, stepped}
-use Rattle.reading.specs.Table.{Lent, stateIn, messageIn}
+use Rattle.messages.specs.Joining.{accepted}
+use Rattle.messages.specs.Step.{matched, stepped, refusedWith}
+use Rattle.reading.specs.Table.{Lent, stateIn, messageSegmentIn}
 use Rattle.reading.specs.Read.{Left, leaving, ofMessage}
 use Rattle.reading.proofs.Cases.{by-test, choose-message}
 use Rattle.rules.specs.Messages.{reservedSize, badLength, pastLast, judged}
@@ -27,20 +27,20 @@ module _ (x : Lent) (whole : length (x .words) ≡ stateWords) where
   -- rows 23 to 25
   abbrev later : Left
   later =
-      cond (otherMessage (stateIn x) (messageIn x)) (leaving x 23 allERROR)
-      (cond (alreadyMarked (stateIn x) (messageIn x)) (leaving x 24 allERROR)
-      (cond (noneFree (stateIn x) (messageIn x)) (leaving x 25 allRETRY)
-      (ofMessage x (accepted (stateIn x) (x .messageMemory) (x .response) (x .packet) (messageIn x)))))
+      cond (otherMessage (stateIn x) (messageSegmentIn x)) (leaving x 23 allERROR)
+      (cond (alreadyMarked (stateIn x) (messageSegmentIn x)) (leaving x 24 allERROR)
+      (cond (noneFree (stateIn x) (messageSegmentIn x)) (leaving x 25 allRETRY)
+      (ofMessage x (accepted (stateIn x) (x .messageMemory) (x .response) (x .packet) (messageSegmentIn x)))))
 
-  joins : ofMessage x (matched (stateIn x) (x .messageMemory) (x .response) (x .packet) (messageIn x)) ≡ later
+  joins : ofMessage x (matched (stateIn x) (x .messageMemory) (x .response) (x .packet) (messageSegmentIn x)) ≡ later
   unfolding matched
   joins = simp (choose-message, errs 23, errs 24, retries 25)
 
   -- rows 20 to 25
-  pub message-rows : ofMessage x (stepped (stateIn x) (x .messageMemory) (x .response) (x .packet) (messageIn x))
-      ≡ cond (reservedSize (messageIn x)) (leaving x 20 allERROR) (cond (badLength (messageIn x)) (leaving x 21 allERROR) (cond (pastLast (messageIn x)) (leaving x 22 allERROR) later))
+  pub message-rows : ofMessage x (stepped (stateIn x) (x .messageMemory) (x .response) (x .packet) (messageSegmentIn x))
+      ≡ cond (reservedSize (messageSegmentIn x)) (leaving x 20 allERROR) (cond (badLength (messageSegmentIn x)) (leaving x 21 allERROR) (cond (pastLast (messageSegmentIn x)) (leaving x 22 allERROR) later))
   unfolding stepped judged
   message-rows =
-      by-test (reservedSize (messageIn x)) (λ a. rw a (errs 20))
-      (λ a. by-test (badLength (messageIn x)) (λ b. rw (a, b) (errs 21))
-      (λ b. by-test (pastLast (messageIn x)) (λ d. rw (a, b, d) (errs 22)) (λ d. rw (a, b, d) joins)))
+      by-test (reservedSize (messageSegmentIn x)) (λ a. rw a (errs 20))
+      (λ a. by-test (badLength (messageSegmentIn x)) (λ b. rw (a, b) (errs 21))
+      (λ b. by-test (pastLast (messageSegmentIn x)) (λ d. rw (a, b, d) (errs 22)) (λ d. rw (a, b, d) joins)))

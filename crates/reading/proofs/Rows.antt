@@ -18,7 +18,7 @@ use Rattle.rules.specs.Segments.{malformed}
 use Rattle.rules.specs.Messages.{reservedSize, badLength, pastLast}
 use Rattle.streams.specs.Rows as stream
 use Rattle.messages.specs.Rows as message
-use Rattle.reading.specs.Table.{Lent, stateIn, segmentIn, messageIn, under, is9, is11, isState, wrongMemory, table}
+use Rattle.reading.specs.Table.{Lent, stateIn, segmentIn, messageSegmentIn, under, is9, is11, isState, wrongMemory, table}
 use Rattle.reading.specs.Read.{Left, leaving, accepting, reading}
 use Rattle.reading.specs.Step.{byParsed, readStep}
 use Rattle.reading.proofs.Cases.{by-test, by-row, by-end}
@@ -42,12 +42,12 @@ typed x =
     (cond (is9 x && stream.passesRoom (stateIn x) (segmentIn x)) (leaving x 9 flowClosed)
     (cond (is9 x && stream.noneFree (stateIn x) (segmentIn x)) (leaving x 10 all)
     (cond (is9 x && stream.lengthDiffers (stateIn x) (segmentIn x)) (leaving x 11 flowClosed)
-    (cond (is11 x && reservedSize (messageIn x)) (leaving x 20 allERROR)
-    (cond (is11 x && badLength (messageIn x)) (leaving x 21 allERROR)
-    (cond (is11 x && pastLast (messageIn x)) (leaving x 22 allERROR)
-    (cond (is11 x && message.otherMessage (stateIn x) (messageIn x)) (leaving x 23 allERROR)
-    (cond (is11 x && message.alreadyMarked (stateIn x) (messageIn x)) (leaving x 24 allERROR)
-    (cond (is11 x && message.noneFree (stateIn x) (messageIn x)) (leaving x 25 allRETRY)
+    (cond (is11 x && reservedSize (messageSegmentIn x)) (leaving x 20 allERROR)
+    (cond (is11 x && badLength (messageSegmentIn x)) (leaving x 21 allERROR)
+    (cond (is11 x && pastLast (messageSegmentIn x)) (leaving x 22 allERROR)
+    (cond (is11 x && message.otherMessage (stateIn x) (messageSegmentIn x)) (leaving x 23 allERROR)
+    (cond (is11 x && message.alreadyMarked (stateIn x) (messageSegmentIn x)) (leaving x 24 allERROR)
+    (cond (is11 x && message.noneFree (stateIn x) (messageSegmentIn x)) (leaving x 25 allRETRY)
     (accepting x))))))))))))))
 
 -- the rows from the first 1 on
@@ -76,7 +76,7 @@ module _ (x : Lent) (whole : length (x .words) ≡ stateWords) (fine : namedBy19
       (λ e. by-test (under 9 x) (λ u. rw (h, s, e, u)) (λ u. rw (h, s, e, u) (sym (stream-rows x whole fine))))
       (λ e. rw (h, s, e) (sym (stream-rows x whole fine))))))
 
-  message-typed : is9 x ≡ false → is11 x ≡ true → typed x ≡ byParsed x (Message (messageIn x))
+  message-typed : is9 x ≡ false → is11 x ≡ true → typed x ≡ byParsed x (Message (messageSegmentIn x))
   message-typed n e = rw (n, e) (sym (message-rows x whole))
 
   pub packet-rows : packeted x ≡ byParsed x (parsed (stateIn x .device) (x .packet))

@@ -14,8 +14,8 @@ use Rattle.refusal19.specs.Refusal19.{namedBy19}
 use Rattle.contexts.proofs.Words.{words-of}
 use Rattle.refusal19.proofs.Good.{good}
 use Rattle.streams.specs.Rows.{missized, notOpen, passesRoom, noneFree, lengthDiffers, total}
-use Rattle.streams.specs.Joining.{accepted, refusedStaying}
-use Rattle.streams.specs.Step.{begun, continued, stepped}
+use Rattle.streams.specs.Joining.{accepted}
+use Rattle.streams.specs.Step.{begun, continued, stepped, refusedStaying}
 use Rattle.streams.proofs.Laws.{size-le}
 use Rattle.reading.specs.Table.{Lent, stateIn, segmentIn}
 use Rattle.reading.specs.Read.{Left, leaving, ofStream}

@@ -10,7 +10,7 @@ use Rattle.wire.specs.Type13.{ERROR, RETRY, answered}
 use Rattle.contexts.specs.Words.{wordsOf}
 use Rattle.streams.specs.Joining as stream
 use Rattle.messages.specs.Joining as message
-use Rattle.reading.specs.Table.{Lent, stateIn, segmentIn, messageIn, is9, table}
+use Rattle.reading.specs.Table.{Lent, stateIn, segmentIn, messageSegmentIn, is9, table}
 
 -- the answer, whether this packet closed an open stream context undelivered, and everything lent as it is left
 pub record Left : Type 0 where
@@ -51,7 +51,7 @@ abbrev pub accepting : Lent → Left
 accepting x =
     cond (is9 x)
     (ofStream x (stream.accepted (stateIn x) (x .streamMemory) (x .packet) (segmentIn x)))
-    (ofMessage x (message.accepted (stateIn x) (x .messageMemory) (x .response) (x .packet) (messageIn x)))
+    (ofMessage x (message.accepted (stateIn x) (x .messageMemory) (x .response) (x .packet) (messageSegmentIn x)))
 
 abbrev pub outcome : Lent → Verdict → Left
 outcome x (refuse number leaves) = leaving x number leaves

@@ -35,8 +35,8 @@ stateIn x = stateOf (x .words)
 abbrev pub segmentIn : Lent → Segment
 segmentIn x = segmentOf (x .packet)
 
-abbrev pub messageIn : Lent → MessageSegment
-messageIn x = messageOf (x .packet)
+abbrev pub messageSegmentIn : Lent → MessageSegment
+messageSegmentIn x = messageOf (x .packet)
 
 -- the packet is under n bytes long
 abbrev pub under : ℕ → Lent → Bool
@@ -92,15 +92,15 @@ table x =
     -- end, total differs from PDU length
     ∷ row 11 (is9 x && stream.lengthDiffers (stateIn x) (segmentIn x)) flowClosed
     -- ssize reserved
-    ∷ row 20 (is11 x && reservedSize (messageIn x)) allERROR
+    ∷ row 20 (is11 x && reservedSize (messageSegmentIn x)) allERROR
     -- message data length breaks the rule
-    ∷ row 21 (is11 x && badLength (messageIn x)) allERROR
+    ∷ row 21 (is11 x && badLength (messageSegmentIn x)) allERROR
     -- msglen over 0, msgseg over msglen
-    ∷ row 22 (is11 x && pastLast (messageIn x)) allERROR
+    ∷ row 22 (is11 x && pastLast (messageSegmentIn x)) allERROR
     -- open message has another msglen or ssize
-    ∷ row 23 (is11 x && message.otherMessage (stateIn x) (messageIn x)) allERROR
+    ∷ row 23 (is11 x && message.otherMessage (stateIn x) (messageSegmentIn x)) allERROR
     -- segment already marked
-    ∷ row 24 (is11 x && message.alreadyMarked (stateIn x) (messageIn x)) allERROR
+    ∷ row 24 (is11 x && message.alreadyMarked (stateIn x) (messageSegmentIn x)) allERROR
     -- context needed, none free
-    ∷ row 25 (is11 x && message.noneFree (stateIn x) (messageIn x)) allRETRY
+    ∷ row 25 (is11 x && message.noneFree (stateIn x) (messageSegmentIn x)) allRETRY
     ∷ []

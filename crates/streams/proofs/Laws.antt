@@ -19,8 +19,8 @@ use Rattle.contexts.specs.State.{State, streamIn, withStream, closedStream, flo
 use Rattle.refusal19.specs.Refusal19.{namedBy19}
 use Rattle.refusal19.proofs.Good.{neither, good}
 use Rattle.streams.specs.Rows.{foundFor, total, missized, notOpen, passesRoom, noneFree, lengthDiffers}
-use Rattle.streams.specs.Joining.{Joined, joining, placed, accepted, refusedClosing, refusedStaying}
-use Rattle.streams.specs.Step.{begun, continued, stepped, Closing, Kept, Fits, Passed}
+use Rattle.streams.specs.Joining.{Joined, joining, placed, accepted, refusedClosing}
+use Rattle.streams.specs.Step.{begun, continued, stepped, Closing, Kept, Fits, Passed, refusedStaying}
 use Rattle.rules.specs.Segments.{malformed, wrongO, wrongLength, wrongSize}
 
 -- room n ends inside the memory

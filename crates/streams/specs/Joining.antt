@@ -48,7 +48,3 @@ accepted s memory p g = placed s memory p g (contextFor s g) (heldBefore s g) (s
 -- refused, and the flow's context closed, where it has one
 unfoldable pub refusedClosing : State → List ℕ → Segment → ℕ → Joined
 refusedClosing s memory g number = joining (refused number) (flowOpen s g) (withStream s (foundFor s g) closedStream) memory
-
--- refused, and all stays
-unfoldable pub refusedStaying : State → List ℕ → ℕ → Joined
-refusedStaying s memory number = joining (refused number) false s memory

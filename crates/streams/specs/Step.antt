@@ -12,8 +12,12 @@ use Rattle.contexts.specs.State.{State, withStream, closedStream}
 use Rattle.contexts.specs.Words.{stateOf, stateWords}
 use Rattle.refusal19.specs.Refusal19.{namedBy19}
 use Rattle.streams.specs.Rows.{foundFor, missized, notOpen, passesRoom, noneFree, lengthDiffers}
-use Rattle.streams.specs.Joining.{Joined, accepted, refusedClosing, refusedStaying}
+use Rattle.streams.specs.Joining.{Joined, joining, accepted, refusedClosing}
 use Rattle.rules.specs.Segments.{malformed}
+
+-- refused, and all stays
+unfoldable pub refusedStaying : State → List ℕ → ℕ → Joined
+refusedStaying s memory number = joining (refused number) false s memory
 
 -- a start or single: row 10; row 9 cannot hold, since 7 bounds its data by the MTU and 19 the MTU by R
 unfoldable pub begun : State → List ℕ → List ℕ → Segment → Joined
