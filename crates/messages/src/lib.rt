@@ -8,6 +8,7 @@ ghost use Prim.Native.Nat.{_+_, _*_, _<_, _≤_, _^_};
 ghost use lib.ListN.{length};
 ghost use Rattle.answers.specs.Answers.{said};
 ghost use Rattle.wire.specs.Type11.{isSingle};
+ghost use Rattle.wire.specs.Type13.{DONE, answered};
 ghost use Rattle.contexts.specs.State.{closedMessage, messageContext};
 ghost use Rattle.contexts.specs.Words.{stateOf, stateWords};
 ghost use Rattle.messages.specs.Joining.{joining, placed};
@@ -40,6 +41,14 @@ fn refuse(response: &mut [u8], packet: &[u8], number: usize, status: u8) -> Answ
 {
     wire::respond(response, packet, status);
     Answer::Refused(number)
+}
+
+// An accepted segment: its response is DONE.
+fn done(response: &mut [u8], packet: &[u8])
+    requires { ⌜ (7 ≤ length (now response)) × (7 ≤ length (now packet)) ⌝ }
+    ensures { λ _. ⌜ now (response .exit) ≡ answered (now (response .entry)) (now (packet .entry)) DONE ⌝ }
+{
+    wire::respond(response, packet, wire::DONE);
 }
 
 // Context n with these marks: delivered where all segments are in, else kept.
@@ -98,7 +107,7 @@ fn place(
         n * ROOM + m.msgseg * size,
         &packet[wire::HEADER + 2..],
     );
-    wire::respond(response, packet, wire::DONE);
+    done(response, packet);
     keep(state, m, n, with_this, rules::last_with(m, last))
 }
 
@@ -120,7 +129,7 @@ fn take_alone(
     }
     lists::store(memory, n * ROOM, &packet[wire::HEADER + 2..]);
     contexts::put_message(state, n, closed());
-    wire::respond(response, packet, wire::DONE);
+    done(response, packet);
     Answer::Message {
         context: n,
         source: m.source,

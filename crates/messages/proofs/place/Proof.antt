@@ -60,8 +60,8 @@ store-requires c κs =
     let e = segment-ends _ _ _ _ (s .pre .1 .1 .context) (s .pre .0 .number) (bytes-le (s .args .m .ssize)) (s .pre .1 .0 .fits) in
     simp (z, length-take, length-drop) (omega (arith, e, s .pre .0 .size, s .pre .0 .inside))
 
-respond-requires : tie.Need-respond-requires
-respond-requires c κs = search needs
+done-requires : tie.Need-done-requires
+done-requires c κs = search needs
 
 last-with-requires : tie.Need-last-with-requires
 last-with-requires c κs = search needs
@@ -94,7 +94,7 @@ returns c =
     (c .before .before .before .last-with .ensures)
     (c .before .before .keep .ensures)
     (c .before .before .before .before .before .before .before .before .before .before .before .store .ensures)
-    (c .before .before .before .before .before .before .before .respond .ensures)
+    (c .before .before .before .before .before .before .before .done .ensures)
 
 pub place-spec : {M : Type 1} → statement M
 place-spec =
@@ -111,7 +111,7 @@ place-spec =
     part-store-start
     part-store-end
     store-requires
-    respond-requires
+    done-requires
     last-with-requires
     keep-requires
     same-length

@@ -61,8 +61,8 @@ closed-requires c κs = search needs
 put-message-requires : tie.Need-put-message-requires
 put-message-requires c κs = search needs
 
-respond-requires : tie.Need-respond-requires
-respond-requires c κs = search needs
+done-requires : tie.Need-done-requires
+done-requires c κs = search needs
 
 mailbox-of-requires : tie.Need-mailbox-of-requires
 mailbox-of-requires c κs = search needs
@@ -85,7 +85,7 @@ returns-2 c =
     let p = s .args .packet .now in
     let m = s .args .m in
     let f = c .before .before .before .before .before .before .before .before .before .before .before .before .before .before .before .before .free-message .ensures in
-    taking st mem rep p m _ _ _ _ _ (c .mailbox-of .ensures) (c .before .before .before .before .before .before .before .put-message .ensures ∙ ap (λ (x : MessageContext). withMessage st (c .before .before .before .before .before .before .before .before .before .before .before .before .before .before .before .before .free-message .result) x) (c .before .before .before .before .before .before .before .before .closed .ensures)) (c .before .before .before .before .before .before .before .before .before .before .before .before .store .ensures) (c .before .before .before .respond .ensures)
+    taking st mem rep p m _ _ _ _ _ (c .mailbox-of .ensures) (c .before .before .before .before .before .before .before .put-message .ensures ∙ ap (λ (x : MessageContext). withMessage st (c .before .before .before .before .before .before .before .before .before .before .before .before .before .before .before .before .free-message .result) x) (c .before .before .before .before .before .before .before .before .closed .ensures)) (c .before .before .before .before .before .before .before .before .before .before .before .before .store .ensures) (c .before .before .before .done .ensures)
     ∙ (ap (λ (n : ℕ). alone st mem rep p m n) f ∙ alone-taken st mem rep p m (s .pre .1 .1) (rw (← f) (c .before .before .before .before .before .before .before .before .before .before .before .before .before .before .before .if1 .left)))
 
 pub take-alone-spec : {M : Type 1} → statement M
@@ -105,7 +105,7 @@ take-alone-spec =
     store-requires
     closed-requires
     put-message-requires
-    respond-requires
+    done-requires
     mailbox-of-requires
     same-length-3
     same-length-4
