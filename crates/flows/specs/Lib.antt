@@ -1,0 +1,3 @@
+pub mod OneFlow
+pub mod Board
+pub mod ByFlow

@@ -1,0 +1,1 @@
+// Reading as one flow sees it: definitions and theorems, no code.
