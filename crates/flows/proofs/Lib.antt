@@ -1,0 +1,4 @@
+pub mod Flows
+pub mod Contexts
+pub mod Rooms
+pub mod Seen
