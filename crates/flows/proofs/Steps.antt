@@ -158,3 +158,86 @@ module _ (flows : List Flow) (s : State) (memory p : List ℕ) (g : Segment) (ok
             (step-begins s memory p g d {count = dataLength g} {mtu = s .mtu} refl refl e t (begin-free s memory p g t now past-all {free = i} refl lt refl))
             (ap (joined g (pdu (g .field) (stream.dataOf p g))) shut ∙ sym (flow-begins (s .mtu) (s .room) g (stream.dataOf p g) d e before t))
             (sim-placed i 0 (g .field) false (spare-mine flows (s .room) (s .streams) memory ok (g .flow) no-one within) lt start-small)
+
+        module _ (t : g .begins ≡ false) where
+          -- the flow's context and what it holds
+          abbrev i : ℕ
+          i = own (s .streams) (g .flow)
+
+          abbrev c : StreamContext
+          c = at (s .streams) i
+
+          abbrev held-so-far : PDU
+          held-so-far = pdu (c .stream) (inRoom (s .room) memory i (c .held))
+
+          sim-closed : 16 ≤ i → Stepped none
+          unfolding flowContext
+          sim-closed o =
+              subst₂ (λ (j : stream.Joined) (x : Outcome). Sim flows s memory g j x)
+              (step-continues s memory p g d {count = dataLength g} {mtu = s .mtu} refl refl e t (go-closed s memory p g t now o))
+              (sym (flow-closed (s .mtu) (s .room) g (stream.dataOf p g) d e t))
+              (sim-staying (seen-none (s .room) (s .streams) memory (g .flow) o))
+
+          module _ (lt : i < 16) (small : c .held ≤ s .room) where
+            holds : length (held-so-far .bytes) ≡ c .held
+            holds = room-length (s .room) i (c .held) memory (ok .rooms) lt small
+
+            sim-9 : ltb (s .room) (c .held + dataLength g) ≡ true → Stepped (some held-so-far)
+            unfolding flowContext stream.refusedClosing
+            sim-9 h =
+                subst₂ (λ (j : stream.Joined) (x : Outcome). Sim flows s memory g j x)
+                (step-continues s memory p g d {count = dataLength g} {mtu = s .mtu} refl refl e t
+                (go-passes s memory p g t now lt {c = c} {room = s .room} refl refl (ltb-true (s .room) (c .held + dataLength g) h) (record { answer = refl; drop = refl; state = refl })))
+                (sym (flow-passes (s .mtu) (s .room) g (stream.dataOf p g) d e t held-so-far (c .held) holds h))
+                (sim-closing (some held-so-far) 9 (lt-ltb i 16 lt))
+
+            module _ (h : ltb (s .room) (c .held + dataLength g) ≡ false) where
+              fits : c .held + dataLength g ≤ s .room
+              fits = ltb-false (s .room) (c .held + dataLength g) h
+
+              sim-11 : wrongLength g (c .held + dataLength g) ≡ true → Stepped (some held-so-far)
+              unfolding flowContext stream.refusedClosing
+              sim-11 w =
+                  subst₂ (λ (j : stream.Joined) (x : Outcome). Sim flows s memory g j x)
+                  (step-continues s memory p g d {count = dataLength g} {mtu = s .mtu} refl refl e t
+                  (go-differs s memory p g t now lt {c = c} {room = s .room} refl refl fits w (record { answer = refl; drop = refl; state = refl })))
+                  (sym (flow-differs (s .mtu) (s .room) g (stream.dataOf p g) d e t held-so-far (c .held) holds h w))
+                  (sim-closing (some held-so-far) 11 (lt-ltb i 16 lt))
+
+              sim-joins : wrongLength g (c .held + dataLength g) ≡ false → Stepped (some held-so-far)
+              unfolding flowContext
+              sim-joins w =
+                  subst₂ (λ (j : stream.Joined) (x : Outcome). Sim flows s memory g j x)
+                  (step-continues s memory p g d {count = dataLength g} {mtu = s .mtu} refl refl e t (go-placed s memory p g t now lt {c = c} {room = s .room} refl refl fits w refl))
+                  (sym (flow-joins (s .mtu) (s .room) g (stream.dataOf p g) d e t held-so-far (c .held) holds h w))
+                  (sim-placed i (c .held) (c .stream) false (own-mine flows (s .room) (s .streams) memory ok (g .flow)) lt fits)
+
+            sim-continues : Stepped (some held-so-far)
+            sim-continues =
+                by-test (ltb (s .room) (c .held + dataLength g)) sim-9
+                (λ h. by-test (wrongLength g (c .held + dataLength g)) (sim-11 h) (sim-joins h))
+
+    -- by all the tests, for what the flow has on the board
+    module _ (before : Option PDU) (o : ltb (own (s .streams) (g .flow)) 16 ≡ isOpen before) (cases : Own (s .streams) (g .flow))
+        (more : (d : malformed g ≡ false) → (e : wrongSize (g .ends) (dataLength g) (s .mtu) ≡ false) → g .begins ≡ false → Stepped before) where
+      sim-by-tests : Stepped before
+      sim-by-tests =
+          by-test (malformed g) (sim-6 before o)
+          (λ d. by-test (wrongSize (g .ends) (dataLength g) (s .mtu)) (sim-7 d before o)
+          (λ e. by-test (g .begins) (sim-begins d e before cases o) (more d e)))
+
+    pub sim-stepped : Stepped (seen (s .room) (s .streams) memory (g .flow))
+    sim-stepped = go (own-cases (s .streams) (g .flow))
+      where
+        go : Own (s .streams) (g .flow) → Stepped (seen (s .room) (s .streams) memory (g .flow))
+        go (found h u) =
+            let n : ℕ = own (s .streams) (g .flow) in
+            let a : StreamContext = at (s .streams) n in
+            let lt : n < 16 = omega (arith, ok .size) in
+            let before : Option PDU = some (pdu (a .stream) (inRoom (s .room) memory n (a .held))) in
+            subst Stepped (sym (seen-some (s .room) (s .streams) memory (g .flow) n a refl refl lt))
+            (sim-by-tests before (lt-ltb n 16 lt) (found h u) (λ d e t. sim-continues d e t lt (ok .counts n (of-open (g .flow) a u))))
+        go (lacks q no-one) =
+            let past-all : 16 ≤ own (s .streams) (g .flow) = omega (arith, ok .size) in
+            subst Stepped (sym (seen-none (s .room) (s .streams) memory (g .flow) past-all))
+            (sim-by-tests none (le-ltb (own (s .streams) (g .flow)) 16 past-all) (lacks q no-one) (λ d e t. sim-closed d e t past-all))
