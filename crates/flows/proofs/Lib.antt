@@ -4,3 +4,4 @@ pub mod Rooms
 pub mod Seen
 pub mod OneStep
 pub mod Steps
+pub mod Quiet

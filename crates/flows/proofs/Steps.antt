@@ -39,6 +39,9 @@ pub record Sim (flows : List Flow) (s : State) (memory : List ℕ) (g : Segment)
   pub leaves : After (s .room) flows (s .streams) memory (g .flow) (j .state .streams) (j .memory) (o .next)
   pub tells : Tells (s .room) (j .memory) (g .flow) (j .says) (o .told)
   pub drops : j .dropped ≡ o .dropped
+  -- and the rest of the state stays
+  pub same-room : j .state .room ≡ s .room
+  pub same-messages : j .state .messages ≡ s .messages
 
 module _ (flows : List Flow) (room : ℕ) (cs : List StreamContext) (memory : List ℕ) (ok : Sound room flows cs memory) (k : Flow) where
   -- a flow's own context serves it
@@ -71,6 +74,8 @@ module _ (flows : List Flow) (s : State) (memory p : List ℕ) (g : Segment) (ok
     leaves = just-closed (s .room) flows (s .streams) memory ok (g .flow) member (own (s .streams) (g .flow)) (own-mine flows (s .room) (s .streams) memory ok (g .flow));
     tells = refl;
     drops = o;
+    same-room = refl;
+    same-messages = refl;
   }
 
   -- stored in room n behind `base` bytes
@@ -94,6 +99,8 @@ module _ (flows : List Flow) (s : State) (memory p : List ℕ) (g : Segment) (ok
             ap (λ (b : List ℕ). delivery (g .flow) (pdu streamID b) ∷ [])
             (ap (λ (m : ℕ). inRoom (s .room) (written memory (n * s .room + base) (stream.dataOf p g)) n (base + m)) (sym data-is) ∙ stored-own (s .room) memory (ok .rooms) n lt base (stream.dataOf p g) fit);
         drops = refl;
+        same-room = refl;
+        same-messages = refl;
       }
       go false = record {
         leaves =
@@ -101,11 +108,13 @@ module _ (flows : List Flow) (s : State) (memory p : List ℕ) (g : Segment) (ok
             data-is (stored-held (s .room) flows (s .streams) memory ok (g .flow) member n mine lt base (stream.dataOf p g) fit streamID);
         tells = refl;
         drops = refl;
+        same-room = refl;
+        same-messages = refl;
       }
 
   -- row 8: all stays
   sim-staying : seen (s .room) (s .streams) memory (g .flow) ≡ none → Sim flows s memory g (stream.joining (answers.refused 8) false s memory) (outcome none (refused 8) false)
-  sim-staying v = record { leaves = record { sound = ok; own-is = v; others = λ l ne. refl }; tells = refl; drops = refl }
+  sim-staying v = record { leaves = record { sound = ok; own-is = v; others = λ l ne. refl }; tells = refl; drops = refl; same-room = refl; same-messages = refl }
 
   -- a closing refusal by the code's tests
   closing-6 : malformed g ≡ true → step.stepped s memory p g ≡ stream.refusedClosing s memory g 6
