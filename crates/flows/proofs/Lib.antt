@@ -5,3 +5,5 @@ pub mod Seen
 pub mod OneStep
 pub mod Steps
 pub mod Quiet
+pub mod Fine
+pub mod Machine

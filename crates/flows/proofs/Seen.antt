@@ -20,7 +20,7 @@ use Rattle.flows.proofs.Contexts.{at, own, spare, of-open, of-flow, mad
 use Rattle.flows.proofs.Rooms.{stored-length, stored-own, stored-apart}
 
 -- what a flow has whose context is c, number i
-seenAt : ℕ → List ℕ → ℕ → StreamContext → Option PDU
+unfoldable pub seenAt : ℕ → List ℕ → ℕ → StreamContext → Option PDU
 seenAt room memory i c = cond (ltb i 16) (some (pdu (c .stream) (inRoom room memory i (c .held)))) none
 
 -- `view`, by the contexts and the memory
