@@ -7,3 +7,4 @@ pub mod Steps
 pub mod Quiet
 pub mod Fine
 pub mod Machine
+pub mod Apart
