@@ -1,8 +1,7 @@
 -- Flows are apart: by the laws of ByFlow, packet by packet.
-use Prim.Native.Nat.{ℕ, _≤_}
-use native.Mathlib.Omega.{arith}
-use mathlib.Core.Path.{_≡_, refl, ap, ap₂, sym, _∙_, subst}
-use mathlib.Core.Bool.{Bool, true, false, cond}
+use Prim.Native.Nat.{ℕ}
+use mathlib.Core.Path.{_≡_, refl, ap, ap₂, sym, _∙_}
+use mathlib.Core.Bool.{Bool, true, false}
 use mathlib.Core.Option.{Option, none}
 use mathlib.Core.List.{List, [], _∷_}
 use Rattle.answers.specs.Answers as answers
@@ -15,9 +14,9 @@ use Rattle.wire.specs.Parsed.{parsed}
 use Rattle.streams.specs.Joining.{dataOf}
 use Rattle.reading.proofs.Packets.{stream-parsed}
 use Rattle.flows.specs.OneFlow.{PDU, Told, held, delivered, refused, Outcome, flowStep}
-use Rattle.flows.specs.Board.{Board, Delivery, delivery, deliveredBy, read, after, view, freshBoard}
-use Rattle.flows.specs.ByFlow.{among, AreBytes, Tells, OwnFlow, NoFlow, ByFlow}
-use Rattle.flows.specs.Apart.{Heard, Answer, answer, heardOf, heardAlone, isOf, packetsOf, answersTo, alone, AllBytes, flowAmong, AmongFlows, Run, FlowsApart, SamePacketsSameAnswers}
+use Rattle.flows.specs.Board.{Board, read, after, view, freshBoard}
+use Rattle.flows.specs.ByFlow.{AreBytes, Tells, OwnFlow, NoFlow, ByFlow}
+use Rattle.flows.specs.Apart.{Answer, answer, heardOf, heardAlone, isOf, packetsOf, answersTo, alone, AllBytes, flowAmong, AmongFlows, FlowsApart, SamePacketsSameAnswers}
 use Rattle.flows.proofs.Flows.{same-true, same-false, ne-same}
 use Rattle.flows.proofs.Fine.{Fine, fresh-fine, fresh-view}
 use Rattle.flows.proofs.Machine.{by-flow}

@@ -3,8 +3,7 @@ use Prim.Native.Nat.{ℕ, zero, suc, _≤_, _<_}
 use native.Mathlib.Omega.{arith}
 use native.Mathlib.Decide.{ℕ-discrete, decLt}
 use mathlib.Core.Path.{_≡_, refl, ap, sym, _∙_}
-use mathlib.Core.Logic.{_⊎_, inl, inr}
-use mathlib.Core.Bool.{Bool, true, false, cond, not, _&&_, false≢true, true≢false}
+use mathlib.Core.Bool.{Bool, true, false, cond, not, false≢true, true≢false}
 use mathlib.Core.List.{List, [], _∷_}
 use lib.ListN.{length, getD, set, length-set, List·getD-eq-default}
 use lib.Seq.{getD-set-same, getD-set-other}
@@ -17,7 +16,7 @@ use Rattle.contexts.specs.declared.StreamContext.{StreamContext}
 use Rattle.contexts.specs.State.{closedStream, isFreeStream, isOfFlow}
 use Rattle.refusal19.proofs.Good.{both}
 use Rattle.flows.specs.ByFlow.{among}
-use Rattle.flows.proofs.Flows.{same-true, same-refl, eq-same, pigeon-less}
+use Rattle.flows.proofs.Flows.{same-true, eq-same, pigeon-less}
 
 -- context i; a closed one past the last
 abbrev pub at : List StreamContext → ℕ → StreamContext

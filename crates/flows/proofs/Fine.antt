@@ -1,26 +1,24 @@
 -- A board on which reading treats each flow by itself.
-use Prim.Native.Nat.{ℕ, _+_, _*_, _≤_, _<_}
+use Prim.Native.Nat.{ℕ, _*_}
 use native.Mathlib.Omega.{arith}
-use mathlib.Core.Path.{_≡_, refl, ap, sym, _∙_, subst}
-use mathlib.Core.Bool.{Bool, true, false}
+use mathlib.Core.Path.{_≡_, refl, ap, sym, _∙_}
+use mathlib.Core.Bool.{true, false}
 use mathlib.Core.Option.{none}
 use mathlib.Core.List.{List}
 use lib.ListN.{length, replicate}
 use Rattle.lists.specs.First.{firstOf, any}
 use Rattle.wire.specs.declared.Flow.{Flow}
 use Rattle.wire.specs.Type9.{badMTU}
-use Rattle.contexts.specs.declared.StreamContext.{StreamContext}
 use Rattle.contexts.specs.State.{State, fresh, streamIn, closedStream, isFreeStream, isFreeMessage, isOfFlow, flowContext}
 use Rattle.contexts.specs.Words.{stateOf, wordsOf, stateWords}
-use Rattle.contexts.proofs.Words.{sixteen, eight, state-of, length-words}
+use Rattle.contexts.proofs.Words.{sixteen, state-of, length-words}
 use Rattle.refusal19.specs.Refusal19.{badRoom, badStream, badMessage, namedBy19}
-use Rattle.refusal19.proofs.Good.{Good, good, stream-holds}
+use Rattle.refusal19.proofs.Good.{good, stream-holds}
 use Rattle.reading.specs.Read.{Left}
 use Rattle.reading.specs.Good.{StillGood}
-use Rattle.flows.specs.OneFlow.{PDU}
 use Rattle.flows.specs.Board.{Board, Lends, left, freshBoard, viewOf, view}
 use Rattle.flows.proofs.Contexts.{at, within, closed-free, free-of-none, Once, Inside}
-use Rattle.flows.proofs.Seen.{seen, seen-none, seenAt, Sound}
+use Rattle.flows.proofs.Seen.{seen, seenAt, Sound}
 
 -- the state in the words
 abbrev pub stateOn : Board → State

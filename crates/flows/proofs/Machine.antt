@@ -1,18 +1,17 @@
 -- Reading treats each flow by itself: the laws of ByFlow hold of every fine board.
-use Prim.Native.Nat.{ℕ, _+_, _*_, _≤_, _<_}
+use Prim.Native.Nat.{ℕ, _+_, _≤_}
 use native.Mathlib.Omega.{arith}
 use mathlib.Core.Path.{_≡_, refl, ap, ap₂, sym, _∙_, subst, subst₂}
-use mathlib.Core.Bool.{Bool, true, false}
-use mathlib.Core.Option.{Option, none, some}
-use mathlib.Core.List.{List, [], _∷_}
-use lib.ListN.{length, take, drop, length-take, length-drop}
-use Rattle.answers.specs.Answers as answers
+use mathlib.Core.Bool.{true}
+use mathlib.Core.Option.{Option}
+use mathlib.Core.List.{List}
+use lib.ListN.{length, length-take, length-drop}
 use Rattle.wire.specs.declared.Flow.{Flow}
 use Rattle.wire.specs.declared.Segment.{Segment}
 use Rattle.wire.specs.declared.MessageSegment.{MessageSegment}
 use Rattle.wire.specs.declared.Parsed.{Parsed}
 use Rattle.wire.specs.declared.Parsed.the-variants.{Refused, Stream, Message}
-use Rattle.wire.specs.Type9.{sameFlow, dataLength}
+use Rattle.wire.specs.Type9.{dataLength}
 use Rattle.wire.specs.Parsed.{parsed}
 use Rattle.contexts.specs.declared.StreamContext.{StreamContext}
 use Rattle.contexts.specs.State.{State}
@@ -23,20 +22,20 @@ use Rattle.streams.specs.Step as streamStep
 use Rattle.streams.proofs.Laws.{data-le}
 use Rattle.messages.specs.Joining as message
 use Rattle.messages.specs.Step as messageStep
-use Rattle.reading.specs.Table.{Lent, stateIn}
-use Rattle.reading.specs.Read.{Left, lent, ofStream, ofMessage, reading}
+use Rattle.reading.specs.Table.{Lent}
+use Rattle.reading.specs.Read.{Left, lent, ofStream, ofMessage}
 use Rattle.reading.specs.Step.{byParsed}
 use Rattle.reading.specs.Good.{StillGood}
 use Rattle.reading.proofs.Rows.{by-packet}
-use Rattle.reading.proofs.Packets.{Lies, stream-parsed, message-parsed, message-small}
+use Rattle.reading.proofs.Packets.{stream-parsed, message-parsed, message-small}
 use Rattle.reading.proofs.Kept.{stays-good}
 use Rattle.reading.proofs.Left.{sizes-right}
-use Rattle.flows.specs.OneFlow.{PDU, Told, Outcome, flowStep}
-use Rattle.flows.specs.Board.{Board, left, read, after, deliveredBy, viewOf, view}
+use Rattle.flows.specs.OneFlow.{PDU, flowStep}
+use Rattle.flows.specs.Board.{Board, left, read, deliveredBy, viewOf, view}
 use Rattle.flows.specs.ByFlow.{among, AreBytes, Tells, OwnFlow, NoFlow, ByFlow}
 use Rattle.flows.proofs.Flows.{same-false}
 use Rattle.flows.proofs.Contexts.{Once, Inside}
-use Rattle.flows.proofs.Seen.{seen, Sound, After}
+use Rattle.flows.proofs.Seen.{seen}
 use Rattle.flows.proofs.Steps.{Sim, sim-stepped}
 use Rattle.flows.proofs.Quiet.{Quiet, quiet-stepped}
 use Rattle.flows.proofs.Fine.{stateOn, Fine, view-is, view-of, rooms-on, sound-on, still-fine}

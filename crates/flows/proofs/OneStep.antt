@@ -1,7 +1,7 @@
 -- What the one-flow endpoint answers, by the tests that led there.
 use Prim.Native.Nat.{ℕ, _+_}
-use mathlib.Core.Path.{_≡_, refl, ap, sym, _∙_}
-use mathlib.Core.Bool.{Bool, true, false, cond}
+use mathlib.Core.Path.{_≡_, _∙_}
+use mathlib.Core.Bool.{true, false}
 use mathlib.Core.Option.{Option, none, some}
 use mathlib.Core.List.{List, _++_}
 use lib.ListN.{length}
@@ -9,7 +9,7 @@ use lib.Dec.{ltb}
 use Rattle.wire.specs.declared.Segment.{Segment}
 use Rattle.wire.specs.Type9.{dataLength}
 use Rattle.rules.specs.Segments.{malformed, wrongSize, wrongLength}
-use Rattle.flows.specs.OneFlow.{PDU, pdu, Told, held, delivered, refused, Outcome, outcome, isOpen, refusedClosing, joined, continued, flowStep}
+use Rattle.flows.specs.OneFlow.{PDU, pdu, refused, outcome, isOpen, refusedClosing, joined, continued, flowStep}
 
 module _ (mtu room : ℕ) (g : Segment) (bytes : List ℕ) where
   -- row 6

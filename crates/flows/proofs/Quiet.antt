@@ -1,22 +1,21 @@
 -- A type 11 step leaves the stream contexts, delivers no PDU, and leaves its memories as long as they were.
-use Prim.Native.Nat.{ℕ, _+_, _*_, _-_, _≤_, _<_}
+use Prim.Native.Nat.{ℕ, _+_, _*_, _≤_, _<_}
 use native.Mathlib.Omega.{arith}
-use mathlib.Core.Path.{_≡_, refl, ap, sym, _∙_, subst}
+use mathlib.Core.Path.{_≡_, refl, ap, sym, _∙_}
 use mathlib.Core.Bool.{Bool, true, false, cond, not, _&&_}
 use mathlib.Core.List.{List, []}
-use lib.ListN.{length, drop, length-drop, length-set}
+use lib.ListN.{length, length-drop, length-set}
 use lib.Dec.{eqb, ltb}
-use borrow.Author.Tests.{ltb-true, eqb-true, not-false, eq-eqb}
-use Rattle.lists.specs.Bytes.{written}
+use borrow.Author.Tests.{ltb-true, eqb-true, not-false}
 use Rattle.lists.proofs.Written.{length-written}
 use Rattle.answers.specs.Answers as answers
 use Rattle.wire.specs.declared.MessageSegment.{MessageSegment}
 use Rattle.wire.specs.Type11.{bytesOf, isSingle, mailbox}
 use Rattle.wire.specs.Type13.{ERROR, RETRY, responseTo, answered}
 use Rattle.wire.proofs.Sizes.{bytes-le}
-use Rattle.rules.specs.Messages.{judged, lastWith, Sound}
+use Rattle.rules.specs.Messages.{judged, lastWith}
 use Rattle.rules.proofs.Laws.{sound}
-use Rattle.contexts.specs.State.{State, messageIn, freeMessage}
+use Rattle.contexts.specs.State.{State, freeMessage}
 use Rattle.messages.specs.Rows.{foundFor, messageOpen, otherMessage, alreadyMarked, noneFree}
 use Rattle.messages.specs.Joining.{Joined, dataOf, alone, marksWith, complete, placed, accepted}
 use Rattle.messages.specs.Step.{refusedWith, matched, stepped}

@@ -1,7 +1,7 @@
 -- One context changed, and its room at most: what every flow then has on the board.
 use Prim.Native.Nat.{ℕ, _+_, _*_, _≤_, _<_}
 use native.Mathlib.Omega.{arith}
-use mathlib.Core.Path.{_≡_, refl, ap, ap₂, sym, _∙_, subst}
+use mathlib.Core.Path.{_≡_, refl, ap, sym, _∙_, subst}
 use mathlib.Core.Bool.{Bool, true, false, cond, false≢true, true≢false}
 use mathlib.Core.Option.{Option, none, some}
 use mathlib.Core.List.{List, _++_}
@@ -13,10 +13,10 @@ use Rattle.lists.specs.Bytes.{written}
 use Rattle.wire.specs.declared.Flow.{Flow}
 use Rattle.contexts.specs.declared.StreamContext.{StreamContext}
 use Rattle.contexts.specs.State.{closedStream, isFreeStream, isOfFlow}
-use Rattle.flows.specs.OneFlow.{PDU, pdu, isOpen}
+use Rattle.flows.specs.OneFlow.{PDU, pdu}
 use Rattle.flows.specs.Board.{inRoom}
 use Rattle.flows.specs.ByFlow.{among}
-use Rattle.flows.proofs.Contexts.{at, own, spare, of-open, of-flow, made-of, closed-free, free-of-none, past, within, first-set, put-closed, Place, here, there, place, Own, found, lacks, own-cases, Once, Inside}
+use Rattle.flows.proofs.Contexts.{at, own, of-open, of-flow, made-of, closed-free, free-of-none, first-set, put-closed, Place, here, there, place, Own, found, lacks, own-cases, Once, Inside}
 use Rattle.flows.proofs.Rooms.{stored-length, stored-own, stored-apart}
 
 -- what a flow has whose context is c, number i

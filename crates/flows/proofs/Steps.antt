@@ -1,16 +1,14 @@
 -- A type 9 step on the state does to its flow what the one-flow endpoint does, and to no other flow anything.
 use Prim.Native.Nat.{ℕ, _+_, _*_, _≤_, _<_}
 use native.Mathlib.Omega.{arith}
-use native.Mathlib.Nat.{zero-add, add-zero}
-use mathlib.Core.Path.{_≡_, refl, ap, ap₂, sym, _∙_, subst, subst₂}
+use mathlib.Core.Path.{_≡_, refl, ap, sym, _∙_, subst, subst₂}
 use mathlib.Core.Bool.{Bool, true, false, cond}
 use mathlib.Core.Option.{Option, none, some}
 use mathlib.Core.List.{List, [], _∷_, _++_}
-use lib.ListN.{length, take, drop, set}
+use lib.ListN.{length, drop, set}
 use lib.Dec.{ltb}
-use borrow.Author.Tests.{lt-ltb, le-ltb, ltb-true, ltb-false, not-true}
+use borrow.Author.Tests.{lt-ltb, le-ltb, ltb-true, ltb-false}
 use Rattle.lists.specs.Bytes.{written}
-use Rattle.lists.specs.First.{firstOf}
 use Rattle.lists.proofs.First.{first-passes}
 use Rattle.answers.specs.Answers as answers
 use Rattle.wire.specs.declared.Flow.{Flow}
@@ -18,7 +16,7 @@ use Rattle.wire.specs.declared.Segment.{Segment}
 use Rattle.wire.specs.Type9.{dataLength}
 use Rattle.rules.specs.Segments.{malformed, wrongSize, wrongLength}
 use Rattle.contexts.specs.declared.StreamContext.{StreamContext}
-use Rattle.contexts.specs.State.{State, streamIn, withStream, closedStream, isFreeStream, isOfFlow, flowContext, freeStream}
+use Rattle.contexts.specs.State.{State, withStream, closedStream, isFreeStream, isOfFlow, flowContext, freeStream}
 use Rattle.refusal19.specs.Refusal19.{namedBy19}
 use Rattle.refusal19.proofs.Good.{good}
 use Rattle.streams.specs.Rows.{foundFor, missized}
@@ -26,7 +24,7 @@ use Rattle.streams.specs.Joining as stream
 use Rattle.streams.specs.Step as step
 use Rattle.streams.proofs.Laws.{size-le, passed, begin-own, begin-free, go-closed, go-passes, go-differs, go-placed, step-begins, step-continues}
 use Rattle.reading.proofs.Cases.{by-test}
-use Rattle.flows.specs.OneFlow.{PDU, pdu, Told, held, delivered, refused, Outcome, outcome, isOpen, refusedClosing, joined, flowStep}
+use Rattle.flows.specs.OneFlow.{PDU, pdu, held, delivered, refused, Outcome, outcome, isOpen, refusedClosing, joined, flowStep}
 use Rattle.flows.specs.Board.{inRoom, delivery}
 use Rattle.flows.specs.ByFlow.{among, Tells}
 use Rattle.flows.proofs.Contexts.{at, own, spare, of-open, of-flow, closed-free, free-of-none, past, Own, found, lacks, own-cases, spare-there}

@@ -13,8 +13,7 @@ use Rattle.wire.specs.Type9.{sameFlow, segmentOf, badMTU}
 use Rattle.wire.specs.Parsed.{parsed}
 use Rattle.refusal19.specs.Refusal19.{badRoom}
 use Rattle.streams.specs.Joining.{dataOf}
-use Rattle.reading.specs.Read.{Left}
-use Rattle.flows.specs.OneFlow.{PDU, pdu, Told, held, delivered, refused, Outcome, flowStep}
+use Rattle.flows.specs.OneFlow.{PDU, pdu, Told, held, delivered, refused, flowStep}
 use Rattle.flows.specs.Board.{Board, Delivery, delivery, inRoom, read, after, Lends, freshBoard}
 use Rattle.flows.specs.ByFlow.{among, AreBytes}
 
