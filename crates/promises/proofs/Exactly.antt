@@ -15,7 +15,7 @@ use Rattle.messages.specs.Joining as message
 use Rattle.messages.specs.Rows.{messageOpen}
 use Rattle.reading.specs.Table.{Lent, stateIn, segmentIn, messageSegmentIn, is9, table}
 use Rattle.reading.specs.Read.{Left, reading, outcome, leaving, accepting}
-use Rattle.segments.specs.Cutting.{packetOf}
+use Rattle.cutting.specs.Cutting.{packetOf}
 use Rattle.segments.specs.Writer.{writerTable, writing, wroteBy}
 use Rattle.endpoint.specs.Calls.{Stands, setupTable, setup, setupBy, abandonTable, abandonBy, abandonStream, abandonMessage}
 use Rattle.promises.specs.Statements.{RefusedExactly, RowLeaves, AcceptedExactly, AcceptedLeaves, SetupExactly, AbandonStreamExactly, AbandonMessageExactly, WriterExactly}

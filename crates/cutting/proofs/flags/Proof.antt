@@ -1,8 +1,8 @@
--- `segments::flags` meets its contract: each bit is what `bit_of` ensures of it, and four different weights never pass a byte.
-use Rattle.segments.specs.Cutting.{flagsOf}
+-- `cutting::flags` meets its contract: each bit is what `bit_of` ensures of it, and four different weights never pass a byte.
+use Rattle.cutting.specs.Cutting.{flagsOf}
 use borrow.Author.Needs.{needs}
-use Rattle.segments.proofs.flags.Statement.{statement}
-use Rattle.segments.proofs.flags.Tie as tie
+use Rattle.cutting.proofs.flags.Statement.{statement}
+use Rattle.cutting.proofs.flags.Tie as tie
 
 add-odd : tie.Need-add-odd
 add-odd c = search needs

@@ -1,10 +1,10 @@
--- `segments::put` meets its contract: each store stands behind the one before, so the three make one run, and one byte 0 or none of it is the pad.
+-- `cutting::put` meets its contract: each store stands behind the one before, so the three make one run, and one byte 0 or none of it is the pad.
 use native.Mathlib.Omega.{arith}
 use lib.ListN.{length-take}
-use Rattle.segments.proofs.Packet.{put-is}
+use Rattle.cutting.proofs.Pad.{put-is}
 use borrow.Author.Needs.{needs}
-use Rattle.segments.proofs.put.Statement.{statement}
-use Rattle.segments.proofs.put.Tie as tie
+use Rattle.cutting.proofs.put.Statement.{statement}
+use Rattle.cutting.proofs.put.Tie as tie
 
 copy-requires : tie.Need-copy-requires
 copy-requires c κs = search needs

@@ -1,9 +1,9 @@
--- `segments::count_of` meets its contract: the code is the definition, and nothing wraps, since an MTU is at least 1 and at most 256 and a length at most 65,536.
-use Rattle.segments.specs.Cutting.{segmentCount}
+-- `cutting::count_of` meets its contract: the code is the definition, and nothing wraps, since an MTU is at least 1 and at most 256 and a length at most 65,536.
+use Rattle.cutting.specs.Cutting.{segmentCount}
 use mathlib.Core.Path.{refl}
 use borrow.Author.Needs.{needs}
-use Rattle.segments.proofs.count_of.Statement.{statement}
-use Rattle.segments.proofs.count_of.Tie as tie
+use Rattle.cutting.proofs.count_of.Statement.{statement}
+use Rattle.cutting.proofs.count_of.Tie as tie
 
 sub-result : tie.Need-sub-result
 sub-result c = search needs

@@ -1,11 +1,15 @@
 -- Cutting a PDU into type 9 packets (document 01, 'Cutting and joining PDUs' and 'Packet bytes').
-use Prim.Native.Nat.{ℕ, suc, _+_, _-_, _*_, _/_, _%_}
+use Prim.Native.Nat.{ℕ, _+_, _-_, _*_, _/_, _%_}
 use mathlib.Core.List.{List, [], _∷_, _++_}
-use mathlib.Core.Bool.{Bool, cond}
+use mathlib.Core.Bool.{Bool, cond, _||_}
 use lib.ListN.{length, take, drop}
-use lib.Dec.{eqb}
+use lib.Dec.{eqb, ltb}
 use Rattle.lists.specs.Bytes.{high, low}
-use Rattle.segments.specs.declared.Heading.{Heading}
+use Rattle.cutting.specs.declared.Heading.{Heading}
+
+-- L is 0 or over 65,536
+unfoldable pub badSize : ℕ → Bool
+badSize size = eqb size 0 || ltb 65536 size
 
 -- ceil(L / MTU)
 unfoldable pub segmentCount : ℕ → ℕ → ℕ

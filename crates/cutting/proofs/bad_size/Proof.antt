@@ -1,8 +1,8 @@
--- `segments::bad_size` meets its contract: by the two tests, which are those of `badSize`.
-use Rattle.segments.specs.Writer.{badSize}
+-- `cutting::bad_size` meets its contract: by the two tests, which are those of `badSize`.
+use Rattle.cutting.specs.Cutting.{badSize}
 use borrow.Author.Tests.{eq-eqb, ne-eqb}
-use Rattle.segments.proofs.bad_size.Statement.{statement}
-use Rattle.segments.proofs.bad_size.Tie as tie
+use Rattle.cutting.proofs.bad_size.Statement.{statement}
+use Rattle.cutting.proofs.bad_size.Tie as tie
 
 returns : tie.Need-returns
 unfolding badSize
