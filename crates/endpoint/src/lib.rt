@@ -22,7 +22,7 @@ pub fn setup(state: &mut [usize], device: u16, mtu: usize, room: usize) -> Begun
     if state.len() != contexts::WORDS {
         return Begun::Refused(12);
     }
-    if wire::bad_mtu(mtu) {
+    if sizes::bad_mtu(mtu) {
         contexts::clear(state);
         return Begun::Refused(18);
     }

@@ -10,7 +10,8 @@ use lib.ListN.{length}
 use lib.Pow.{pow-pos}
 use borrow.Author.Tests.{eqb-false, eqb-true, eq-eqb, ne-eqb, ltb-true, not-false}
 use Rattle.wire.specs.declared.MessageSegment.{MessageSegment}
-use Rattle.wire.specs.Type11.{bytesOf, inEights, isSingle, isLast}
+use Rattle.wire.specs.Type11.{isSingle, isLast}
+use Rattle.sizes.specs.Sizes.{bytesOf, inEights}
 use Rattle.contexts.specs.declared.MessageContext.{MessageContext}
 use Rattle.contexts.specs.State.{State, messageIn, withMessage, closedMessage, messageContext, freeMessage}
 use Rattle.contexts.specs.Marks.{marked, allMarked}

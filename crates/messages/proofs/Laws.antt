@@ -13,9 +13,10 @@ use borrow.Author.Tests.{lt-ltb, le-ltb, eq-eqb, ne-eqb, eqb-true, ltb-false, no
 use Rattle.lists.specs.Bytes.{written}
 use Rattle.answers.specs.Answers.{Said, message}
 use Rattle.wire.specs.declared.MessageSegment.{MessageSegment}
-use Rattle.wire.specs.Type11.{bytesOf, inEights, isSingle, isLast, mailbox}
-use Rattle.wire.specs.Type13.{ERROR, RETRY, DONE, answered}
-use Rattle.wire.proofs.Sizes.{bytes-le, eights-le}
+use Rattle.wire.specs.Type11.{isSingle, isLast, mailbox}
+use Rattle.sizes.specs.Sizes.{bytesOf, inEights}
+use Rattle.responses.specs.Type13.{ERROR, RETRY, DONE, answered}
+use Rattle.sizes.proofs.Laws.{bytes-le, eights-le}
 use Rattle.contexts.specs.declared.MessageContext.{MessageContext}
 use Rattle.contexts.specs.State.{State, messageIn, withMessage, closedMessage, messageContext, freeMessage}
 use Rattle.contexts.specs.Marks.{marked}

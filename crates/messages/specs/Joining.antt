@@ -7,8 +7,9 @@ use lib.Dec.{eqb}
 use Rattle.lists.specs.Bytes.{written}
 use Rattle.answers.specs.Answers.{Said, held, message, refused}
 use Rattle.wire.specs.declared.MessageSegment.{MessageSegment}
-use Rattle.wire.specs.Type11.{bytesOf, isSingle, mailbox, messageDataFrom}
-use Rattle.wire.specs.Type13.{DONE, answered}
+use Rattle.wire.specs.Type11.{isSingle, mailbox, messageDataFrom}
+use Rattle.sizes.specs.Sizes.{bytesOf}
+use Rattle.responses.specs.Type13.{DONE, answered}
 use Rattle.contexts.specs.declared.MessageContext.{MessageContext}
 use Rattle.contexts.specs.State.{State, messageIn, withMessage, closedMessage, freeMessage}
 use Rattle.contexts.specs.Marks.{withMark, allMarked}

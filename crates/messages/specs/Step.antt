@@ -7,8 +7,9 @@ use lib.ListN.{length}
 use lib.Dec.{eqb}
 use Rattle.answers.specs.Answers.{Said, refused}
 use Rattle.wire.specs.declared.MessageSegment.{MessageSegment}
-use Rattle.wire.specs.Type11.{bytesOf, isSingle}
-use Rattle.wire.specs.Type13.{ERROR, RETRY, answered}
+use Rattle.wire.specs.Type11.{isSingle}
+use Rattle.sizes.specs.Sizes.{bytesOf}
+use Rattle.responses.specs.Type13.{ERROR, RETRY, answered}
 use Rattle.contexts.specs.State.{State, withMessage, messageContext}
 use Rattle.contexts.specs.Words.{stateOf, stateWords}
 use Rattle.contexts.specs.Marks.{marked}

@@ -8,7 +8,7 @@ ghost use Prim.Native.Nat.{_+_, _*_, _<_, _≤_, _^_};
 ghost use lib.ListN.{length};
 ghost use Rattle.answers.specs.Answers.{said};
 ghost use Rattle.wire.specs.Type11.{isSingle};
-ghost use Rattle.wire.specs.Type13.{DONE, answered};
+ghost use Rattle.responses.specs.Type13.{DONE, answered};
 ghost use Rattle.contexts.specs.State.{closedMessage, messageContext};
 ghost use Rattle.contexts.specs.Words.{stateOf, stateWords};
 ghost use Rattle.messages.specs.Joining.{joining, placed};
@@ -39,7 +39,7 @@ fn refuse(response: &mut [u8], packet: &[u8], number: usize, status: u8) -> Answ
     requires { ⌜ (7 ≤ length (now response)) × (7 ≤ length (now packet)) × (status < 16) ⌝ }
     ensures { λ r. ⌜ Replied (now (response .entry)) (now (packet .entry)) number status (said r) (now (response .exit)) ⌝ }
 {
-    wire::respond(response, packet, status);
+    responses::respond(response, packet, status);
     Answer::Refused(number)
 }
 
@@ -48,7 +48,7 @@ fn done(response: &mut [u8], packet: &[u8])
     requires { ⌜ (7 ≤ length (now response)) × (7 ≤ length (now packet)) ⌝ }
     ensures { λ _. ⌜ now (response .exit) ≡ answered (now (response .entry)) (now (packet .entry)) DONE ⌝ }
 {
-    wire::respond(response, packet, wire::DONE);
+    responses::respond(response, packet, responses::DONE);
 }
 
 // Context n with these marks: delivered where all segments are in, else kept.
@@ -64,7 +64,7 @@ fn keep(state: &mut [usize], m: MessageSegment, n: usize, marks: usize, last: us
             source: m.source,
             letter: m.letter,
             mailbox: rules::mailbox_of(m),
-            length: m.msglen * wire::bytes_of(m.ssize) + last,
+            length: m.msglen * sizes::bytes_of(m.ssize) + last,
         };
     }
     contexts::put_message(
@@ -100,7 +100,7 @@ fn place(
     requires { ⌜ Fits m n marks last ⌝ }
     ensures { λ r. ⌜ joining (said r) (stateOf (now (state .exit))) (now (memory .exit)) (now (response .exit)) ≡ placed (stateOf (now (state .entry))) (now (memory .entry)) (now (response .entry)) (now (packet .entry)) m n marks last ⌝ }
 {
-    let size = wire::bytes_of(m.ssize);
+    let size = sizes::bytes_of(m.ssize);
     let with_this = marks + contexts::power(m.msgseg);
     lists::store(
         memory,
@@ -125,7 +125,7 @@ fn take_alone(
 {
     let n = contexts::free_message(state);
     if 8 <= n {
-        return refuse(response, packet, 25, wire::RETRY);
+        return refuse(response, packet, 25, responses::RETRY);
     }
     lists::store(memory, n * ROOM, &packet[wire::HEADER + 2..]);
     contexts::put_message(state, n, closed());
@@ -154,13 +154,13 @@ fn join(
 {
     let c = contexts::message_at(state, found);
     if c.msglen != m.msglen {
-        return refuse(response, packet, 23, wire::ERROR);
+        return refuse(response, packet, 23, responses::ERROR);
     }
     if c.ssize != m.ssize {
-        return refuse(response, packet, 23, wire::ERROR);
+        return refuse(response, packet, 23, responses::ERROR);
     }
     if contexts::marked(c.marks as u16, m.msgseg) {
-        return refuse(response, packet, 24, wire::ERROR);
+        return refuse(response, packet, 24, responses::ERROR);
     }
     place(state, memory, response, packet, m, found, c.marks, c.last)
 }
@@ -179,7 +179,7 @@ fn begin(
 {
     let n = contexts::free_message(state);
     if 8 <= n {
-        return refuse(response, packet, 25, wire::RETRY);
+        return refuse(response, packet, 25, responses::RETRY);
     }
     place(state, memory, response, packet, m, n, 0, 0)
 }
@@ -197,7 +197,7 @@ pub fn step(
 {
     let number = rules::judge(m);
     if number != 0 {
-        return refuse(response, packet, number, wire::ERROR);
+        return refuse(response, packet, number, responses::ERROR);
     }
     if m.msglen == 0 {
         return take_alone(state, memory, response, packet, m);

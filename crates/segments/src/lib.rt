@@ -15,7 +15,7 @@ ghost use Rattle.segments.specs.Writer.{wroteOf, wroteBy, WritePromise, 
 pub fn segment_count(mtu: usize, length: usize) -> usize
     ensures { λ r. ⌜ CountPromise mtu length r ⌝ }
 {
-    if wire::bad_mtu(mtu) {
+    if sizes::bad_mtu(mtu) {
         return 0;
     }
     if cutting::bad_size(length) {
@@ -66,7 +66,7 @@ pub fn write_segment(
 ) -> Written
     ensures { λ r. ⌜ WritePromise (now (out .entry)) heading mtu (now (pdu .entry)) number r (now (out .exit)) ⌝ }
 {
-    if wire::bad_mtu(mtu) {
+    if sizes::bad_mtu(mtu) {
         return Written::Refused(18);
     }
     if 3 < heading.priority {

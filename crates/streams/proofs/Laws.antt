@@ -13,7 +13,7 @@ use Rattle.lists.specs.Bytes.{written}
 use Rattle.lists.proofs.First.{first-le}
 use Rattle.answers.specs.Answers.{Said, refused}
 use Rattle.wire.specs.declared.Segment.{Segment}
-use Rattle.wire.specs.Type9.{dataLength}
+use Rattle.sizes.specs.Sizes.{dataLength}
 use Rattle.contexts.specs.declared.StreamContext.{StreamContext}
 use Rattle.contexts.specs.State.{State, streamIn, withStream, closedStream, flowContext, freeStream}
 use Rattle.refusal19.specs.Refusal19.{namedBy19}

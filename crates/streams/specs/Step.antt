@@ -7,7 +7,7 @@ use lib.ListN.{length}
 use lib.Dec.{ltb}
 use Rattle.answers.specs.Answers.{Said, held, delivered, refused}
 use Rattle.wire.specs.declared.Segment.{Segment}
-use Rattle.wire.specs.Type9.{dataLength}
+use Rattle.sizes.specs.Sizes.{dataLength}
 use Rattle.contexts.specs.State.{State, withStream, closedStream}
 use Rattle.contexts.specs.Words.{stateOf, stateWords}
 use Rattle.refusal19.specs.Refusal19.{namedBy19}

@@ -186,7 +186,7 @@ pub fn step(state: &mut [usize], memory: &mut [u8], packet: &[u8], g: Segment) -
     if rules::is_malformed(g) {
         return refused_closing(state, found, 6);
     }
-    let count = wire::data_length(g);
+    let count = sizes::data_length(g);
     let mtu = contexts::mtu(state);
     if rules::is_missized(g.ends, count, mtu) {
         return refused_closing(state, found, 7);

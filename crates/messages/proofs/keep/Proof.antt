@@ -1,6 +1,6 @@
 -- `messages::keep` meets its contract: delivered where all are marked, else kept.
 use Prim.Native.Nat.{_≤_}
-use Rattle.wire.proofs.Sizes.{bytes-le}
+use Rattle.sizes.proofs.Laws.{bytes-le}
 use Rattle.messages.proofs.Laws.{product-le}
 use Rattle.contexts.specs.declared.MessageContext.{MessageContext}
 use Rattle.contexts.specs.State.{withMessage}

@@ -1,7 +1,7 @@
 -- `messages::place` meets its contract: the store ends inside the room, and a mark that was not set leaves room for it.
 use Rattle.messages.proofs.Laws.{placing, product-le, segment-ends, marks-le}
 use Rattle.contexts.proofs.Marks.{room-for-mark}
-use Rattle.wire.proofs.Sizes.{bytes-le}
+use Rattle.sizes.proofs.Laws.{bytes-le}
 use lib.ListN.{length-take, length-drop}
 use Prim.Native.Nat.{ℕ, _+_, _≤_}
 use Rattle.contexts.specs.Words.{stateOf}

@@ -1,9 +1,9 @@
--- `wire::respond` meets its contract: the seven bytes are the definition's, written over the buffer's first.
+-- `responses::respond` meets its contract: the seven bytes are the definition's, written over the buffer's first.
 use Rattle.lists.specs.Bytes.{written}
-use Rattle.wire.specs.Type13.{answered, responseTo}
+use Rattle.responses.specs.Type13.{answered, responseTo}
 use borrow.Author.Needs.{needs}
-use Rattle.wire.proofs.respond.Statement.{statement}
-use Rattle.wire.proofs.respond.Tie as tie
+use Rattle.responses.proofs.respond.Statement.{statement}
+use Rattle.responses.proofs.respond.Tie as tie
 
 shared-slice-read-above : tie.Need-shared-slice-read-above
 shared-slice-read-above c = search needs

@@ -7,7 +7,7 @@ use native.Mathlib.Omega.{arith}
 use lib.Dec.{leb, eqb}
 use lib.ListN.{getD}
 use borrow.Author.Tests.{leb-true}
-use Rattle.wire.specs.Type11.{ssizes, bytesOf, inEights}
+use Rattle.sizes.specs.Sizes.{ssizes, bytesOf, inEights}
 
 -- whether every number of a list is at most a bound
 most : ℕ → List ℕ → Bool

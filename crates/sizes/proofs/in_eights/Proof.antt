@@ -1,8 +1,8 @@
--- `wire::in_eights` meets its contract: each return follows from the tests on the way.
-use Rattle.wire.specs.Type11.{inEights}
+-- `sizes::in_eights` meets its contract: each return follows from the tests on the way.
+use Rattle.sizes.specs.Sizes.{inEights}
 use borrow.Author.Tests.{le-leb, lt-leb}
-use Rattle.wire.proofs.in_eights.Statement.{statement}
-use Rattle.wire.proofs.in_eights.Tie as tie
+use Rattle.sizes.proofs.in_eights.Statement.{statement}
+use Rattle.sizes.proofs.in_eights.Tie as tie
 
 returns : tie.Need-returns
 unfolding inEights

@@ -1,11 +1,10 @@
--- `wire::bytes_of` meets its contract: the table's entry, and 0 past its end.
-use Rattle.wire.specs.Type11.{ssizes}
+-- `sizes::bytes_of` meets its contract: the table's entry, and 0 past its end.
 use lib.ListN.{List·getD-eq-default}
 use mathlib.Core.Path.{sym}
-use Rattle.wire.specs.Type11.{bytesOf}
+use Rattle.sizes.specs.Sizes.{ssizes, bytesOf}
 use borrow.Author.Needs.{needs}
-use Rattle.wire.proofs.bytes_of.Statement.{statement}
-use Rattle.wire.proofs.bytes_of.Tie as tie
+use Rattle.sizes.proofs.bytes_of.Statement.{statement}
+use Rattle.sizes.proofs.bytes_of.Tie as tie
 
 mul-result : tie.Need-mul-result
 mul-result c = search needs

@@ -1,8 +1,8 @@
--- `wire::above` meets its contract: each return follows from the tests on the way.
+-- `responses::above` meets its contract: each return follows from the tests on the way.
 use borrow.Author.Tests.{lt-ltb, le-ltb}
 use borrow.Author.Needs.{needs}
-use Rattle.wire.proofs.above.Statement.{statement}
-use Rattle.wire.proofs.above.Tie as tie
+use Rattle.responses.proofs.above.Statement.{statement}
+use Rattle.responses.proofs.above.Tie as tie
 
 add-result : tie.Need-add-result
 add-result c = search needs

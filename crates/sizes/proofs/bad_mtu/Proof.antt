@@ -1,8 +1,8 @@
--- `wire::bad_mtu` meets its contract: each return follows from the tests on the way.
-use Rattle.wire.specs.Type9.{badMTU}
+-- `sizes::bad_mtu` meets its contract: each return follows from the tests on the way.
+use Rattle.sizes.specs.Sizes.{badMTU}
 use borrow.Author.Tests.{le-ltb, lt-ltb}
-use Rattle.wire.proofs.bad_mtu.Statement.{statement}
-use Rattle.wire.proofs.bad_mtu.Tie as tie
+use Rattle.sizes.proofs.bad_mtu.Statement.{statement}
+use Rattle.sizes.proofs.bad_mtu.Tie as tie
 
 returns : tie.Need-returns
 unfolding badMTU

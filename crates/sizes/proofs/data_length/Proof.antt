@@ -1,8 +1,8 @@
--- `wire::data_length` meets its contract: each return follows from the tests on the way.
-use Rattle.wire.specs.Type9.{dataLength}
+-- `sizes::data_length` meets its contract: each return follows from the tests on the way.
+use Rattle.sizes.specs.Sizes.{dataLength}
 use borrow.Author.Needs.{needs}
-use Rattle.wire.proofs.data_length.Statement.{statement}
-use Rattle.wire.proofs.data_length.Tie as tie
+use Rattle.sizes.proofs.data_length.Statement.{statement}
+use Rattle.sizes.proofs.data_length.Tie as tie
 
 sub-result : tie.Need-sub-result
 sub-result c = search needs

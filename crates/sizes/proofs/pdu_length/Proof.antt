@@ -1,8 +1,8 @@
--- `wire::pdu_length` meets its contract: each return follows from the tests on the way.
-use Rattle.wire.specs.Type9.{pduLength}
+-- `sizes::pdu_length` meets its contract: each return follows from the tests on the way.
+use Rattle.sizes.specs.Sizes.{pduLength}
 use borrow.Author.Tests.{eq-eqb, ne-eqb}
-use Rattle.wire.proofs.pdu_length.Statement.{statement}
-use Rattle.wire.proofs.pdu_length.Tie as tie
+use Rattle.sizes.proofs.pdu_length.Statement.{statement}
+use Rattle.sizes.proofs.pdu_length.Tie as tie
 
 returns : tie.Need-returns
 unfolding pduLength
