@@ -73,7 +73,7 @@ pub fn abandon_stream(state: &mut [usize], n: usize) -> Abandoned
     if c.live == 0 {
         return Abandoned::WasFree;
     }
-    contexts::put_stream(state, n, streams::closed());
+    contexts::put_stream(state, n, stream_rooms::closed());
     Abandoned::Closed
 }
 

@@ -10,6 +10,7 @@ use Rattle.answers.proofs.Exactly.{answered, exactly, accepted, none-held}
 use Rattle.wire.specs.Type11.{isSingle}
 use Rattle.contexts.specs.State.{State, streamIn, messageIn, withStream, withMessage, closedStream, closedMessage, isFreeStream, isFreeMessage}
 use Rattle.contexts.specs.Words.{stateOf}
+use Rattle.stream_rooms.specs.Placing as streamRoom
 use Rattle.streams.specs.Joining as stream
 use Rattle.messages.specs.Joining as message
 use Rattle.messages.specs.Rows.{messageOpen}
@@ -41,7 +42,7 @@ number-said x number allERROR = refl
 number-said x number allRETRY = refl
 
 stream-no : (x : Lent) → no-refusal (stream.accepted (stateIn x) (x .streamMemory) (x .packet) (segmentIn x) .says)
-unfolding stream.accepted stream.placed
+unfolding stream.accepted streamRoom.placed
 stream-no x = chosen no-refusal (segmentIn x .ends) _ held (λ number e. let z : _≡_ {A = ℕ} 0 1 = cc in omega arith) held-no
 
 placed-no : (x : Lent) (n marks last : ℕ) → no-refusal (message.placed (stateIn x) (x .messageMemory) (x .response) (x .packet) (messageSegmentIn x) n marks last .says)

@@ -4,7 +4,7 @@ use mathlib.Core.Path.{_≡_, refl}
 use mathlib.Core.List.{List, [], _∷_}
 use mathlib.Core.Bool.{Bool, true, false, cond}
 use Rattle.answers.specs.Refusals.{Row, row, Leaves, verdict}
-use Rattle.streams.specs.Joining as stream
+use Rattle.stream_rooms.specs.Placing as streamRoom
 use Rattle.messages.specs.Joining as message
 use Rattle.reading.specs.Table.{Lent}
 use Rattle.reading.specs.Read.{leaving, accepting, outcome, ofStream, ofMessage}
@@ -21,7 +21,7 @@ by-row x number true leaves rows = refl
 by-row x number false leaves rows = refl
 
 -- a choice between two steps is a choice between what they leave
-pub choose-stream : (x : Lent) (b : Bool) (j k : stream.Joined) → ofStream x (cond b j k) ≡ cond b (ofStream x j) (ofStream x k)
+pub choose-stream : (x : Lent) (b : Bool) (j k : streamRoom.Joined) → ofStream x (cond b j k) ≡ cond b (ofStream x j) (ofStream x k)
 choose-stream x true j k = refl
 choose-stream x false j k = refl
 

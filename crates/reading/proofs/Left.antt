@@ -13,7 +13,7 @@ use Rattle.contexts.specs.State.{State}
 use Rattle.contexts.specs.Words.{stateOf, stateWords}
 use Rattle.contexts.proofs.Words.{words-of}
 use Rattle.refusal19.proofs.Good.{neither}
-use Rattle.streams.specs.Joining as stream
+use Rattle.stream_rooms.specs.Placing as streamRoom
 use Rattle.messages.specs.Joining as message
 use Rattle.reading.specs.Table.{Lent, wrongSizes}
 use Rattle.reading.specs.Read.{left, leaving, ofStream, ofMessage, reading, ReadPromise}
@@ -24,8 +24,8 @@ pub refusing : (x : Lent) (number : ℕ) (r : Reading) → Refusal number r → 
 refusing x number r f e = rw (f .answer, f .drop) e
 
 -- what a step leaves in the words
-pub stream-left : (x : Lent) (says : Said) (dropped : Bool) (words memory : List ℕ) (j : stream.Joined) → length words ≡ stateWords
-    → stream.joining says dropped (stateOf words) memory ≡ j → left says dropped words memory (x .messageMemory) (x .response) ≡ ofStream x j
+pub stream-left : (x : Lent) (says : Said) (dropped : Bool) (words memory : List ℕ) (j : streamRoom.Joined) → length words ≡ stateWords
+    → streamRoom.joining says dropped (stateOf words) memory ≡ j → left says dropped words memory (x .messageMemory) (x .response) ≡ ofStream x j
 stream-left x says dropped words memory j z e =
     ap (λ (w : List ℕ). left says dropped w memory (x .messageMemory) (x .response)) (sym (words-of words z)) ∙ ap (ofStream x) e
 

@@ -8,6 +8,7 @@ use Rattle.answers.specs.declared.Reading.{Reading}
 use Rattle.answers.specs.Refusals.{Leaves, all, flowClosed, allERROR, allRETRY, Verdict, refuse, accept, verdict}
 use Rattle.responses.specs.Type13.{ERROR, RETRY, answered}
 use Rattle.contexts.specs.Words.{wordsOf}
+use Rattle.stream_rooms.specs.Placing as streamRoom
 use Rattle.streams.specs.Joining as stream
 use Rattle.messages.specs.Joining as message
 use Rattle.reading.specs.Table.{Lent, stateIn, segmentIn, messageSegmentIn, is9, table}
@@ -32,7 +33,7 @@ left says dropped words streamMemory messageMemory response = record {
 }
 
 -- what a type 9 packet leaves; message memory and response stay
-abbrev pub ofStream : Lent → stream.Joined → Left
+abbrev pub ofStream : Lent → streamRoom.Joined → Left
 ofStream x j = left (j .says) (j .dropped) (wordsOf (j .state)) (j .memory) (x .messageMemory) (x .response)
 
 -- what an accepted type 11 packet leaves; the stream memory stays

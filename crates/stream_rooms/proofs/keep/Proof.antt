@@ -1,11 +1,11 @@
--- `streams::keep` meets its contract: an end or single closes the context and is delivered, else it is kept.
+-- `stream_rooms::keep` meets its contract: an end or single closes the context and is delivered, else it is kept.
 use Rattle.contexts.specs.Words.{stateOf}
 use Rattle.contexts.specs.State.{withStream}
 use Rattle.contexts.specs.declared.StreamContext.{StreamContext}
 use mathlib.Core.Path.{refl, ap, _∙_}
 use borrow.Author.Needs.{needs}
-use Rattle.streams.proofs.keep.Statement.{statement}
-use Rattle.streams.proofs.keep.Tie as tie
+use Rattle.stream_rooms.proofs.keep.Statement.{statement}
+use Rattle.stream_rooms.proofs.keep.Tie as tie
 
 closed-requires : tie.Need-closed-requires
 closed-requires c κs = search needs

@@ -1,14 +1,14 @@
--- `streams::refused_closing` meets its contract: the context is closed where there is one.
+-- `stream_rooms::refused_closing` meets its contract: the context is closed where there is one.
 use borrow.Author.Tests.{lt-ltb, le-ltb}
 use Rattle.contexts.proofs.Words.{sixteen}
-use Rattle.streams.proofs.Laws.{put-nowhere}
+use Rattle.stream_rooms.proofs.Laws.{put-nowhere}
 use Rattle.contexts.specs.Words.{stateOf}
 use Rattle.contexts.specs.State.{withStream}
 use Rattle.contexts.specs.declared.StreamContext.{StreamContext}
 use mathlib.Core.Path.{refl, ap, sym, _∙_}
 use borrow.Author.Needs.{needs}
-use Rattle.streams.proofs.refused_closing.Statement.{statement}
-use Rattle.streams.proofs.refused_closing.Tie as tie
+use Rattle.stream_rooms.proofs.refused_closing.Statement.{statement}
+use Rattle.stream_rooms.proofs.refused_closing.Tie as tie
 
 closed-requires : tie.Need-closed-requires
 closed-requires c κs = search needs

@@ -1,13 +1,13 @@
--- `streams::place` meets its contract: the store ends inside the room, and the context is kept or delivered.
+-- `stream_rooms::place` meets its contract: the store ends inside the room, and the context is kept or delivered.
 use lib.ListN.{length-take, length-drop}
 use native.Mathlib.Nat.{mul-le-mul-right, le-of-lt}
 use Rattle.refusal19.proofs.Good.{good}
-use Rattle.streams.proofs.Laws.{room-ends, placing}
+use Rattle.stream_rooms.proofs.Laws.{room-ends, placing}
 use Rattle.contexts.specs.Words.{stateOf}
 use native.Mathlib.Omega.{arith}
 use borrow.Author.Needs.{needs}
-use Rattle.streams.proofs.place.Statement.{statement}
-use Rattle.streams.proofs.place.Tie as tie
+use Rattle.stream_rooms.proofs.place.Statement.{statement}
+use Rattle.stream_rooms.proofs.place.Tie as tie
 
 room-requires : tie.Need-room-requires
 room-requires c κs = search needs
