@@ -94,7 +94,7 @@ pub fn abandon_message(state: &mut [usize], n: usize) -> Abandoned
     if c.live == 0 {
         return Abandoned::WasFree;
     }
-    contexts::put_message(state, n, messages::closed());
+    contexts::put_message(state, n, message_rooms::closed());
     Abandoned::Closed
 }
 
@@ -144,5 +144,5 @@ pub fn message_room<'a>(state: &[usize], memory: &'a [u8], n: usize, l: usize) -
     if no_state(state) {
         return &memory[0..0];
     }
-    room_part(memory, 8, messages::ROOM, n, l)
+    room_part(memory, 8, message_rooms::ROOM, n, l)
 }

@@ -5,7 +5,7 @@ use mathlib.Core.List.{List, [], _∷_}
 use mathlib.Core.Bool.{Bool, true, false, cond}
 use Rattle.answers.specs.Refusals.{Row, row, Leaves, verdict}
 use Rattle.stream_rooms.specs.Placing as streamRoom
-use Rattle.messages.specs.Joining as message
+use Rattle.message_rooms.specs.Placing as messageRoom
 use Rattle.reading.specs.Table.{Lent}
 use Rattle.reading.specs.Read.{leaving, accepting, outcome, ofStream, ofMessage}
 
@@ -25,7 +25,7 @@ pub choose-stream : (x : Lent) (b : Bool) (j k : streamRoom.Joined) → ofStream
 choose-stream x true j k = refl
 choose-stream x false j k = refl
 
-pub choose-message : (x : Lent) (b : Bool) (j k : message.Joined) → ofMessage x (cond b j k) ≡ cond b (ofMessage x j) (ofMessage x k)
+pub choose-message : (x : Lent) (b : Bool) (j k : messageRoom.Joined) → ofMessage x (cond b j k) ≡ cond b (ofMessage x j) (ofMessage x k)
 choose-message x true j k = refl
 choose-message x false j k = refl
 

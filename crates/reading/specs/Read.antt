@@ -10,6 +10,7 @@ use Rattle.responses.specs.Type13.{ERROR, RETRY, answered}
 use Rattle.contexts.specs.Words.{wordsOf}
 use Rattle.stream_rooms.specs.Placing as streamRoom
 use Rattle.streams.specs.Joining as stream
+use Rattle.message_rooms.specs.Placing as messageRoom
 use Rattle.messages.specs.Joining as message
 use Rattle.reading.specs.Table.{Lent, stateIn, segmentIn, messageSegmentIn, is9, table}
 
@@ -37,7 +38,7 @@ abbrev pub ofStream : Lent → streamRoom.Joined → Left
 ofStream x j = left (j .says) (j .dropped) (wordsOf (j .state)) (j .memory) (x .messageMemory) (x .response)
 
 -- what an accepted type 11 packet leaves; the stream memory stays
-abbrev pub ofMessage : Lent → message.Joined → Left
+abbrev pub ofMessage : Lent → messageRoom.Joined → Left
 ofMessage x j = left (j .says) false (wordsOf (j .state)) (x .streamMemory) (j .memory) (j .response)
 
 -- the table's last column

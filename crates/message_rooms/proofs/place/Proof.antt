@@ -1,5 +1,5 @@
--- `messages::place` meets its contract: the store ends inside the room, and a mark that was not set leaves room for it.
-use Rattle.messages.proofs.Laws.{placing, product-le, segment-ends, marks-le}
+-- `message_rooms::place` meets its contract: the store ends inside the room, and a mark that was not set leaves room for it.
+use Rattle.message_rooms.proofs.Laws.{placing, product-le, segment-ends, marks-le}
 use Rattle.contexts.proofs.Marks.{room-for-mark}
 use Rattle.sizes.proofs.Laws.{bytes-le}
 use lib.ListN.{length-take, length-drop}
@@ -8,8 +8,8 @@ use Rattle.contexts.specs.Words.{stateOf}
 use mathlib.Core.Path.{ap}
 use native.Mathlib.Omega.{arith}
 use borrow.Author.Needs.{needs}
-use Rattle.messages.proofs.place.Statement.{statement}
-use Rattle.messages.proofs.place.Tie as tie
+use Rattle.message_rooms.proofs.place.Statement.{statement}
+use Rattle.message_rooms.proofs.place.Tie as tie
 use Rattle.rules.proofs.Laws.{last-with-le}
 
 bytes-of-requires : tie.Need-bytes-of-requires

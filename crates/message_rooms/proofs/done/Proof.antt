@@ -1,7 +1,7 @@
--- `messages::done` meets its contract: it is what the response writer promises, with DONE.
+-- `message_rooms::done` meets its contract: it is what the response writer promises, with DONE.
 use borrow.Author.Needs.{needs}
-use Rattle.messages.proofs.done.Statement.{statement}
-use Rattle.messages.proofs.done.Tie as tie
+use Rattle.message_rooms.proofs.done.Statement.{statement}
+use Rattle.message_rooms.proofs.done.Tie as tie
 
 respond-requires : tie.Need-respond-requires
 respond-requires c κs = search needs

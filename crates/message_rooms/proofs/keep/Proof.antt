@@ -1,15 +1,15 @@
--- `messages::keep` meets its contract: delivered where all are marked, else kept.
+-- `message_rooms::keep` meets its contract: delivered where all are marked, else kept.
 use Prim.Native.Nat.{_≤_}
 use Rattle.sizes.proofs.Laws.{bytes-le}
-use Rattle.messages.proofs.Laws.{product-le}
+use Rattle.message_rooms.proofs.Laws.{product-le}
 use Rattle.contexts.specs.declared.MessageContext.{MessageContext}
 use Rattle.contexts.specs.State.{withMessage}
 use Rattle.contexts.specs.Words.{stateOf}
 use mathlib.Core.Path.{ap, sym, _∙_}
 use native.Mathlib.Omega.{arith}
 use borrow.Author.Needs.{needs}
-use Rattle.messages.proofs.keep.Statement.{statement}
-use Rattle.messages.proofs.keep.Tie as tie
+use Rattle.message_rooms.proofs.keep.Statement.{statement}
+use Rattle.message_rooms.proofs.keep.Tie as tie
 
 cast-all-marked : tie.Need-cast-all-marked
 cast-all-marked c = search needs

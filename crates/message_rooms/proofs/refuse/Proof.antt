@@ -1,7 +1,7 @@
--- `messages::refuse` meets its contract: `respond` writes the status that it is given, and the number is passed on.
+-- `message_rooms::refuse` meets its contract: `respond` writes the status that it is given, and the number is passed on.
 use borrow.Author.Needs.{needs}
-use Rattle.messages.proofs.refuse.Statement.{statement}
-use Rattle.messages.proofs.refuse.Tie as tie
+use Rattle.message_rooms.proofs.refuse.Statement.{statement}
+use Rattle.message_rooms.proofs.refuse.Tie as tie
 
 respond-requires : tie.Need-respond-requires
 respond-requires c κs = search needs
