@@ -1,0 +1,28 @@
+-- What the functions that put text into a lent buffer promise each other.
+use Prim.Native.Nat.{ℕ, _+_, _≤_}
+use mathlib.Core.Path.{_≡_}
+use mathlib.Core.List.{List, []}
+use mathlib.Core.Bool.{Bool, cond}
+use lib.ListN.{length}
+use lib.Dec.{ltb}
+use Rattle.lists.specs.Bytes.{written}
+
+-- the bytes stand at the place, and r is the place behind them
+pub record Puts (out : List ℕ) (at : ℕ) (bytes after : List ℕ) (r : ℕ) : Type 0 where
+  pub stored : after ≡ written out at bytes
+  pub behind : r ≡ at + length bytes
+
+-- a buffer that has room for every line
+abbrev pub lineRoom : ℕ
+lineRoom = 128
+
+-- what is in a buffer after a line, and how many bytes that has; 0 where the buffer has too little room, and all stays
+pub record Put : Type 0 where
+  pub size : ℕ
+  pub out : List ℕ
+
+abbrev pub put : ℕ → List ℕ → Put
+put size out = record { size = size; out = out }
+
+unfoldable pub putLine : List ℕ → List ℕ → Put
+putLine out line = cond (ltb (length out) lineRoom) (put 0 out) (put (length line) (written out 0 line))

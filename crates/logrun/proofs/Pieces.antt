@@ -1,0 +1,71 @@
+-- The pieces in a row make the output.
+use Prim.Native.Nat.{ℕ, zero, suc, _+_, _-_, _≤_, _<_}
+use mathlib.Core.Path.{_≡_, refl, ap, ap₂, sym, _∙_}
+use mathlib.Core.Bool.{Bool, true, false, cond}
+use mathlib.Core.List.{List, [], _∷_, _++_, append-assoc}
+use native.Mathlib.Omega.{arith}
+use native.Mathlib.Nat.{zero-add, add-zero}
+use lib.ListN.{length, take, drop, length-append, length-drop}
+use lib.Seq.{take-at}
+use lib.Dec.{ltb}
+use borrow.Author.Tests.{le-ltb}
+use Rattle.lists.specs.Bytes.{written}
+use Rattle.lists.proofs.Written.{written-front, length-written}
+use Rattle.flows.specs.Board.{Board, read, after}
+use Rattle.records.specs.declared.Next.{Next}
+use Rattle.records.specs.declared.Next.the-variants.{Record, End, Bad}
+use Rattle.records.specs.Records.{Records, records, before, byNext, nextRecord, recordsFrom, recordsOf}
+use Rattle.records.proofs.Found.{Inside, inside}
+use Rattle.lines.specs.Lines.{lineOf, endLine, badLog}
+use Rattle.lines.specs.Puts.{Put, put, putLine}
+use Rattle.logrun.specs.declared.Piece.the-variants.{Line, Last}
+use Rattle.logrun.specs.Output.{logBoard, linesOf, outputOf, output}
+use Rattle.logrun.specs.Printing.{Printing, printedBy, printed, onPiece, pieces, PiecesMakeOutput}
+
+-- a line in a buffer with room: the buffer's first bytes are the line, and the room stays
+module _ (out line : List ℕ) (room : 128 ≤ length out) where
+  put-there : putLine out line ≡ put (length line) (line ++ drop (length line) out)
+  unfolding putLine
+  put-there = rw (le-ltb (length out) 128 room, written-front out line)
+
+  pub written-line : take (putLine out line .size) (putLine out line .out) ≡ line
+  written-line = ap (λ (x : Put). take (x .size) (x .out)) put-there ∙ take-at line (drop (length line) out) (length line) refl
+
+  pub still-room : 128 ≤ length (putLine out line .out)
+  still-room = rw put-there (simp (length-append, length-drop) (omega arith))
+
+-- one record more
+one-more : (b : Board) (count : ℕ) (packet : List ℕ) (r : Records)
+    → lineOf (read b packet .says) (read b packet .dropped) ++ outputOf (after b packet) (count + 1) r ≡ outputOf b count (before packet r)
+unfolding outputOf
+one-more b count packet r =
+    let e : count + 1 + length (r .packets) ≡ count + suc (length (r .packets)) = omega arith in
+    ap (λ (k : ℕ). lineOf (read b packet .says) (read b packet .dropped) ++ (linesOf (after b packet) (r .packets) ++ cond (r .clean) (endLine k) badLog)) e
+    ∙ sym (append-assoc (lineOf (read b packet .says) (read b packet .dropped)) (linesOf (after b packet) (r .packets)) (cond (r .clean) (endLine (count + suc (length (r .packets)))) badLog))
+
+-- from any place on
+from-place : (most : ℕ) (b : Board) (log : List ℕ) (at count : ℕ) (out : List ℕ) → length log - at < most → 128 ≤ length out
+    → pieces most b log at count out ≡ outputOf b count (recordsFrom most log at)
+unfolding pieces recordsFrom printed outputOf
+from-place zero b log at count out h room = absurd (omega arith)
+from-place (suc most) b log at count out h room = go (nextRecord log at) refl (λ b′ next out′ h′ room′. from-place most b′ log next (count + 1) out′ h′ room′)
+  where
+    go : (x : Next) → nextRecord log at ≡ x
+        → ((b′ : Board) (next : ℕ) (out′ : List ℕ) → length log - next < most → 128 ≤ length out′ → pieces most b′ log next (count + 1) out′ ≡ outputOf b′ (count + 1) (recordsFrom most log next))
+        → onPiece (λ next. pieces most (printedBy b log count out x .board) log next (count + 1) (printedBy b log count out x .out)) (printedBy b log count out x .out) (printedBy b log count out x .piece)
+        ≡ outputOf b count (byNext log (recordsFrom most log) x)
+    go End e ih = written-line out (endLine count) room ∙ ap endLine (sym (add-zero count))
+    go Bad e ih = written-line out badLog room
+    go (Record from size next) e ih =
+        let i = inside log at from size next e in
+        let packet : List ℕ = take size (drop from log) in
+        let line : List ℕ = lineOf (read b packet .says) (read b packet .dropped) in
+        ap₂ (λ (x y : List ℕ). x ++ y) (written-line out line room)
+        (ih (after b packet) next (putLine out line .out) (omega (arith, i .within, i .onward)) (still-room out line room))
+        ∙ one-more b count packet (recordsFrom most log next)
+
+pub pieces-make-output : PiecesMakeOutput
+unfolding output recordsOf
+pieces-make-output log out small room =
+    from-place (suc (length log)) logBoard log 0 0 out (omega arith) room
+    ∙ sym (rw (le-ltb 65536 (length log) small))

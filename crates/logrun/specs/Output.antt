@@ -1,0 +1,26 @@
+-- What the log program prints: a function of the log's bytes (document 01, 'The log program').
+use Prim.Native.Nat.{ℕ, _+_}
+use mathlib.Core.List.{List, [], _∷_, _++_}
+use mathlib.Core.Bool.{Bool, cond}
+use lib.ListN.{length, replicate}
+use lib.Dec.{ltb}
+use Rattle.flows.specs.Board.{Board, freshBoard, read, after}
+use Rattle.records.specs.Records.{Records, recordsOf}
+use Rattle.lines.specs.Lines.{lineOf, endLine, badLog}
+
+-- our device is 1, MTU 32, R 2,048; the memories begin as zeros
+abbrev pub logBoard : Board
+logBoard = freshBoard 1 32 2048 (replicate 32768 0) (replicate 32768 0) (replicate 7 0)
+
+-- one line for each record
+abbrev pub linesOf : Board → List (List ℕ) → List ℕ
+linesOf b [] = []
+linesOf b (packet ∷ packets) = lineOf (read b packet .says) (read b packet .dropped) ++ linesOf (after b packet) packets
+
+-- the records, with `count` before them: a clean end prints `end` and the number of records, else `bad log`
+unfoldable pub outputOf : Board → ℕ → Records → List ℕ
+outputOf b count r = linesOf b (r .packets) ++ cond (r .clean) (endLine (count + length (r .packets))) badLog
+
+-- a log over 65,536 bytes prints `bad log` alone
+unfoldable pub output : List ℕ → List ℕ
+output log = cond (ltb 65536 (length log)) badLog (outputOf logBoard 0 (recordsOf log))
