@@ -1,4 +1,4 @@
-/* make_vectors OUTDIR: makes every stored vector, as files of OUTDIR. */
+/* make_vectors OUTDIR: makes every stored vector, at its place below OUTDIR. */
 
 #include "make.h"
 
@@ -41,8 +41,8 @@ static void save_bundle(void)
     bundle_mixes();
     bundle_broken();
     print_sections(stdout);
-    save("outside_logs.stdin", bundle_in());
-    save("outside_logs.stdout", bundle_out());
+    save("crates/outside_logs/stdin", bundle_in());
+    save("crates/outside_logs/stdout", bundle_out());
     release_bundle();
 }
 
@@ -54,9 +54,9 @@ int main(int count, char **words)
     }
     directory = words[1];
     save_bundle();
-    save_vectors(responses(), "outside_responses.stdin", "outside_responses.stdout");
-    save_vectors(segments(), "outside_segments.stdin", "outside_segments.stdout");
-    save_vectors(wheels(), "wheels.log", "wheels.txt");
-    save_vectors(paper(), "paper.log", "paper.txt");
+    save_vectors(responses(), "crates/outside_responses/stdin", "crates/outside_responses/stdout");
+    save_vectors(segments(), "crates/outside_segments/stdin", "crates/outside_segments/stdout");
+    save_vectors(wheels(), "samples/wheels.log", "samples/wheels.txt");
+    save_vectors(paper(), "samples/paper.log", "samples/paper.txt");
     return 0;
 }

@@ -51,10 +51,11 @@ static void whole_messages(void)
 static void errors_20_to_22(void)
 {
     static const unsigned reserved[] = { 0, 1, 2, 3, 4, 5, 6, 7, 8, 15 };
+    static const size_t wrong[] = { 0, 4, 7, 12, 264 };
     for (unsigned i = 0; i < 40; i++)
         send(message_packet(box_of(i), i % 16, reserved[i % 10], i / 3 % 16, 8));
     for (unsigned i = 0; i < 40; i++)
-        send(message_packet(box_of(i), i % 16, 9 + i % 6, i / 3 % 16, 4 * (i % 3)));
+        send(message_packet(box_of(i), i % 16, 9 + i % 6, i / 3 % 16, wrong[i % 5]));
     for (unsigned i = 0; i < 40; i++)
         send(message_packet(box_of(i), 1 + i % 14, 9, 15, 8));
 }
@@ -112,20 +113,23 @@ static void no_response(void)
     }
 }
 
+/* Twelve messages at once, each with its own number of segments. */
 static void mixed(void)
 {
     struct random random = seeded(5);
     for (unsigned i = 0; i < 700; i++) {
-        struct box box = {
-            .priority = below(&random, 4), .source = 250 + below(&random, 4),
-            .letter = below(&random, 2), .mbox = below(&random, 2)
+        unsigned which = below(&random, 12);
+        const struct box box = {
+            .priority = below(&random, 4), .source = 250 + which, .letter = which % 4,
+            .mbox = which / 4
         };
-        unsigned msglen = below(&random, 4);
-        unsigned ssize = one_in(&random, 12) ? below(&random, 16) : 9 + below(&random, 2);
-        size_t bytes = one_in(&random, 12) ? below(&random, 40) : ssize == 10 ? 16 : 8;
+        unsigned msglen = one_in(&random, 12) ? below(&random, 16) : which % 4;
+        unsigned ssize = one_in(&random, 12) ? below(&random, 16) : 9;
+        unsigned msgseg = one_in(&random, 12) ? below(&random, 16) : below(&random, msglen + 1);
+        size_t bytes = one_in(&random, 12) ? below(&random, 40) : 8;
         if (one_in(&random, 6))
             send(stream_packet(flow, one_in(&random, 2) ? START : SINGLE, i, 32));
-        send(message_packet(box, msglen, ssize, below(&random, msglen + 2) % 16, bytes));
+        send(message_packet(box, msglen, ssize, msgseg, bytes));
     }
 }
 
