@@ -50,11 +50,11 @@ static const uint8_t sample_log[] = {
 static void sample(void)
 {
     const char *wanted = "pdu 2 5 7 3\nmsg 2 1 2 8\nend 2\n";
-    struct buffer out = { 0 };
-    run_log(&out, sample_log, sizeof sample_log);
-    must(out.length == strlen(wanted) && same(out.bytes, wanted, out.length),
+    struct buffer text = { 0 };
+    run_log(&text, sample_log, sizeof sample_log);
+    must(text.length == strlen(wanted) && same(text.bytes, wanted, text.length),
          "the sample log gives the sample output");
-    release(&out);
+    release(&text);
 
     static const uint8_t response[] = { 0x5D, 0x00, 0x02, 0x00, 0x01, 0x10, 0x60 };
     static struct log_endpoint endpoint;
@@ -222,6 +222,7 @@ static struct second_endpoint good_state(void)
 
 static void row_19(void)
 {
+    const struct second_message long_message = { 1, 2, 1, 2, 16, 10, 1, 0 };
     struct second_endpoint state = good_state();
     must(!second_refusal19(&state), "the good state is good");
 
@@ -232,6 +233,10 @@ static void row_19(void)
     must(NAMED(state.mtu = 128), "19: MTU over R");
     must(NAMED(state.room = 65537), "19: R 65,537");
     must(NAMED(state.stream[3].held = 0), "19: holds 0");
+    must(NAMED(state.stream[0].open = 1), "19: the first stream");
+    must(NAMED(state.stream[15].open = 1), "19: the last stream");
+    must(NAMED(state.message[0].open = 1), "19: the first message");
+    must(NAMED(state.message[7].open = 1), "19: the last message");
     must(NAMED(state.stream[3].held = 101), "19: holds over R");
     must(!NAMED(state.stream[3].held = 100), "R itself is good");
     must(!NAMED(state.stream[3].held = 33), "no multiple of the MTU is good");
@@ -240,6 +245,7 @@ static void row_19(void)
     must(NAMED(state.message[2].ssize = 15), "19: ssize 15");
     must(NAMED(state.message[2].msglen = 0), "19: msglen 0");
     must(NAMED(state.message[2].msglen = 16), "19: msglen 16");
+    must(NAMED(state.message[2] = long_message), "19: msglen 16, all else right");
     must(NAMED(state.message[2].marks = 0x18), "19: a mark beyond msglen");
     must(NAMED(state.message[2].marks = (uint64_t)1 << 63), "19: a mark far beyond");
     must(NAMED((state.message[2].marks = 0, state.message[2].last = 0)), "19: no marks");
@@ -379,6 +385,30 @@ static void lower_number(void)
     give_back(lent);
 }
 
+/* Every field of a context that is taken, whatever stood there before. */
+static void taken(void)
+{
+    const struct flow flow = { .priority = 3, .source = 513, .cos = 255 };
+    const struct box box = { .priority = 3, .source = 513, .letter = 3, .mbox = 1 };
+    const struct second_stream stream = { 1, 513, 255, 65535, 32 };
+    const struct second_message message = { 1, 513, 3, 1, 15, 10, 0x8000, 8 };
+    struct second_endpoint state;
+    second_setup(&state, 1, 32, 64);
+    state.stream[0] = (struct second_stream){ 0, 513, 255, 9, 9 };
+    state.message[0] = (struct second_message){ 0, 513, 3, 1, 99, 99, 99, 99 };
+    struct second_lent lent = lend(64);
+    read_one(&state, lent, stream_packet(flow, START, 65535, 32));
+    must(same(&state.stream[0], &stream, sizeof stream), "a stream context is taken");
+    read_one(&state, lent, message_packet(box, 15, 10, 15, 8));
+    must(same(&state.message[0], &message, sizeof message), "a message context is taken");
+    state.message[1] = (struct second_message){ 0, 9, 9, 9, 9, 9, 9, 9 };
+    struct second_answer answer = read_one(&state, lent, message_packet(box, 0, 9, 15, 8));
+    must(answer.context == 1 && answer.stream_or_mailbox == 61, "a single message takes the next");
+    must(state.message[1].open == 0 && state.message[1].last == 0, "and leaves zeros");
+    must(lent.message_memory[4096] != 0xEE, "in its own room");
+    give_back(lent);
+}
+
 /* Odd R, with a pad: the pad must not be stored in the next room. */
 static void odd_room(void)
 {
@@ -509,12 +539,15 @@ static int wanted_status(const struct outcome *o)
 
 static void check_response(const struct outcome *o)
 {
+    static const uint8_t first_byte[4] = { 0x5D, 0x9D, 0xDD, 0xDD };
     int status = wanted_status(o);
     must(o->response[7] == 0xEE && o->response[8] == 0xEE, "no byte behind the response");
     for (int i = 0; i < 7 && status < 0; i++)
         must(o->response[i] == 0xEE, "no response");
     if (status < 0)
         return;
+    must(o->response[0] == first_byte[o->packet->bytes[0] >> 6], "one priority above");
+    must(o->response[3] == 0 && o->response[4] == 1, "from us");
     must(o->response[5] == (0x10 | status), "its status");
     must(o->response[1] == o->packet->bytes[3] && o->response[2] == o->packet->bytes[4], "to it");
     must(o->response[6] == o->packet->bytes[6], "its byte 6");
@@ -565,6 +598,7 @@ int main(void)
     rooms();
     row_12();
     lower_number();
+    taken();
     odd_room();
     message_places();
     any_state();

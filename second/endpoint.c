@@ -1,5 +1,7 @@
 #include "endpoint.h"
 
+_Static_assert(sizeof(struct second_endpoint) == 147 * 8, "a state is 147 words");
+
 /* ---- Small helpers ---------------------------------------------------- */
 
 static void copy(uint8_t *to, const uint8_t *from, size_t count)

@@ -22,7 +22,8 @@ enum {
     LARGEST_PDU = 65536
 };
 
-/* Fields are wider than they need be, so that a test can set up any state. */
+/* Fields are wider than they need be, so that a test can set up any state.
+   The state is 147 words of 64 bits, in the order in which they stand here. */
 
 struct second_stream {
     uint64_t open;          /* 0 is free, anything else is open; we write 1 */

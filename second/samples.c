@@ -58,19 +58,24 @@ static void three_parts(struct buffer *log, unsigned number, unsigned part)
 struct vectors wheels(void)
 {
     const struct box status = { .priority = 1, .source = 21, .letter = 0, .mbox = 2 };
+    const struct flow stranger = { .priority = 0, .source = 24, .cos = 1 };
     struct buffer log = { 0 };
 
     three_parts(&log, 1, 0);
     three_parts(&log, 1, 1);
-    send(&log, message_packet(status, 1, 10, 1, 8));    /* a message, its last segment first */
+    /* Board 21 sends a message, its last segment first. */
+    send(&log, message_packet(status, 1, 10, 1, 8));
     three_parts(&log, 1, 2);
+    /* The end of board 22's wheel is lost. */
     wheel(&log, 21, 1, 3);
-    wheel(&log, 23, 21, 3);                             /* board 22's end is lost */
+    wheel(&log, 23, 21, 3);
     send(&log, message_packet(status, 1, 10, 0, 16));
-    three_parts(&log, 2, 0);                            /* wheel 11 is given up here */
+    /* So its next start gives that wheel up. */
+    three_parts(&log, 2, 0);
     three_parts(&log, 2, 1);
-    send(&log, with_byte(stream_packet((struct flow){ 0, 24, 1 }, SINGLE, 9, 20), 2, 4));
-    three_parts(&log, 2, 2);                            /* above: a packet for device 4 */
+    /* A packet for device 4. */
+    send(&log, with_byte(stream_packet(stranger, SINGLE, 9, 20), 2, 4));
+    three_parts(&log, 2, 2);
     three_parts(&log, 2, 3);
 
     struct vectors made = with_output(log);
