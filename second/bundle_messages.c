@@ -34,12 +34,11 @@ static void wants_message(struct box box, unsigned msglen, size_t length)
 /* The segments of one message in a random order. */
 static void shuffled(struct random *random, unsigned msglen, unsigned code)
 {
-    const struct box box = {
-        .priority = below(random, 4),
-        .source = below(random, 65536),
-        .letter = below(random, 4),
-        .mbox = below(random, 4)
-    };
+    struct box box;
+    box.priority = below(random, 4);
+    box.source = below(random, 65536);
+    box.letter = below(random, 4);
+    box.mbox = below(random, 4);
     size_t last = 8 * (size_t)between(random, 1, (uint32_t)ssize_of(code) / 8);
     unsigned order[16];
     for (unsigned i = 0; i <= msglen; i++)

@@ -60,9 +60,10 @@ static size_t random_length(struct random *random)
 {
     if (one_in(random, 20))
         return between(random, 1, 600);
-    if (one_in(random, 3))
-        return 32 * (size_t)between(random, 1, 3) + between(random, 0, 2) - 1;
-    return between(random, 1, 140);
+    if (!one_in(random, 3))
+        return between(random, 1, 140);
+    size_t packets = between(random, 1, 3);
+    return 32 * packets + between(random, 0, 2) - 1;
 }
 
 /* At most one packet is lost, and no two neighbours lose one. */
@@ -99,10 +100,11 @@ static void send_next(struct random *random, struct sender *sender, struct buffe
 
 static struct packet random_segment(struct random *random)
 {
-    const struct box box = {
-        .priority = below(random, 4), .source = below(random, 4), .letter = below(random, 4),
-        .mbox = below(random, 2)
-    };
+    struct box box;
+    box.priority = below(random, 4);
+    box.source = below(random, 4);
+    box.letter = below(random, 4);
+    box.mbox = below(random, 2);
     unsigned msglen = below(random, 4);
     unsigned ssize = 9 + below(random, 2);
     unsigned msgseg = below(random, msglen + 2);
@@ -151,6 +153,7 @@ static void allowed_losses(struct random *random, unsigned flows, unsigned each)
 static struct packet damaged(struct random *random, struct packet packet)
 {
     unsigned way = below(random, 8);
+    unsigned bit = 1u << below(random, 8);
     if (way == 0)
         return cut_to(packet, below(random, (uint32_t)packet.length));
     if (way == 1)
@@ -158,10 +161,10 @@ static struct packet damaged(struct random *random, struct packet packet)
     if (way == 2)
         return longer_by(packet, between(random, 1, 40));
     if (way == 3)
-        return with_flipped(packet, below(random, (uint32_t)packet.length), 1u << below(random, 8));
+        return with_flipped(packet, below(random, (uint32_t)packet.length), bit);
     if (way == 4)
-        return with_flipped(packet, 0, 1u << below(random, 8));
-    return with_flipped(packet, between(random, 5, 8), 1u << below(random, 8));
+        return with_flipped(packet, 0, bit);
+    return with_flipped(packet, between(random, 5, 8), bit);
 }
 
 static void put_damaged(struct random *random, struct packet packet, unsigned chance)

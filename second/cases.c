@@ -93,7 +93,7 @@ unsigned packets_of(struct pdu pdu)
 
 struct packet packet_of(struct pdu pdu, unsigned number)
 {
-    static uint8_t bytes[LARGEST_PDU];
+    static uint8_t bytes[SECOND_LARGEST_PDU];
     struct packet packet = { .length = 0 };
     struct second_heading heading = {
         .priority = pdu.flow.priority,

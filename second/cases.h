@@ -5,7 +5,8 @@
 
 #include "logs.h"
 
-/* ---- Random numbers, the same on every machine ---- */
+/* ---- Random numbers, the same on every machine ----
+   Draw one in a statement: C does not fix the order of two in one. */
 
 struct random {
     uint64_t state;

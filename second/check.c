@@ -39,6 +39,25 @@ static uint8_t *block(size_t length, unsigned value)
     return bytes;
 }
 
+/* Memories for rooms of R, and a response buffer of 9. */
+static struct second_lent lend(uint64_t room)
+{
+    const struct second_lent lent = {
+        .stream_memory = block(16 * room, 0xEE), .stream_length = 16 * room,
+        .message_memory = block(SECOND_MESSAGE_MEMORY, 0xEE),
+        .message_length = SECOND_MESSAGE_MEMORY,
+        .response = block(9, 0xEE), .response_length = 9
+    };
+    return lent;
+}
+
+static void give_back(struct second_lent lent)
+{
+    free(lent.stream_memory);
+    free(lent.message_memory);
+    free(lent.response);
+}
+
 /* ---- The sample ---------------------------------------------------------- */
 
 static const uint8_t sample_log[] = {
@@ -68,7 +87,7 @@ static void sample(void)
 
 /* ---- Examples 1 to 5 and 13, of the writer ------------------------------- */
 
-static uint8_t pdu[LARGEST_PDU + 1];
+static uint8_t pdu[SECOND_LARGEST_PDU + 1];
 static uint8_t out[300];
 
 static const struct second_heading heading = {
@@ -112,7 +131,7 @@ static void writer_order(void)
     must(refused_by(second_write_segment(NULL, 0, wrong, 33, NULL, 0, 9), 18), "18 first");
     must(refused_by(second_write_segment(NULL, 0, wrong, 32, NULL, 0, 9), 17), "then 17");
     must(refused_by(second_write_segment(NULL, 0, heading, 32, NULL, 0, 9), 14), "then 14");
-    must(refused_by(second_write_segment(NULL, 0, heading, 32, pdu, 65537, 9), 14), "65,537 bytes");
+    must(refused_by(second_write_segment(NULL, 0, heading, 32, pdu, 65537, 9), 14), "too many");
     must(refused_by(second_write_segment(NULL, 0, heading, 32, pdu, 65, 3), 15), "then 15");
     must(refused_by(second_write_segment(NULL, 0, heading, 32, pdu, 65, 2), 16), "then 16");
     must(second_segment_count(33, 5) == 0, "no count for a bad MTU");
@@ -144,11 +163,7 @@ static void read_back(uint64_t mtu, size_t length, uint64_t room)
 {
     struct second_endpoint state;
     second_setup(&state, 1, mtu, room);
-    struct second_lent lent = {
-        .stream_memory = block(16 * room, 0xEE), .stream_length = 16 * room,
-        .message_memory = block(MESSAGE_MEMORY, 0xEE), .message_length = MESSAGE_MEMORY,
-        .response = block(7, 0xEE), .response_length = 7
-    };
+    struct second_lent lent = lend(room);
     uint64_t count = second_segment_count(mtu, length);
     struct second_answer answer = { 0 };
     for (uint64_t i = 0; i < count; i++) {
@@ -166,9 +181,7 @@ static void read_back(uint64_t mtu, size_t length, uint64_t room)
     for (size_t i = length; i < 16 * room; i++)
         if (lent.stream_memory[i] != 0xEE)
             must(false, "no other byte is written");
-    free(lent.stream_memory);
-    free(lent.message_memory);
-    free(lent.response);
+    give_back(lent);
 }
 
 static void round_trips(void)
@@ -287,7 +300,7 @@ static void abandoning(void)
 static void rooms(void)
 {
     struct second_endpoint state = good_state();
-    static uint8_t memory[MESSAGE_MEMORY];
+    static uint8_t memory[SECOND_MESSAGE_MEMORY];
     struct second_part part = second_stream_room(&state, memory, 1600, 15, 100);
     must(part.bytes == memory + 1500 && part.length == 100, "the last stream room");
     must(second_stream_room(&state, memory, 1600, 16, 1).length == 0, "no room 16");
@@ -304,23 +317,6 @@ static void rooms(void)
 }
 
 /* ---- Reading, beside the logs -------------------------------------------- */
-
-static struct second_lent lend(uint64_t room)
-{
-    const struct second_lent lent = {
-        .stream_memory = block(16 * room, 0xEE), .stream_length = 16 * room,
-        .message_memory = block(MESSAGE_MEMORY, 0xEE), .message_length = MESSAGE_MEMORY,
-        .response = block(9, 0xEE), .response_length = 9
-    };
-    return lent;
-}
-
-static void give_back(struct second_lent lent)
-{
-    free(lent.stream_memory);
-    free(lent.message_memory);
-    free(lent.response);
-}
 
 static struct second_answer read_one(struct second_endpoint *state, struct second_lent lent,
                                      struct packet packet)
@@ -469,12 +465,12 @@ static struct second_endpoint random_state(struct random *random)
     uint64_t mtu = 32 + 4 * (uint64_t)below(random, 3);
     second_setup(&state, 1, mtu, mtu + below(random, 70));
     uint32_t full = between(random, 1, 8);
-    for (int i = 0; i < STREAM_CONTEXTS; i++)
+    for (int i = 0; i < SECOND_STREAM_CONTEXTS; i++)
         if (!one_in(random, full))
             state.stream[i] = (struct second_stream){
                 1, below(random, 5), below(random, 5), i, between(random, 1, (uint32_t)state.room)
             };
-    for (int i = 0; i < MESSAGE_CONTEXTS; i++)
+    for (int i = 0; i < SECOND_MESSAGE_CONTEXTS; i++)
         if (!one_in(random, full))
             state.message[i] = random_message(random);
     if (one_in(random, 10))
@@ -486,7 +482,9 @@ static struct packet random_packet(struct random *random, uint64_t mtu)
 {
     static const enum segment_kind kinds[4] = { CONTINUATION, END, START, SINGLE };
     const struct flow flow = { below(random, 4), below(random, 5), below(random, 5) };
-    const struct box box = { below(random, 4), below(random, 2), below(random, 2), below(random, 2) };
+    const struct box box = {
+        below(random, 4), below(random, 2), below(random, 2), below(random, 2)
+    };
     size_t bytes = one_in(random, 4) ? below(random, 50) : (size_t)mtu % 500;
     struct packet packet = stream_packet(flow, kinds[below(random, 4)], below(random, 150), bytes);
     if (one_in(random, 2)) {
@@ -565,7 +563,7 @@ static void one_random(struct random *random)
     const struct outcome outcome = {
         .before = &before, .after = &state, .answer = answer,
         .memory_same = same(lent.stream_memory, copy.stream_memory, 16 * room) &&
-                       same(lent.message_memory, copy.message_memory, MESSAGE_MEMORY),
+                       same(lent.message_memory, copy.message_memory, SECOND_MESSAGE_MEMORY),
         .response = lent.response, .packet = &packet
     };
     must(second_refusal19(&before) == refused_by(answer, 19), "19 exactly if the state is named");

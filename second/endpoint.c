@@ -105,10 +105,10 @@ bool second_refusal19(const struct second_endpoint *state)
         return true;
     if (!room_allowed(state->mtu, state->room))
         return true;
-    for (int i = 0; i < STREAM_CONTEXTS; i++)
+    for (int i = 0; i < SECOND_STREAM_CONTEXTS; i++)
         if (bad_stream(&state->stream[i], state->room))
             return true;
-    for (int i = 0; i < MESSAGE_CONTEXTS; i++)
+    for (int i = 0; i < SECOND_MESSAGE_CONTEXTS; i++)
         if (bad_message(&state->message[i]))
             return true;
     return false;
@@ -306,50 +306,50 @@ static size_t data_bytes(const struct reading *r)
 /* The flow's open context; 16 if the flow is not open. */
 static int flow_context(const struct reading *r)
 {
-    for (int i = 0; i < STREAM_CONTEXTS; i++) {
+    for (int i = 0; i < SECOND_STREAM_CONTEXTS; i++) {
         const struct second_stream *c = &r->state->stream[i];
         if (c->open && c->source == source(r) && c->cos == class_of_service(r))
             return i;
     }
-    return STREAM_CONTEXTS;
+    return SECOND_STREAM_CONTEXTS;
 }
 
 static bool flow_open(const struct reading *r)
 {
-    return flow_context(r) < STREAM_CONTEXTS;
+    return flow_context(r) < SECOND_STREAM_CONTEXTS;
 }
 
 static int free_stream(const struct reading *r)
 {
-    for (int i = 0; i < STREAM_CONTEXTS; i++)
+    for (int i = 0; i < SECOND_STREAM_CONTEXTS; i++)
         if (!r->state->stream[i].open)
             return i;
-    return STREAM_CONTEXTS;
+    return SECOND_STREAM_CONTEXTS;
 }
 
 /* The open message of this source, letter and mbox; 8 if there is none. */
 static int message_context(const struct reading *r)
 {
-    for (int i = 0; i < MESSAGE_CONTEXTS; i++) {
+    for (int i = 0; i < SECOND_MESSAGE_CONTEXTS; i++) {
         const struct second_message *c = &r->state->message[i];
         if (c->open && c->source == source(r) && c->letter == letter(r) && c->mbox == mbox(r))
             return i;
     }
-    return MESSAGE_CONTEXTS;
+    return SECOND_MESSAGE_CONTEXTS;
 }
 
 /* A single-segment message is never compared with open ones. */
 static bool message_open(const struct reading *r)
 {
-    return is_multi_message(r) && message_context(r) < MESSAGE_CONTEXTS;
+    return is_multi_message(r) && message_context(r) < SECOND_MESSAGE_CONTEXTS;
 }
 
 static int free_message(const struct reading *r)
 {
-    for (int i = 0; i < MESSAGE_CONTEXTS; i++)
+    for (int i = 0; i < SECOND_MESSAGE_CONTEXTS; i++)
         if (!r->state->message[i].open)
             return i;
-    return MESSAGE_CONTEXTS;
+    return SECOND_MESSAGE_CONTEXTS;
 }
 
 /* The flow's bytes with this packet. A start or single begins anew. */
@@ -370,11 +370,11 @@ static bool bad_state(const struct reading *r)
 
 static bool wrong_memory(const struct reading *r)
 {
-    if (r->lent->stream_length != STREAM_CONTEXTS * r->state->room)
+    if (r->lent->stream_length != SECOND_STREAM_CONTEXTS * r->state->room)
         return true;
-    if (r->lent->message_length != MESSAGE_MEMORY)
+    if (r->lent->message_length != SECOND_MESSAGE_MEMORY)
         return true;
-    return r->lent->response_length < RESPONSE_BYTES;
+    return r->lent->response_length < SECOND_RESPONSE_BYTES;
 }
 
 static bool under_5(const struct reading *r)
@@ -445,7 +445,7 @@ static bool passes_room(const struct reading *r)
 
 static bool no_stream_free(const struct reading *r)
 {
-    return is_start_or_single(r) && !flow_open(r) && free_stream(r) == STREAM_CONTEXTS;
+    return is_start_or_single(r) && !flow_open(r) && free_stream(r) == SECOND_STREAM_CONTEXTS;
 }
 
 static bool length_differs(const struct reading *r)
@@ -490,7 +490,7 @@ static bool already_marked(const struct reading *r)
 
 static bool no_message_free(const struct reading *r)
 {
-    return is_message(r) && !message_open(r) && free_message(r) == MESSAGE_CONTEXTS;
+    return is_message(r) && !message_open(r) && free_message(r) == SECOND_MESSAGE_CONTEXTS;
 }
 
 /* ---- The refusal table, in the paper's order --------------------------- */
@@ -634,7 +634,7 @@ static struct second_answer accept_continuation_or_end(struct second_endpoint *s
 
 static void store_message_data(const struct reading *r, int context)
 {
-    uint8_t *room = r->lent->message_memory + (size_t)context * MESSAGE_ROOM;
+    uint8_t *room = r->lent->message_memory + (size_t)context * SECOND_MESSAGE_ROOM;
     copy(room + segment(r) * ssize_bytes(ssize(r)), data(r), data_bytes(r));
 }
 
@@ -736,7 +736,7 @@ struct second_answer second_abandon_stream(struct second_endpoint *state, uint64
 {
     if (second_refusal19(state))
         return refused(19);
-    if (context >= STREAM_CONTEXTS)
+    if (context >= SECOND_STREAM_CONTEXTS)
         return refused(13);
     if (!state->stream[context].open)
         return plain(SECOND_WAS_FREE);
@@ -748,7 +748,7 @@ struct second_answer second_abandon_message(struct second_endpoint *state, uint6
 {
     if (second_refusal19(state))
         return refused(19);
-    if (context >= MESSAGE_CONTEXTS)
+    if (context >= SECOND_MESSAGE_CONTEXTS)
         return refused(13);
     if (!state->message[context].open)
         return plain(SECOND_WAS_FREE);
@@ -770,9 +770,9 @@ struct second_part second_stream_room(const struct second_endpoint *state,
 {
     if (second_refusal19(state))
         return empty_part(memory);
-    if (memory_length != STREAM_CONTEXTS * state->room)
+    if (memory_length != SECOND_STREAM_CONTEXTS * state->room)
         return empty_part(memory);
-    if (context >= STREAM_CONTEXTS || length > state->room)
+    if (context >= SECOND_STREAM_CONTEXTS || length > state->room)
         return empty_part(memory);
     struct second_part part = { .bytes = memory + context * state->room, .length = length };
     return part;
@@ -784,11 +784,11 @@ struct second_part second_message_room(const struct second_endpoint *state,
 {
     if (second_refusal19(state))
         return empty_part(memory);
-    if (memory_length != MESSAGE_MEMORY)
+    if (memory_length != SECOND_MESSAGE_MEMORY)
         return empty_part(memory);
-    if (context >= MESSAGE_CONTEXTS || length > MESSAGE_ROOM)
+    if (context >= SECOND_MESSAGE_CONTEXTS || length > SECOND_MESSAGE_ROOM)
         return empty_part(memory);
-    struct second_part part = { .bytes = memory + context * MESSAGE_ROOM, .length = length };
+    struct second_part part = { .bytes = memory + context * SECOND_MESSAGE_ROOM, .length = length };
     return part;
 }
 
@@ -796,7 +796,7 @@ struct second_part second_message_room(const struct second_endpoint *state,
 
 static bool pdu_allowed(uint64_t length)
 {
-    return length >= 1 && length <= LARGEST_PDU;
+    return length >= 1 && length <= SECOND_LARGEST_PDU;
 }
 
 uint64_t second_segment_count(uint64_t mtu, uint64_t pdu_length)

@@ -14,12 +14,12 @@
 #include <stdint.h>
 
 enum {
-    STREAM_CONTEXTS = 16,
-    MESSAGE_CONTEXTS = 8,
-    MESSAGE_ROOM = 4096,
-    MESSAGE_MEMORY = 32768,
-    RESPONSE_BYTES = 7,
-    LARGEST_PDU = 65536
+    SECOND_STREAM_CONTEXTS = 16,
+    SECOND_MESSAGE_CONTEXTS = 8,
+    SECOND_MESSAGE_ROOM = 4096,
+    SECOND_MESSAGE_MEMORY = 32768,
+    SECOND_RESPONSE_BYTES = 7,
+    SECOND_LARGEST_PDU = 65536
 };
 
 /* Fields are wider than they need be, so that a test can set up any state.
@@ -48,8 +48,8 @@ struct second_endpoint {
     uint64_t device;
     uint64_t mtu;
     uint64_t room;          /* R */
-    struct second_stream stream[STREAM_CONTEXTS];
-    struct second_message message[MESSAGE_CONTEXTS];
+    struct second_stream stream[SECOND_STREAM_CONTEXTS];
+    struct second_message message[SECOND_MESSAGE_CONTEXTS];
 };
 
 /* What is lent for reading a packet. */

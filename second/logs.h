@@ -34,9 +34,9 @@ void append_record(struct buffer *log, const uint8_t *packet, size_t length);
 /* An endpoint with its memories, set up as the log program does it. */
 struct log_endpoint {
     struct second_endpoint state;
-    uint8_t stream_memory[STREAM_CONTEXTS * LOG_ROOM];
-    uint8_t message_memory[MESSAGE_MEMORY];
-    uint8_t response[RESPONSE_BYTES];
+    uint8_t stream_memory[SECOND_STREAM_CONTEXTS * LOG_ROOM];
+    uint8_t message_memory[SECOND_MESSAGE_MEMORY];
+    uint8_t response[SECOND_RESPONSE_BYTES];
 };
 
 void log_setup(struct log_endpoint *endpoint);

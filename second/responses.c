@@ -139,7 +139,7 @@ static void append_response(struct buffer *out, const uint8_t *response)
     if (response[0] == 0)
         append_text(out, "none");
     else
-        append_hex(out, response, RESPONSE_BYTES);
+        append_hex(out, response, SECOND_RESPONSE_BYTES);
     append_text(out, "\n");
 }
 
@@ -149,7 +149,7 @@ static void run(struct buffer *out, const uint8_t *log, size_t length)
     log_setup(&endpoint);
     struct record record = next_record(log, length, 0);
     while (record.kind == RECORD) {
-        for (int i = 0; i < RESPONSE_BYTES; i++)
+        for (int i = 0; i < SECOND_RESPONSE_BYTES; i++)
             endpoint.response[i] = 0;
         append_answer(out, log_read(&endpoint, record.packet, record.length));
         append_response(out, endpoint.response);

@@ -109,8 +109,10 @@ static void headings(void)
 /* MTUs that are not allowed, with everything else right and wrong. */
 static void refusal_18(void)
 {
-    static const uint32_t mtus[] = { 0, 1, 4, 28, 30, 31, 33, 34, 35, 38, 254, 255, 257, 258, 260,
-                                     288, 512, 65536, 65568, 4294967040u, 4294967292u, 4294967295u };
+    static const uint32_t mtus[] = {
+        0, 1, 4, 28, 30, 31, 33, 34, 35, 38, 254, 255, 257, 258, 260, 288, 512, 65536, 65568,
+        4294967040u, 4294967292u, 4294967295u
+    };
     for (size_t i = 0; i < sizeof mtus / sizeof mtus[0]; i++) {
         struct segment_case c = plain(mtus[i], 40);
         keep(c);
@@ -207,17 +209,15 @@ static void random_cases(void)
 {
     struct random random = seeded(6);
     for (unsigned i = 0; i < 120; i++) {
-        struct segment_case c = {
-            .mtu = 32 + 4 * below(&random, 57),
-            .priority = below(&random, 4),
-            .destination = below(&random, 65536),
-            .source = below(&random, 65536),
-            .cos = below(&random, 256),
-            .stream = below(&random, 65536),
-            .length = between(&random, 1, 300),
-            .seed = below(&random, 256),
-            .room = 300
-        };
+        struct segment_case c = { .room = 300 };
+        c.mtu = 32 + 4 * below(&random, 57);
+        c.priority = below(&random, 4);
+        c.destination = below(&random, 65536);
+        c.source = below(&random, 65536);
+        c.cos = below(&random, 256);
+        c.stream = below(&random, 65536);
+        c.length = between(&random, 1, 300);
+        c.seed = below(&random, 256);
         if (one_in(&random, 8))
             c.room = below(&random, 300);
         if (one_in(&random, 20))
