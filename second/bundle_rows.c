@@ -100,6 +100,13 @@ static void row_1(void)
         leaves_all("1: single under 9 bytes", 1, cut_to(full(SINGLE), length));
         leaves_all("1: end under 9 bytes", 1, cut_to(full(END), length));
     }
+
+    begin("1: the missing bytes of the head stand in the next record");
+    put(start());
+    put(cut_to(start(), 4));
+    put_record((const uint8_t[]){ 0x05, 0xC0 }, 2);
+    put(end());
+    wants("held, refused 1, refused 1, pdu 2 5 7 40, end 4");
 }
 
 /* tt is 01; flipping its bits gives 00, 11 and 10. */
