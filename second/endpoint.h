@@ -1,5 +1,6 @@
 /* The endpoint of document 01, written a second time: in C, from the paper
-   alone. It shares nothing with the proved code or its definitions.
+   and docs/DECISIONS.md. It shares nothing with the proved code or its
+   definitions.
 
    Every memory is lent and comes with its length. Nothing is kept between
    calls but the state. Any bytes, any lengths and any numbers in the state
