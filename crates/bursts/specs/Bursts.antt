@@ -1,0 +1,180 @@
+-- A burst: packets in the log's record form, read one after another, each by the state and the memories that the one before left.
+use Prim.Native.Nat.{ℕ, zero, suc, _+_, _*_, _/_, _≤_}
+use mathlib.Core.Path.{_≡_}
+use mathlib.Core.List.{List, [], _∷_}
+use mathlib.Core.Bool.{Bool, false, cond, not, _||_, _&&_}
+use lib.ListN.{length, take, drop}
+use lib.Dec.{eqb, ltb}
+use Rattle.lists.specs.Bytes.{written}
+use Rattle.answers.specs.Refusals.{Row, row, all, Verdict, refuse, accept, verdict}
+use Rattle.contexts.specs.Words.{stateOf, stateWords}
+use Rattle.refusal19.specs.Refusal19.{namedBy19}
+use Rattle.reading.specs.Table.{Lent, stateIn, isState, wrongMemory}
+use Rattle.reading.specs.Read.{Left, lent, reading}
+use Rattle.records.specs.declared.Next.{Next}
+use Rattle.records.specs.declared.Next.the-variants.{Record, End, Bad}
+use Rattle.records.specs.Records.{nextRecord}
+use Rattle.reports.specs.Reports.{reportOf, wordsOfReport}
+use Rattle.bursts.specs.declared.Burst.{Burst}
+use Rattle.bursts.specs.declared.Turn.{Turn}
+
+-- ---- one packet of a burst
+
+-- a burst as far as it is read: everything lent as it stands, the packets read, and where the next record begins
+pub record Run : Type 0 where
+  pub words : List ℕ
+  pub streamMemory : List ℕ
+  pub messageMemory : List ℕ
+  pub responses : List ℕ
+  pub reports : List ℕ
+  pub count : ℕ
+  pub next : ℕ
+
+abbrev pub run : List ℕ → List ℕ → List ℕ → List ℕ → List ℕ → ℕ → ℕ → Run
+run words streamMemory messageMemory responses reports count next = record {
+  words = words;
+  streamMemory = streamMemory;
+  messageMemory = messageMemory;
+  responses = responses;
+  reports = reports;
+  count = count;
+  next = next;
+}
+
+-- the 8 bytes of responses that packet k has for its own
+abbrev pub slot : List ℕ → ℕ → List ℕ
+slot responses k = take 8 (drop (8 * k) responses)
+
+-- what reading the packet answers and leaves: as the call for one packet, with the packet's slot as its response buffer
+abbrev pub readIn : Run → List ℕ → Left
+readIn r packet = reading (lent (r .words) (r .streamMemory) (r .messageMemory) (slot (r .responses) (r .count)) packet)
+
+-- the packet is read: its response stands in slot k, its report in the 9 words from 9 k on
+abbrev pub placed : Run → List ℕ → ℕ → Left → Run
+placed r packet next x =
+    run (x .words) (x .streamMemory) (x .messageMemory)
+    (written (r .responses) (8 * r .count) (x .response))
+    (written (r .reports) (9 * r .count) (wordsOfReport (reportOf (x .says) (x .dropped) packet)))
+    (r .count + 1) next
+
+abbrev pub behind : Run → List ℕ → ℕ → Run
+behind r packet next = placed r packet next (readIn r packet)
+
+-- why a burst stops
+abbrev pub refusedAll : ℕ
+refusedAll = 0
+
+abbrev pub atEnd : ℕ
+atEnd = 1
+
+abbrev pub atBad : ℕ
+atBad = 2
+
+abbrev pub isFull : ℕ
+isFull = 3
+
+-- a turn: a packet is read, or the burst stops and all stays; `stop` is 0 where it goes on
+pub record Turned : Type 0 where
+  pub stop : ℕ
+  pub after : Run
+
+abbrev pub turned : ℕ → Run → Turned
+turned stop after = record { stop = stop; after = after }
+
+-- `room` packets more have room for their reports and responses
+abbrev pub turnBy : ℕ → List ℕ → Run → Next → Turned
+turnBy room burst r End = turned atEnd r
+turnBy room burst r Bad = turned atBad r
+turnBy room burst r (Record from size next) = cond (eqb room 0) (turned isFull r) (turned 0 (behind r (take size (drop from burst)) next))
+
+unfoldable pub turn : ℕ → List ℕ → Run → Turned
+turn room burst r = turnBy room burst r (nextRecord burst (r .next))
+
+-- ---- the whole burst
+
+-- what the call answers, and everything lent as it is left
+pub record Finished : Type 0 where
+  pub answer : Burst
+  pub words : List ℕ
+  pub streamMemory : List ℕ
+  pub messageMemory : List ℕ
+  pub responses : List ℕ
+  pub reports : List ℕ
+
+abbrev pub answering : ℕ → ℕ → ℕ → ℕ → Burst
+answering stop number count next = record { stop = stop; number = number; count = count; next = next }
+
+abbrev pub finished : Burst → List ℕ → List ℕ → List ℕ → List ℕ → List ℕ → Finished
+finished answer words streamMemory messageMemory responses reports = record {
+  answer = answer;
+  words = words;
+  streamMemory = streamMemory;
+  messageMemory = messageMemory;
+  responses = responses;
+  reports = reports;
+}
+
+-- it stops: how many packets were read, and where the first unread record begins
+abbrev pub stopped : Turned → Finished
+stopped t = finished (answering (t .stop) 0 (t .after .count) (t .after .next)) (t .after .words) (t .after .streamMemory) (t .after .messageMemory) (t .after .responses) (t .after .reports)
+
+abbrev pub onward : (Run → Finished) → Turned → Finished
+onward more t = cond (eqb (t .stop) 0) (more (t .after)) (stopped t)
+
+-- packet after packet, while there is room
+unfoldable pub ran : ℕ → List ℕ → Run → Finished
+ran zero burst r = stopped (turn zero burst r)
+ran (suc room) burst r = onward (ran room burst) (turn (suc room) burst r)
+
+-- the packets that have room: 9 words of report and 8 bytes of response for each
+abbrev pub lesser : ℕ → ℕ → ℕ
+lesser a b = cond (ltb a b) a b
+
+unfoldable pub roomFor : ℕ → ℕ → ℕ
+roomFor reportWords responseBytes = lesser (reportWords / 9) (responseBytes / 8)
+
+-- the rows of the refusal table that look at no packet: tested once
+unfoldable pub lentTable : Lent → List Row
+lentTable x =
+    row 19 (isState x && namedBy19 (stateIn x)) all
+    ∷ row 12 (not (isState x) || wrongMemory x) all
+    ∷ []
+
+abbrev pub burstBy : Run → List ℕ → Verdict → Finished
+burstBy r burst (refuse number leaves) = finished (answering refusedAll number 0 0) (r .words) (r .streamMemory) (r .messageMemory) (r .responses) (r .reports)
+burstBy r burst accept = ran (roomFor (length (r .reports)) (length (r .responses))) burst r
+
+unfoldable pub readBurst : Run → List ℕ → Finished
+readBurst r burst = burstBy r burst (verdict (lentTable (lent (r .words) (r .streamMemory) (r .messageMemory) (r .responses) [])))
+
+-- the promise of `read_burst`
+abbrev pub BurstPromise : Run → List ℕ → Burst → List ℕ → List ℕ → List ℕ → List ℕ → List ℕ → Type 0
+BurstPromise r burst answer words streamMemory messageMemory responses reports = finished answer words streamMemory messageMemory responses reports ≡ readBurst r burst
+
+-- ---- what a turn may rely on, and keeps
+
+-- rows 19 and 12 have passed
+pub record Fit (words streams messages : List ℕ) : Type 0 where
+  pub whole : length words ≡ stateWords
+  pub good : namedBy19 (stateOf words) ≡ false
+  pub rooms : length streams ≡ 16 * stateOf words .room
+  pub boxes : length messages ≡ 32768
+
+-- the promise of reading one packet of a burst
+abbrev pub PacketPromise : Run → List ℕ → List ℕ → List ℕ → List ℕ → List ℕ → List ℕ → Type 0
+PacketPromise r packet words streamMemory messageMemory responses reports =
+    run words streamMemory messageMemory responses reports (r .count + 1) (r .next) ≡ behind r packet (r .next)
+
+-- the promise of a turn
+abbrev pub TurnPromise : ℕ → List ℕ → Run → Turn → List ℕ → List ℕ → List ℕ → List ℕ → List ℕ → Type 0
+TurnPromise room burst r t words streamMemory messageMemory responses reports =
+    turned (t .stop) (run words streamMemory messageMemory responses reports (t .count) (t .next)) ≡ turn room burst r
+
+-- there is room for the reports and the responses of `room` packets more
+pub record Room (responses reports : List ℕ) (count room : ℕ) : Type 0 where
+  pub replies : 8 * (count + room) ≤ length responses
+  pub answers : 9 * (count + room) ≤ length reports
+
+-- the promise of the run behind the tests
+abbrev pub RunPromise : ℕ → List ℕ → Run → Burst → List ℕ → List ℕ → List ℕ → List ℕ → List ℕ → Type 0
+RunPromise room burst r answer words streamMemory messageMemory responses reports = finished answer words streamMemory messageMemory responses reports ≡ ran room burst r

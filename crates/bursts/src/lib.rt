@@ -1,0 +1,117 @@
+// Many packets in one call: a burst in the log's record form. The state and the memories are tested once, then each packet is read
+// by what the one before left, and has a report and a response of its own.
+use records::Next;
+ghost use Rattle.bursts.specs.Bursts.{run, Fit, Room, PacketPromise, TurnPromise};
+
+// The bytes of `responses` that each packet has for its own.
+pub const SLOT: usize = 8;
+
+// Why a burst stops: it is refused as a whole, at its end, at a bad record, or where there is no room for another report.
+pub const REFUSED: usize = 0;
+
+pub const END: usize = 1;
+
+pub const BAD: usize = 2;
+
+pub const FULL: usize = 3;
+
+// Why a burst stopped, the refusal's number, the packets read, and where the first unread record begins.
+#[repr(C)]
+pub struct Burst {
+    pub stop: usize,
+    pub number: usize,
+    pub count: usize,
+    pub next: usize,
+}
+
+// One packet was read where `stop` is 0; else why it was not. The packets read so far, and where the next record begins.
+pub struct Turn {
+    pub stop: usize,
+    pub count: usize,
+    pub next: usize,
+}
+
+// Reads a packet, with its own slot for the response and its own words for the report.
+fn read_packet(
+    state: &mut [usize],
+    stream_memory: &mut [u8],
+    message_memory: &mut [u8],
+    responses: &mut [u8],
+    reports: &mut [usize],
+    packet: &[u8],
+    count: usize,
+)
+    requires { ⌜ Fit (now state) (now «stream_memory») (now «message_memory») ⌝ }
+    requires { ⌜ Room (now responses) (now reports) count 1 ⌝ }
+    ensures { λ _. ⌜ PacketPromise (run (now (state .entry)) (now («stream_memory» .entry)) (now («message_memory» .entry)) (now (responses .entry)) (now (reports .entry)) count 0) (now (packet .entry)) (now (state .exit)) (now («stream_memory» .exit)) (now («message_memory» .exit)) (now (responses .exit)) (now (reports .exit)) ⌝ }
+    ensures { λ _. ⌜ Fit (now (state .exit)) (now («stream_memory» .exit)) (now («message_memory» .exit)) ⌝ }
+{
+    let at = SLOT * count;
+    let end = at + SLOT;
+    let reading = reading::step(
+        state,
+        stream_memory,
+        message_memory,
+        &mut responses[at..end],
+        packet,
+    );
+    reports::put(reports, reports::WORDS * count, reports::reported(reading, packet));
+}
+
+// One turn: the record at a place is read, where there is one and there is room for `room` packets more.
+fn turn_at(
+    state: &mut [usize],
+    stream_memory: &mut [u8],
+    message_memory: &mut [u8],
+    responses: &mut [u8],
+    reports: &mut [usize],
+    burst: &[u8],
+    room: usize,
+    count: usize,
+    at: usize,
+) -> Turn
+    requires { ⌜ Fit (now state) (now «stream_memory») (now «message_memory») ⌝ }
+    requires { ⌜ Room (now responses) (now reports) count room ⌝ }
+    ensures { λ r. ⌜ TurnPromise room (now (burst .entry)) (run (now (state .entry)) (now («stream_memory» .entry)) (now («message_memory» .entry)) (now (responses .entry)) (now (reports .entry)) count at) r (now (state .exit)) (now («stream_memory» .exit)) (now («message_memory» .exit)) (now (responses .exit)) (now (reports .exit)) ⌝ }
+    ensures { λ r. ⌜ Fit (now (state .exit)) (now («stream_memory» .exit)) (now («message_memory» .exit)) ⌝ }
+{
+    match records::next_record(burst, at) {
+        Next::End => Turn {
+            stop: END,
+            count,
+            next: at,
+        },
+        Next::Bad => Turn {
+            stop: BAD,
+            count,
+            next: at,
+        },
+        Next::Record {
+            from,
+            size: _,
+            next,
+        } => {
+            if room == 0 {
+                return Turn {
+                    stop: FULL,
+                    count,
+                    next: at,
+                };
+            }
+            read_packet(
+                state,
+                stream_memory,
+                message_memory,
+                responses,
+                reports,
+                &burst[from..next],
+                count,
+            );
+            Turn {
+                stop: 0,
+                count: count + 1,
+                next,
+            }
+        }
+    }
+}
