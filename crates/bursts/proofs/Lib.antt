@@ -1,0 +1,2 @@
+mod Packets
+mod Turns
