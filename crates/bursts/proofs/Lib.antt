@@ -1,2 +1,3 @@
 mod Packets
 mod Turns
+mod Tests

@@ -1,7 +1,8 @@
 // Many packets in one call: a burst in the log's record form. The state and the memories are tested once, then each packet is read
 // by what the one before left, and has a report and a response of its own.
 use records::Next;
-ghost use Rattle.bursts.specs.Bursts.{run, Fit, Room, PacketPromise, TurnPromise};
+ghost use mathlib.Core.Path.{_≡_};
+ghost use Rattle.bursts.specs.Bursts.{run, refusedAll, answering, roomFor, Fit, Room, PacketPromise, TurnPromise, RunPromise, BurstPromise};
 
 // The bytes of `responses` that each packet has for its own.
 pub const SLOT: usize = 8;
@@ -114,4 +115,103 @@ fn turn_at(
             }
         }
     }
+}
+
+// Turn after turn, until one stops. There is room for `room` packets.
+fn run_over(
+    state: &mut [usize],
+    stream_memory: &mut [u8],
+    message_memory: &mut [u8],
+    responses: &mut [u8],
+    reports: &mut [usize],
+    burst: &[u8],
+    room: usize,
+) -> Burst
+    requires { ⌜ Fit (now state) (now «stream_memory») (now «message_memory») ⌝ }
+    requires { ⌜ Room (now responses) (now reports) 0 room ⌝ }
+    ensures { λ r. ⌜ RunPromise room (now (burst .entry)) (run (now (state .entry)) (now («stream_memory» .entry)) (now («message_memory» .entry)) (now (responses .entry)) (now (reports .entry)) 0 0) r (now (state .exit)) (now («stream_memory» .exit)) (now («message_memory» .exit)) (now (responses .exit)) (now (reports .exit)) ⌝ }
+{
+    let mut left = room;
+    let mut count = 0;
+    let mut at = 0;
+    loop {
+        let t = turn_at(
+            state,
+            stream_memory,
+            message_memory,
+            responses,
+            reports,
+            burst,
+            left,
+            count,
+            at,
+        );
+        if t.stop != 0 {
+            return Burst {
+                stop: t.stop,
+                number: 0,
+                count: t.count,
+                next: t.next,
+            };
+        }
+        left -= 1;
+        count = t.count;
+        at = t.next;
+    }
+}
+
+// The packets that have room for a report and a response.
+fn room_for(report_words: usize, response_bytes: usize) -> usize
+    ensures { λ r. ⌜ r ≡ roomFor «report_words» «response_bytes» ⌝ }
+{
+    let a = report_words / reports::WORDS;
+    let b = response_bytes / SLOT;
+    if a < b {
+        return a;
+    }
+    b
+}
+
+// A burst that is refused as a whole.
+fn refused(number: usize) -> Burst
+    ensures { λ r. ⌜ r ≡ answering refusedAll number 0 0 ⌝ }
+{
+    Burst {
+        stop: REFUSED,
+        number,
+        count: 0,
+        next: 0,
+    }
+}
+
+// Reads the packets of a burst, until its end, a bad record, or the last one that has room for a report and a response.
+pub fn read_burst(
+    state: &mut [usize],
+    stream_memory: &mut [u8],
+    message_memory: &mut [u8],
+    responses: &mut [u8],
+    reports: &mut [usize],
+    burst: &[u8],
+) -> Burst
+    ensures { λ r. ⌜ BurstPromise (run (now (state .entry)) (now («stream_memory» .entry)) (now («message_memory» .entry)) (now (responses .entry)) (now (reports .entry)) 0 0) (now (burst .entry)) r (now (state .exit)) (now («stream_memory» .exit)) (now («message_memory» .exit)) (now (responses .exit)) (now (reports .exit)) ⌝ }
+{
+    if state.len() != contexts::WORDS {
+        return refused(12);
+    }
+    if refusal19::named_by_19(state) {
+        return refused(19);
+    }
+    if reading::wrong_memory(state, stream_memory, message_memory, responses) {
+        return refused(12);
+    }
+    let room = room_for(reports.len(), responses.len());
+    run_over(
+        state,
+        stream_memory,
+        message_memory,
+        responses,
+        reports,
+        burst,
+        room,
+    )
 }
