@@ -6,6 +6,7 @@ use lib.Dec.{eqb, ltb}
 use Rattle.answers.specs.Answers.{Said, held, delivered, message, refused, ready, closed, free, wrote}
 use Rattle.wire.specs.Packet.{packetType}
 use Rattle.reports.specs.declared.Report.{Report}
+use Rattle.reports.specs.declared.Numbers.{Numbers}
 
 -- a number for each thing that a call says
 abbrev pub kindOf : Said → ℕ
@@ -17,6 +18,22 @@ kindOf ready = 4
 kindOf closed = 5
 kindOf free = 6
 kindOf (wrote size) = 7
+
+-- the answer of a call that reads no packet: its kind, and the refusal's number or the length written
+abbrev pub numberOf : Said → ℕ
+numberOf (refused number) = number
+numberOf (wrote size) = size
+numberOf held = 0
+numberOf (delivered context source cos stream size) = 0
+numberOf (message context source letter mailbox size) = 0
+numberOf ready = 0
+numberOf closed = 0
+numberOf free = 0
+
+abbrev pub numbersOf : Said → Numbers
+numbersOf says = record { kind = kindOf says; number = numberOf says }
+
+-- ---- the report of a packet
 
 abbrev pub isMessage : List ℕ → Bool
 isMessage packet = eqb (packetType packet) 11
@@ -37,10 +54,10 @@ abbrev pub flagOf : Bool → ℕ
 flagOf b = cond b 1 0
 
 -- a report that carries no PDU and no message
-abbrev pub plain : ℕ → ℕ → ℕ → ℕ → Report
-plain kind number dropped response = record {
-  kind = kind;
-  number = number;
+abbrev pub plain : Said → ℕ → ℕ → Report
+plain says dropped response = record {
+  kind = kindOf says;
+  number = numberOf says;
   dropped = dropped;
   response = response;
   context = 0;
@@ -51,10 +68,10 @@ plain kind number dropped response = record {
 }
 
 -- a report that carries one
-abbrev pub carrying : ℕ → ℕ → ℕ → ℕ → ℕ → ℕ → ℕ → ℕ → Report
-carrying kind dropped response context source cosOrLetter streamOrMailbox size = record {
-  kind = kind;
-  number = 0;
+abbrev pub carrying : Said → ℕ → ℕ → ℕ → ℕ → ℕ → ℕ → ℕ → Report
+carrying says dropped response context source cosOrLetter streamOrMailbox size = record {
+  kind = kindOf says;
+  number = numberOf says;
   dropped = dropped;
   response = response;
   context = context;
@@ -65,15 +82,15 @@ carrying kind dropped response context source cosOrLetter streamOrMailbox size =
 }
 
 abbrev pub sayingOf : Said → ℕ → ℕ → Report
-sayingOf held dropped response = plain 1 0 dropped response
-sayingOf (delivered context source cos stream size) dropped response = carrying 2 dropped response context source cos stream size
-sayingOf (message context source letter mailbox size) dropped response = carrying 3 dropped response context source letter mailbox size
-sayingOf (refused number) dropped response = plain 0 number dropped response
+sayingOf (delivered context source cos stream size) dropped response = carrying (delivered context source cos stream size) dropped response context source cos stream size
+sayingOf (message context source letter mailbox size) dropped response = carrying (message context source letter mailbox size) dropped response context source letter mailbox size
+sayingOf held dropped response = plain held dropped response
+sayingOf (refused number) dropped response = plain (refused number) dropped response
 -- reading says none of these
-sayingOf ready dropped response = plain 4 0 dropped response
-sayingOf closed dropped response = plain 5 0 dropped response
-sayingOf free dropped response = plain 6 0 dropped response
-sayingOf (wrote size) dropped response = plain 7 size dropped response
+sayingOf ready dropped response = plain ready dropped response
+sayingOf closed dropped response = plain closed dropped response
+sayingOf free dropped response = plain free dropped response
+sayingOf (wrote size) dropped response = plain (wrote size) dropped response
 
 -- the report of what reading the packet said, and whether it dropped an open PDU
 unfoldable pub reportOf : Said → Bool → List ℕ → Report

@@ -1,12 +1,15 @@
 // The answer to a packet as a report of numbers, which C can take: as a struct, and as words of a lent buffer.
+use answers::Abandoned;
 use answers::Answer;
+use answers::Begun;
 use answers::Reading;
+use answers::Written;
 ghost use mathlib.Core.Path.{_≡_};
 ghost use Prim.Native.Nat.{_+_, _≤_};
 ghost use lib.ListN.{length};
-ghost use Rattle.answers.specs.Answers.{said};
+ghost use Rattle.answers.specs.Answers.{said, saidOfSetup, saidOfAbandon, saidOfWriter};
 ghost use Rattle.lists.specs.Bytes.{written};
-ghost use Rattle.reports.specs.Reports.{isMessage, responseOf, flagOf, sayingOf, reportOf, wordsOfReport};
+ghost use Rattle.reports.specs.Reports.{isMessage, responseOf, flagOf, sayingOf, reportOf, wordsOfReport, numbersOf};
 
 // The words of a report.
 pub const WORDS: usize = 9;
@@ -167,4 +170,45 @@ pub fn put(words: &mut [usize], at: usize, r: Report)
     words[at + 6] = r.cos_or_letter;
     words[at + 7] = r.stream_or_mailbox;
     words[at + 8] = r.length;
+}
+
+// The answer of a call that reads no packet: its kind, and the refusal's number or the length written.
+#[repr(C)]
+pub struct Numbers {
+    pub kind: usize,
+    pub number: usize,
+}
+
+// What setup answers.
+pub fn of_setup(begun: Begun) -> Numbers
+    ensures { λ r. ⌜ r ≡ numbersOf (saidOfSetup begun) ⌝ }
+{
+    match begun {
+        Begun::Ready => Numbers { kind: 4, number: 0 },
+        Begun::Refused(number) => Numbers { kind: 0, number },
+    }
+}
+
+// What abandoning a context answers.
+pub fn of_abandon(abandoned: Abandoned) -> Numbers
+    ensures { λ r. ⌜ r ≡ numbersOf (saidOfAbandon abandoned) ⌝ }
+{
+    match abandoned {
+        Abandoned::Closed => Numbers { kind: 5, number: 0 },
+        Abandoned::WasFree => Numbers { kind: 6, number: 0 },
+        Abandoned::Refused(number) => Numbers { kind: 0, number },
+    }
+}
+
+// What the segment writer answers.
+pub fn of_writer(written: Written) -> Numbers
+    ensures { λ r. ⌜ r ≡ numbersOf (saidOfWriter written) ⌝ }
+{
+    match written {
+        Written::Length(length) => Numbers {
+            kind: 7,
+            number: length,
+        },
+        Written::Refused(number) => Numbers { kind: 0, number },
+    }
 }
