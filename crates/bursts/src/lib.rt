@@ -56,7 +56,11 @@ fn read_packet(
         &mut responses[at..end],
         packet,
     );
-    reports::put(reports, reports::WORDS * count, reports::reported(reading, packet));
+    reports::put(
+        reports,
+        reports::WORDS * count,
+        reports::reported(reading, packet),
+    );
 }
 
 // One turn: the record at a place is read, where there is one and there is room for `room` packets more.

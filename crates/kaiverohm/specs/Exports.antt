@@ -1,0 +1,48 @@
+-- What the functions for C promise: the endpoint's own definitions, with the answer as numbers.
+-- Each promise settles the answer and everything that is lent to be written.
+use Prim.Native.Nat.{ℕ}
+use mathlib.Core.Path.{_≡_}
+use mathlib.Core.List.{List}
+use Rattle.reading.specs.Table.{Lent}
+use Rattle.reading.specs.Read.{reading}
+use Rattle.endpoint.specs.Calls.{setup, abandonStream, abandonMessage}
+use Rattle.cutting.specs.declared.Heading as cut
+use Rattle.segments.specs.Writer.{writing}
+use Rattle.reports.specs.declared.Numbers.{Numbers}
+use Rattle.reports.specs.declared.Report.{Report}
+use Rattle.reports.specs.Reports.{numbersOf, reportOf}
+use Rattle.kaiverohm.specs.declared.Heading.{Heading}
+
+-- the promise of `kaiverohm_setup`
+pub record SetupPromise (words : List ℕ) (device mtu room : ℕ) (r : Numbers) (after : List ℕ) : Type 0 where
+  pub answer : r ≡ numbersOf (setup words device mtu room .says)
+  pub state : after ≡ setup words device mtu room .words
+
+-- the promise of `kaiverohm_read`
+pub record ReadPromise (x : Lent) (r : Report) (words streamMemory messageMemory response : List ℕ) : Type 0 where
+  pub report : r ≡ reportOf (reading x .says) (reading x .dropped) (x .packet)
+  pub state : words ≡ reading x .words
+  pub streams : streamMemory ≡ reading x .streamMemory
+  pub messages : messageMemory ≡ reading x .messageMemory
+  pub reply : response ≡ reading x .response
+
+-- the promises of `kaiverohm_abandon_stream` and `kaiverohm_abandon_message`
+pub record AbandonStreamPromise (words : List ℕ) (n : ℕ) (r : Numbers) (after : List ℕ) : Type 0 where
+  pub answer : r ≡ numbersOf (abandonStream words n .says)
+  pub state : after ≡ abandonStream words n .words
+
+pub record AbandonMessagePromise (words : List ℕ) (n : ℕ) (r : Numbers) (after : List ℕ) : Type 0 where
+  pub answer : r ≡ numbersOf (abandonMessage words n .says)
+  pub state : after ≡ abandonMessage words n .words
+
+-- the head of a segment, from C's fields
+abbrev pub headingOf : Heading → cut.Heading
+headingOf h = record { destination = h .destination; source = h .source; cos = h .cos; stream = h .stream; priority = h .priority }
+
+-- the promise of `kaiverohm_write_segment`
+pub record WritePromise (out : List ℕ) (h : Heading) (mtu : ℕ) (pdu : List ℕ) (k : ℕ) (r : Numbers) (after : List ℕ) : Type 0 where
+  pub answer : r ≡ numbersOf (writing out (headingOf h) mtu pdu k .says)
+  pub packet : after ≡ writing out (headingOf h) mtu pdu k .out
+
+-- The others hand on what their callees promise: `LengthPromise` (endpoint/specs/Calls.antt), `CountPromise` (segments/specs/Writer.antt),
+-- `StreamPlacePromise` and `MessagePlacePromise` (places/specs/Places.antt), `BurstPromise` (bursts/specs/Bursts.antt).

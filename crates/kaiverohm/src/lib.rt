@@ -1,0 +1,141 @@
+// The endpoint for callers in C. Each function hands its arguments on and its answer back as numbers; none asks anything of its caller.
+// include/kaiverohm.h declares them.
+use bursts::Burst;
+use places::Place;
+use reports::Numbers;
+use reports::Report;
+ghost use Rattle.reading.specs.Read.{lent};
+ghost use Rattle.endpoint.specs.Calls.{LengthPromise};
+ghost use Rattle.segments.specs.Writer.{CountPromise};
+ghost use Rattle.places.specs.Places.{StreamPlacePromise, MessagePlacePromise};
+ghost use Rattle.bursts.specs.Bursts.{run, BurstPromise};
+ghost use Rattle.kaiverohm.specs.Exports.{SetupPromise, ReadPromise, AbandonStreamPromise, AbandonMessagePromise, WritePromise};
+
+// What the segment writer writes in the head of each packet.
+#[repr(C)]
+pub struct Heading {
+    pub destination: u16,
+    pub source: u16,
+    pub stream: u16,
+    pub cos: u8,
+    pub priority: u8,
+}
+
+// The words of a state.
+#[no_mangle]
+pub extern "C" fn kaiverohm_state_length() -> usize
+    ensures { λ r. ⌜ LengthPromise r ⌝ }
+{
+    endpoint::state_length()
+}
+
+// Makes a state.
+#[no_mangle]
+pub extern "C" fn kaiverohm_setup(
+    state: &mut [usize],
+    device: u16,
+    mtu: usize,
+    room: usize,
+) -> Numbers
+    ensures { λ r. ⌜ SetupPromise (now (state .entry)) device mtu room r (now (state .exit)) ⌝ }
+{
+    reports::of_setup(endpoint::setup(state, device, mtu, room))
+}
+
+// Reads one packet.
+#[no_mangle]
+pub extern "C" fn kaiverohm_read(
+    state: &mut [usize],
+    stream_memory: &mut [u8],
+    message_memory: &mut [u8],
+    response: &mut [u8],
+    packet: &[u8],
+) -> Report
+    ensures { λ r. ⌜ ReadPromise (lent (now (state .entry)) (now («stream_memory» .entry)) (now («message_memory» .entry)) (now (response .entry)) (now (packet .entry))) r (now (state .exit)) (now («stream_memory» .exit)) (now («message_memory» .exit)) (now (response .exit)) ⌝ }
+{
+    let reading = endpoint::read(state, stream_memory, message_memory, response, packet);
+    reports::reported(reading, packet)
+}
+
+// Reads the packets of a burst.
+#[no_mangle]
+pub extern "C" fn kaiverohm_read_burst(
+    state: &mut [usize],
+    stream_memory: &mut [u8],
+    message_memory: &mut [u8],
+    responses: &mut [u8],
+    reports: &mut [usize],
+    burst: &[u8],
+) -> Burst
+    ensures { λ r. ⌜ BurstPromise (run (now (state .entry)) (now («stream_memory» .entry)) (now («message_memory» .entry)) (now (responses .entry)) (now (reports .entry)) 0 0) (now (burst .entry)) r (now (state .exit)) (now («stream_memory» .exit)) (now («message_memory» .exit)) (now (responses .exit)) (now (reports .exit)) ⌝ }
+{
+    bursts::read_burst(
+        state,
+        stream_memory,
+        message_memory,
+        responses,
+        reports,
+        burst,
+    )
+}
+
+// Gives the PDU of stream context n up.
+#[no_mangle]
+pub extern "C" fn kaiverohm_abandon_stream(state: &mut [usize], n: usize) -> Numbers
+    ensures { λ r. ⌜ AbandonStreamPromise (now (state .entry)) n r (now (state .exit)) ⌝ }
+{
+    reports::of_abandon(endpoint::abandon_stream(state, n))
+}
+
+// Gives the message of message context n up.
+#[no_mangle]
+pub extern "C" fn kaiverohm_abandon_message(state: &mut [usize], n: usize) -> Numbers
+    ensures { λ r. ⌜ AbandonMessagePromise (now (state .entry)) n r (now (state .exit)) ⌝ }
+{
+    reports::of_abandon(endpoint::abandon_message(state, n))
+}
+
+// Where the first l bytes of stream context n's room lie, in a stream memory of that size.
+#[no_mangle]
+pub extern "C" fn kaiverohm_stream_room(state: &[usize], size: usize, n: usize, l: usize) -> Place
+    ensures { λ r. ⌜ StreamPlacePromise (now (state .entry)) size n l r ⌝ }
+{
+    places::stream_place(state, size, n, l)
+}
+
+// Where the first l bytes of message context n's room lie, in a message memory of that size.
+#[no_mangle]
+pub extern "C" fn kaiverohm_message_room(state: &[usize], size: usize, n: usize, l: usize) -> Place
+    ensures { λ r. ⌜ MessagePlacePromise (now (state .entry)) size n l r ⌝ }
+{
+    places::message_place(state, size, n, l)
+}
+
+// How many segments a PDU makes.
+#[no_mangle]
+pub extern "C" fn kaiverohm_segment_count(mtu: usize, length: usize) -> usize
+    ensures { λ r. ⌜ CountPromise mtu length r ⌝ }
+{
+    segments::segment_count(mtu, length)
+}
+
+// Writes one segment of a PDU.
+#[no_mangle]
+pub extern "C" fn kaiverohm_write_segment(
+    out: &mut [u8],
+    heading: Heading,
+    mtu: usize,
+    pdu: &[u8],
+    number: usize,
+) -> Numbers
+    ensures { λ r. ⌜ WritePromise (now (out .entry)) heading mtu (now (pdu .entry)) number r (now (out .exit)) ⌝ }
+{
+    let head = cutting::Heading {
+        destination: heading.destination,
+        source: heading.source,
+        cos: heading.cos,
+        stream: heading.stream,
+        priority: heading.priority,
+    };
+    reports::of_writer(segments::write_segment(out, head, mtu, pdu, number))
+}
