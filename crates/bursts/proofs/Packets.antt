@@ -47,12 +47,18 @@ module _ (words streams messages responses reports : List ℕ) (count : ℕ) (fi
     here = reading (lent words streams messages lentSlot packet)
 
     pub packet-read : length reply ≡ length lentSlot → report ≡ reportOf (said (r .answer)) (r .dropped) packet → reports′ ≡ written reports (9 * count) (wordsOfReport report)
-        → PacketPromise (run words streams messages responses reports count 0) packet words′ streams′ messages′ (putMid (8 * count) (8 * count + 8 - 8 * count) responses reply) reports′
-    packet-read same e f =
-        ap₂ (λ (x y : List ℕ). run words′ streams′ messages′ x y (count + 1) 0) (put-back responses reply (8 * count) (8 * count + 8 - 8 * count) (same ∙ slot-length ∙ sym (slot-size count)))
-        (f ∙ ap (λ (x : Report). written reports (9 * count) (wordsOfReport x)) e)
-        ∙ (ap (placed (run words streams messages responses reports count 0) packet 0) promise
-        ∙ ap (λ (s : List ℕ). placed (run words streams messages responses reports count 0) packet 0 (reading (lent words streams messages s packet))) slot-is)
+        → PacketPromise (run words streams messages responses reports count 0) packet (report .kind) words′ streams′ messages′ (putMid (8 * count) (8 * count + 8 - 8 * count) responses reply) reports′
+    packet-read same e f = record {
+      leaves =
+          ap₂ (λ (x y : List ℕ). run words′ streams′ messages′ x y (count + 1) 0) (put-back responses reply (8 * count) (8 * count + 8 - 8 * count) (same ∙ slot-length ∙ sym (slot-size count)))
+          (f ∙ ap (λ (x : Report). written reports (9 * count) (wordsOfReport x)) e)
+          ∙ (ap (placed (run words streams messages responses reports count 0) packet 0) promise
+          ∙ ap (λ (s : List ℕ). placed (run words streams messages responses reports count 0) packet 0 (reading (lent words streams messages s packet))) slot-is);
+      kind =
+          ap (λ (x : Report). x .kind) e
+          ∙ (ap (λ (x : Left). reportOf (x .says) (x .dropped) packet .kind) promise
+          ∙ ap (λ (s : List ℕ). reportOf (reading (lent words streams messages s packet) .says) (reading (lent words streams messages s packet) .dropped) packet .kind) slot-is);
+    }
 
     pub still-fit : getD packet 5 0 < 256 → length streams′ ≡ length streams → length messages′ ≡ length messages → Fit words′ streams′ messages′
     still-fit small s m =

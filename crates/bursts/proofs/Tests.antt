@@ -14,26 +14,26 @@ use Rattle.reading.specs.Table.{wrongSizes}
 use Rattle.reading.proofs.Left.{sizes-fit}
 use Rattle.bursts.specs.Bursts.{Run, Finished, finished, answering, refusedAll, burstBy, readBurst, lentTable, ran, lesser, roomFor, Fit, Room}
 
-module _ (r : Run) (burst : List ℕ) where
+module _ (pause : ℕ) (r : Run) (burst : List ℕ) where
   abbrev refusing : ℕ → Finished
   refusing number = finished (answering refusedAll number 0 0) (r .words) (r .streamMemory) (r .messageMemory) (r .responses) (r .reports)
 
-  pub short : (length (r .words) ≡ stateWords → ⊥) → refusing 12 ≡ readBurst r burst
+  pub short : (length (r .words) ≡ stateWords → ⊥) → refusing 12 ≡ readBurst pause r burst
   unfolding readBurst lentTable verdict
   short l = rw (ne-eqb (length (r .words)) stateWords l)
 
   module _ (l : length (r .words) ≡ stateWords) where
-    pub named : namedBy19 (stateOf (r .words)) ≡ true → refusing 19 ≡ readBurst r burst
+    pub named : namedBy19 (stateOf (r .words)) ≡ true → refusing 19 ≡ readBurst pause r burst
     unfolding readBurst lentTable verdict
     named h = rw (eq-eqb (length (r .words)) stateWords l, h)
 
     module _ (h : namedBy19 (stateOf (r .words)) ≡ false) where
-      pub missized : wrongSizes (stateOf (r .words)) (r .streamMemory) (r .messageMemory) (r .responses) ≡ true → refusing 12 ≡ readBurst r burst
+      pub missized : wrongSizes (stateOf (r .words)) (r .streamMemory) (r .messageMemory) (r .responses) ≡ true → refusing 12 ≡ readBurst pause r burst
       unfolding readBurst lentTable verdict
       missized w = rw (eq-eqb (length (r .words)) stateWords l, h, w)
 
       module _ (w : wrongSizes (stateOf (r .words)) (r .streamMemory) (r .messageMemory) (r .responses) ≡ false) where
-        pub accepted : ran (roomFor (length (r .reports)) (length (r .responses))) burst r ≡ readBurst r burst
+        pub accepted : ran pause (roomFor (length (r .reports)) (length (r .responses))) burst r ≡ readBurst pause r burst
         unfolding readBurst lentTable verdict
         accepted = rw (eq-eqb (length (r .words)) stateWords l, h, w)
 

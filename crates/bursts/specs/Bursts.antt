@@ -60,6 +60,10 @@ placed r packet next x =
 abbrev pub behind : Run → List ℕ → ℕ → Run
 behind r packet next = placed r packet next (readIn r packet)
 
+-- the kind of its report
+abbrev pub kindIn : Run → List ℕ → ℕ
+kindIn r packet = reportOf (readIn r packet .says) (readIn r packet .dropped) packet .kind
+
 -- why a burst stops
 abbrev pub refusedAll : ℕ
 refusedAll = 0
@@ -73,7 +77,14 @@ atBad = 2
 abbrev pub isFull : ℕ
 isFull = 3
 
--- a turn: a packet is read, or the burst stops and all stays; `stop` is 0 where it goes on
+abbrev pub atDelivery : ℕ
+atDelivery = 4
+
+-- whether the burst stops behind a packet: where the caller asked for it, and the packet delivers a PDU (kind 2) or a message (kind 3)
+unfoldable pub pauseOf : ℕ → ℕ → ℕ
+pauseOf pause kind = cond (eqb pause 0) 0 (cond (eqb kind 2) atDelivery (cond (eqb kind 3) atDelivery 0))
+
+-- a turn: a packet is read, or the burst stops and all stays; `stop` is 0 where it goes on behind it
 pub record Turned : Type 0 where
   pub stop : ℕ
   pub after : Run
@@ -82,13 +93,16 @@ abbrev pub turned : ℕ → Run → Turned
 turned stop after = record { stop = stop; after = after }
 
 -- `room` packets more have room for their reports and responses
-abbrev pub turnBy : ℕ → List ℕ → Run → Next → Turned
-turnBy room burst r End = turned atEnd r
-turnBy room burst r Bad = turned atBad r
-turnBy room burst r (Record from size next) = cond (eqb room 0) (turned isFull r) (turned 0 (behind r (take size (drop from burst)) next))
+abbrev pub packetTurn : ℕ → Run → List ℕ → ℕ → Turned
+packetTurn pause r packet next = turned (pauseOf pause (kindIn r packet)) (behind r packet next)
 
-unfoldable pub turn : ℕ → List ℕ → Run → Turned
-turn room burst r = turnBy room burst r (nextRecord burst (r .next))
+abbrev pub turnBy : ℕ → ℕ → List ℕ → Run → Next → Turned
+turnBy pause room burst r End = turned atEnd r
+turnBy pause room burst r Bad = turned atBad r
+turnBy pause room burst r (Record from size next) = cond (eqb room 0) (turned isFull r) (packetTurn pause r (take size (drop from burst)) next)
+
+unfoldable pub turn : ℕ → ℕ → List ℕ → Run → Turned
+turn pause room burst r = turnBy pause room burst r (nextRecord burst (r .next))
 
 -- ---- the whole burst
 
@@ -122,9 +136,9 @@ abbrev pub onward : (Run → Finished) → Turned → Finished
 onward more t = cond (eqb (t .stop) 0) (more (t .after)) (stopped t)
 
 -- packet after packet, while there is room
-unfoldable pub ran : ℕ → List ℕ → Run → Finished
-ran zero burst r = stopped (turn zero burst r)
-ran (suc room) burst r = onward (ran room burst) (turn (suc room) burst r)
+unfoldable pub ran : ℕ → ℕ → List ℕ → Run → Finished
+ran pause zero burst r = stopped (turn pause zero burst r)
+ran pause (suc room) burst r = onward (ran pause room burst) (turn pause (suc room) burst r)
 
 -- the packets that have room: 9 words of report and 8 bytes of response for each
 abbrev pub lesser : ℕ → ℕ → ℕ
@@ -140,16 +154,16 @@ lentTable x =
     ∷ row 12 (not (isState x) || wrongMemory x) all
     ∷ []
 
-abbrev pub burstBy : Run → List ℕ → Verdict → Finished
-burstBy r burst (refuse number leaves) = finished (answering refusedAll number 0 0) (r .words) (r .streamMemory) (r .messageMemory) (r .responses) (r .reports)
-burstBy r burst accept = ran (roomFor (length (r .reports)) (length (r .responses))) burst r
+abbrev pub burstBy : ℕ → Run → List ℕ → Verdict → Finished
+burstBy pause r burst (refuse number leaves) = finished (answering refusedAll number 0 0) (r .words) (r .streamMemory) (r .messageMemory) (r .responses) (r .reports)
+burstBy pause r burst accept = ran pause (roomFor (length (r .reports)) (length (r .responses))) burst r
 
-unfoldable pub readBurst : Run → List ℕ → Finished
-readBurst r burst = burstBy r burst (verdict (lentTable (lent (r .words) (r .streamMemory) (r .messageMemory) (r .responses) [])))
+unfoldable pub readBurst : ℕ → Run → List ℕ → Finished
+readBurst pause r burst = burstBy pause r burst (verdict (lentTable (lent (r .words) (r .streamMemory) (r .messageMemory) (r .responses) [])))
 
 -- the promise of `read_burst`
-abbrev pub BurstPromise : Run → List ℕ → Burst → List ℕ → List ℕ → List ℕ → List ℕ → List ℕ → Type 0
-BurstPromise r burst answer words streamMemory messageMemory responses reports = finished answer words streamMemory messageMemory responses reports ≡ readBurst r burst
+abbrev pub BurstPromise : ℕ → Run → List ℕ → Burst → List ℕ → List ℕ → List ℕ → List ℕ → List ℕ → Type 0
+BurstPromise pause r burst answer words streamMemory messageMemory responses reports = finished answer words streamMemory messageMemory responses reports ≡ readBurst pause r burst
 
 -- ---- what a turn may rely on, and keeps
 
@@ -161,14 +175,14 @@ pub record Fit (words streams messages : List ℕ) : Type 0 where
   pub boxes : length messages ≡ 32768
 
 -- the promise of reading one packet of a burst
-abbrev pub PacketPromise : Run → List ℕ → List ℕ → List ℕ → List ℕ → List ℕ → List ℕ → Type 0
-PacketPromise r packet words streamMemory messageMemory responses reports =
-    run words streamMemory messageMemory responses reports (r .count + 1) (r .next) ≡ behind r packet (r .next)
+pub record PacketPromise (r : Run) (packet : List ℕ) (k : ℕ) (words streamMemory messageMemory responses reports : List ℕ) : Type 0 where
+  pub leaves : run words streamMemory messageMemory responses reports (r .count + 1) (r .next) ≡ behind r packet (r .next)
+  pub kind : k ≡ kindIn r packet
 
 -- the promise of a turn
-abbrev pub TurnPromise : ℕ → List ℕ → Run → Turn → List ℕ → List ℕ → List ℕ → List ℕ → List ℕ → Type 0
-TurnPromise room burst r t words streamMemory messageMemory responses reports =
-    turned (t .stop) (run words streamMemory messageMemory responses reports (t .count) (t .next)) ≡ turn room burst r
+abbrev pub TurnPromise : ℕ → ℕ → List ℕ → Run → Turn → List ℕ → List ℕ → List ℕ → List ℕ → List ℕ → Type 0
+TurnPromise pause room burst r t words streamMemory messageMemory responses reports =
+    turned (t .stop) (run words streamMemory messageMemory responses reports (t .count) (t .next)) ≡ turn pause room burst r
 
 -- there is room for the reports and the responses of `room` packets more
 pub record Room (responses reports : List ℕ) (count room : ℕ) : Type 0 where
@@ -176,5 +190,5 @@ pub record Room (responses reports : List ℕ) (count room : ℕ) : Type 0 where
   pub answers : 9 * (count + room) ≤ length reports
 
 -- the promise of the run behind the tests
-abbrev pub RunPromise : ℕ → List ℕ → Run → Burst → List ℕ → List ℕ → List ℕ → List ℕ → List ℕ → Type 0
-RunPromise room burst r answer words streamMemory messageMemory responses reports = finished answer words streamMemory messageMemory responses reports ≡ ran room burst r
+abbrev pub RunPromise : ℕ → ℕ → List ℕ → Run → Burst → List ℕ → List ℕ → List ℕ → List ℕ → List ℕ → Type 0
+RunPromise pause room burst r answer words streamMemory messageMemory responses reports = finished answer words streamMemory messageMemory responses reports ≡ ran pause room burst r

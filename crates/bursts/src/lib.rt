@@ -2,12 +2,12 @@
 // by what the one before left, and has a report and a response of its own.
 use records::Next;
 ghost use mathlib.Core.Path.{_≡_};
-ghost use Rattle.bursts.specs.Bursts.{run, refusedAll, answering, roomFor, Fit, Room, PacketPromise, TurnPromise, RunPromise, BurstPromise};
+ghost use Rattle.bursts.specs.Bursts.{run, pauseOf, refusedAll, answering, roomFor, Fit, Room, PacketPromise, TurnPromise, RunPromise, BurstPromise};
 
 // The bytes of `responses` that each packet has for its own.
 pub const SLOT: usize = 8;
 
-// Why a burst stops: it is refused as a whole, at its end, at a bad record, or where there is no room for another report.
+// Why a burst stops: it is refused as a whole, at its end, at a bad record, where there is no room for another report, or behind a delivery.
 pub const REFUSED: usize = 0;
 
 pub const END: usize = 1;
@@ -15,6 +15,8 @@ pub const END: usize = 1;
 pub const BAD: usize = 2;
 
 pub const FULL: usize = 3;
+
+pub const DELIVERY: usize = 4;
 
 // Why a burst stopped, the refusal's number, the packets read, and where the first unread record begins.
 #[repr(C)]
@@ -25,14 +27,14 @@ pub struct Burst {
     pub next: usize,
 }
 
-// One packet was read where `stop` is 0; else why it was not. The packets read so far, and where the next record begins.
+// 0 where the burst goes on, else why it stops; the packets read so far, and where the next record begins.
 pub struct Turn {
     pub stop: usize,
     pub count: usize,
     pub next: usize,
 }
 
-// Reads a packet, with its own slot for the response and its own words for the report.
+// Reads a packet, with its own slot for the response and its own words for the report. Answers the report's kind.
 fn read_packet(
     state: &mut [usize],
     stream_memory: &mut [u8],
@@ -41,11 +43,11 @@ fn read_packet(
     reports: &mut [usize],
     packet: &[u8],
     count: usize,
-)
+) -> usize
     requires { ⌜ Fit (now state) (now «stream_memory») (now «message_memory») ⌝ }
     requires { ⌜ Room (now responses) (now reports) count 1 ⌝ }
-    ensures { λ _. ⌜ PacketPromise (run (now (state .entry)) (now («stream_memory» .entry)) (now («message_memory» .entry)) (now (responses .entry)) (now (reports .entry)) count 0) (now (packet .entry)) (now (state .exit)) (now («stream_memory» .exit)) (now («message_memory» .exit)) (now (responses .exit)) (now (reports .exit)) ⌝ }
-    ensures { λ _. ⌜ Fit (now (state .exit)) (now («stream_memory» .exit)) (now («message_memory» .exit)) ⌝ }
+    ensures { λ r. ⌜ PacketPromise (run (now (state .entry)) (now («stream_memory» .entry)) (now («message_memory» .entry)) (now (responses .entry)) (now (reports .entry)) count 0) (now (packet .entry)) r (now (state .exit)) (now («stream_memory» .exit)) (now («message_memory» .exit)) (now (responses .exit)) (now (reports .exit)) ⌝ }
+    ensures { λ r. ⌜ Fit (now (state .exit)) (now («stream_memory» .exit)) (now («message_memory» .exit)) ⌝ }
 {
     let at = SLOT * count;
     let end = at + SLOT;
@@ -56,11 +58,25 @@ fn read_packet(
         &mut responses[at..end],
         packet,
     );
-    reports::put(
-        reports,
-        reports::WORDS * count,
-        reports::reported(reading, packet),
-    );
+    let report = reports::reported(reading, packet);
+    reports::put(reports, reports::WORDS * count, report);
+    report.kind
+}
+
+// Whether the burst stops behind a packet whose report has that kind.
+fn pausing(pause: usize, kind: usize) -> usize
+    ensures { λ r. ⌜ r ≡ pauseOf pause kind ⌝ }
+{
+    if pause == 0 {
+        return 0;
+    }
+    if kind == 2 {
+        return DELIVERY;
+    }
+    if kind == 3 {
+        return DELIVERY;
+    }
+    0
 }
 
 // One turn: the record at a place is read, where there is one and there is room for `room` packets more.
@@ -71,13 +87,14 @@ fn turn_at(
     responses: &mut [u8],
     reports: &mut [usize],
     burst: &[u8],
+    pause: usize,
     room: usize,
     count: usize,
     at: usize,
 ) -> Turn
     requires { ⌜ Fit (now state) (now «stream_memory») (now «message_memory») ⌝ }
     requires { ⌜ Room (now responses) (now reports) count room ⌝ }
-    ensures { λ r. ⌜ TurnPromise room (now (burst .entry)) (run (now (state .entry)) (now («stream_memory» .entry)) (now («message_memory» .entry)) (now (responses .entry)) (now (reports .entry)) count at) r (now (state .exit)) (now («stream_memory» .exit)) (now («message_memory» .exit)) (now (responses .exit)) (now (reports .exit)) ⌝ }
+    ensures { λ r. ⌜ TurnPromise pause room (now (burst .entry)) (run (now (state .entry)) (now («stream_memory» .entry)) (now («message_memory» .entry)) (now (responses .entry)) (now (reports .entry)) count at) r (now (state .exit)) (now («stream_memory» .exit)) (now («message_memory» .exit)) (now (responses .exit)) (now (reports .exit)) ⌝ }
     ensures { λ r. ⌜ Fit (now (state .exit)) (now («stream_memory» .exit)) (now («message_memory» .exit)) ⌝ }
 {
     match records::next_record(burst, at) {
@@ -103,7 +120,7 @@ fn turn_at(
                     next: at,
                 };
             }
-            read_packet(
+            let kind = read_packet(
                 state,
                 stream_memory,
                 message_memory,
@@ -113,7 +130,7 @@ fn turn_at(
                 count,
             );
             Turn {
-                stop: 0,
+                stop: pausing(pause, kind),
                 count: count + 1,
                 next,
             }
@@ -129,11 +146,12 @@ fn run_over(
     responses: &mut [u8],
     reports: &mut [usize],
     burst: &[u8],
+    pause: usize,
     room: usize,
 ) -> Burst
     requires { ⌜ Fit (now state) (now «stream_memory») (now «message_memory») ⌝ }
     requires { ⌜ Room (now responses) (now reports) 0 room ⌝ }
-    ensures { λ r. ⌜ RunPromise room (now (burst .entry)) (run (now (state .entry)) (now («stream_memory» .entry)) (now («message_memory» .entry)) (now (responses .entry)) (now (reports .entry)) 0 0) r (now (state .exit)) (now («stream_memory» .exit)) (now («message_memory» .exit)) (now (responses .exit)) (now (reports .exit)) ⌝ }
+    ensures { λ r. ⌜ RunPromise pause room (now (burst .entry)) (run (now (state .entry)) (now («stream_memory» .entry)) (now («message_memory» .entry)) (now (responses .entry)) (now (reports .entry)) 0 0) r (now (state .exit)) (now («stream_memory» .exit)) (now («message_memory» .exit)) (now (responses .exit)) (now (reports .exit)) ⌝ }
 {
     let mut left = room;
     let mut count = 0;
@@ -146,6 +164,7 @@ fn run_over(
             responses,
             reports,
             burst,
+            pause,
             left,
             count,
             at,
@@ -188,7 +207,8 @@ fn refused(number: usize) -> Burst
     }
 }
 
-// Reads the packets of a burst, until its end, a bad record, or the last one that has room for a report and a response.
+// Reads the packets of a burst, until its end, a bad record, or the last one that has room for a report and a response;
+// where `pause` is not 0, until one delivers a PDU or a message.
 pub fn read_burst(
     state: &mut [usize],
     stream_memory: &mut [u8],
@@ -196,8 +216,9 @@ pub fn read_burst(
     responses: &mut [u8],
     reports: &mut [usize],
     burst: &[u8],
+    pause: usize,
 ) -> Burst
-    ensures { λ r. ⌜ BurstPromise (run (now (state .entry)) (now («stream_memory» .entry)) (now («message_memory» .entry)) (now (responses .entry)) (now (reports .entry)) 0 0) (now (burst .entry)) r (now (state .exit)) (now («stream_memory» .exit)) (now («message_memory» .exit)) (now (responses .exit)) (now (reports .exit)) ⌝ }
+    ensures { λ r. ⌜ BurstPromise pause (run (now (state .entry)) (now («stream_memory» .entry)) (now («message_memory» .entry)) (now (responses .entry)) (now (reports .entry)) 0 0) (now (burst .entry)) r (now (state .exit)) (now («stream_memory» .exit)) (now («message_memory» .exit)) (now (responses .exit)) (now (reports .exit)) ⌝ }
 {
     if state.len() != contexts::WORDS {
         return refused(12);
@@ -216,6 +237,7 @@ pub fn read_burst(
         responses,
         reports,
         burst,
+        pause,
         room,
     )
 }

@@ -66,8 +66,9 @@ pub extern "C" fn kaiverohm_read_burst(
     responses: &mut [u8],
     reports: &mut [usize],
     burst: &[u8],
+    pause: usize,
 ) -> Burst
-    ensures { λ r. ⌜ BurstPromise (run (now (state .entry)) (now («stream_memory» .entry)) (now («message_memory» .entry)) (now (responses .entry)) (now (reports .entry)) 0 0) (now (burst .entry)) r (now (state .exit)) (now («stream_memory» .exit)) (now («message_memory» .exit)) (now (responses .exit)) (now (reports .exit)) ⌝ }
+    ensures { λ r. ⌜ BurstPromise pause (run (now (state .entry)) (now («stream_memory» .entry)) (now («message_memory» .entry)) (now (responses .entry)) (now (reports .entry)) 0 0) (now (burst .entry)) r (now (state .exit)) (now («stream_memory» .exit)) (now («message_memory» .exit)) (now (responses .exit)) (now (reports .exit)) ⌝ }
 {
     bursts::read_burst(
         state,
@@ -76,6 +77,7 @@ pub extern "C" fn kaiverohm_read_burst(
         responses,
         reports,
         burst,
+        pause,
     )
 }
 

@@ -24,7 +24,7 @@ refused-requires c κs = search needs
 returns : tie.Need-returns
 returns c =
     let s = c .before .before .before .before .before .before .before .before in
-    ap (λ (b : Burst). finished b (s .args .state .now) (s .args .stream-memory .now) (s .args .message-memory .now) (s .args .responses .now) (s .args .reports .now)) (c .refused .ensures) ∙ short (run (s .args .state .now) (s .args .stream-memory .now) (s .args .message-memory .now) (s .args .responses .now) (s .args .reports .now) 0 0) (s .args .burst .now) (c .before .if1 .taken)
+    ap (λ (b : Burst). finished b (s .args .state .now) (s .args .stream-memory .now) (s .args .message-memory .now) (s .args .responses .now) (s .args .reports .now)) (c .refused .ensures) ∙ short (s .args .pause) (run (s .args .state .now) (s .args .stream-memory .now) (s .args .message-memory .now) (s .args .responses .now) (s .args .reports .now) 0 0) (s .args .burst .now) (c .before .if1 .taken)
 
 -- src/lib.rt:201:8
 named-by-19-requires : tie.Need-named-by-19-requires
@@ -42,7 +42,7 @@ same-length c = search needs
 returns-2 : tie.Need-returns-2
 returns-2 c =
     let s = c .before .before .before .before .before .before .before .before .before .before .before in
-    ap (λ (b : Burst). finished b (s .args .state .now) (s .args .stream-memory .now) (s .args .message-memory .now) (s .args .responses .now) (s .args .reports .now)) (c .refused2 .ensures) ∙ named (run (s .args .state .now) (s .args .stream-memory .now) (s .args .message-memory .now) (s .args .responses .now) (s .args .reports .now) 0 0) (s .args .burst .now) (c .before .before .before .before .if1 .left) (sym (c .before .before .named-by-19 .ensures) ∙ c .before .if2 .taken)
+    ap (λ (b : Burst). finished b (s .args .state .now) (s .args .stream-memory .now) (s .args .message-memory .now) (s .args .responses .now) (s .args .reports .now)) (c .refused2 .ensures) ∙ named (s .args .pause) (run (s .args .state .now) (s .args .stream-memory .now) (s .args .message-memory .now) (s .args .responses .now) (s .args .reports .now) 0 0) (s .args .burst .now) (c .before .before .before .before .if1 .left) (sym (c .before .before .named-by-19 .ensures) ∙ c .before .if2 .taken)
 
 -- src/lib.rt:204:8
 wrong-memory-requires : tie.Need-wrong-memory-requires
@@ -72,7 +72,7 @@ same-length-5 c = search needs
 returns-3 : tie.Need-returns-3
 returns-3 c =
     let s = c .before .before .before .before .before .before .before .before .before .before .before .before .before .before .before .before .before in
-    ap (λ (b : Burst). finished b (s .args .state .now) (s .args .stream-memory .now) (s .args .message-memory .now) (s .args .responses .now) (s .args .reports .now)) (c .refused3 .ensures) ∙ missized (run (s .args .state .now) (s .args .stream-memory .now) (s .args .message-memory .now) (s .args .responses .now) (s .args .reports .now) 0 0) (s .args .burst .now) (c .before .before .before .before .before .before .before .before .before .before .if1 .left) (sym (c .before .before .before .before .before .before .before .before .named-by-19 .ensures) ∙ c .before .before .before .before .before .before .before .if2 .left) (sym (c .before .before .wrong-memory .ensures) ∙ c .before .if3 .taken)
+    ap (λ (b : Burst). finished b (s .args .state .now) (s .args .stream-memory .now) (s .args .message-memory .now) (s .args .responses .now) (s .args .reports .now)) (c .refused3 .ensures) ∙ missized (s .args .pause) (run (s .args .state .now) (s .args .stream-memory .now) (s .args .message-memory .now) (s .args .responses .now) (s .args .reports .now) 0 0) (s .args .burst .now) (c .before .before .before .before .before .before .before .before .before .before .if1 .left) (sym (c .before .before .before .before .before .before .before .before .named-by-19 .ensures) ∙ c .before .before .before .before .before .before .before .if2 .left) (sym (c .before .before .wrong-memory .ensures) ∙ c .before .if3 .taken)
 
 -- src/lib.rt:207:9
 room-for-requires : tie.Need-room-for-requires
@@ -82,7 +82,7 @@ room-for-requires c κs = search needs
 run-over-requires : tie.Need-run-over-requires
 run-over-requires c κs =
     let s = c .before .before .before .before .before .before .before .before .before .before .before .before .before .before .before .before .before .before .before .before .before .before in
-    (fits (run (s .args .state .now) (s .args .stream-memory .now) (s .args .message-memory .now) (s .args .responses .now) (s .args .reports .now) 0 0) (s .args .burst .now) (c .before .before .before .before .before .before .before .before .before .before .before .before .before .before .before .if1 .left) (sym (c .before .before .before .before .before .before .before .before .before .before .before .before .before .named-by-19 .ensures) ∙ c .before .before .before .before .before .before .before .before .before .before .before .before .if2 .left) (sym (c .before .before .before .before .before .before .before .wrong-memory .ensures) ∙ c .before .before .before .before .before .before .if3 .left), subst (λ (n : ℕ). Room (s .args .responses .now) (s .args .reports .now) 0 n) (sym (c .before .before .before .before .before .room-for .ensures)) (has-room (s .args .responses .now) (s .args .reports .now)))
+    (fits (s .args .pause) (run (s .args .state .now) (s .args .stream-memory .now) (s .args .message-memory .now) (s .args .responses .now) (s .args .reports .now) 0 0) (s .args .burst .now) (c .before .before .before .before .before .before .before .before .before .before .before .before .before .before .before .if1 .left) (sym (c .before .before .before .before .before .before .before .before .before .before .before .before .before .named-by-19 .ensures) ∙ c .before .before .before .before .before .before .before .before .before .before .before .before .if2 .left) (sym (c .before .before .before .before .before .before .before .wrong-memory .ensures) ∙ c .before .before .before .before .before .before .if3 .left), subst (λ (n : ℕ). Room (s .args .responses .now) (s .args .reports .now) 0 n) (sym (c .before .before .before .before .before .room-for .ensures)) (has-room (s .args .responses .now) (s .args .reports .now)))
 
 -- src/lib.rt:188:1
 same-length-6 : tie.Need-same-length-6
@@ -109,8 +109,8 @@ returns-4 : tie.Need-returns-4
 returns-4 c =
     let s = c .before .before .before .before .before .before .before .before .before .before .before .before .before .before .before .before .before .before .before .before .before .before .before .before .before .before .before .before .before .before .before .before .before in
     c .before .before .before .before .before .before .before .before .before .before .run-over .ensures
-    ∙ (ap (λ (n : ℕ). ran n (s .args .burst .now) (run (s .args .state .now) (s .args .stream-memory .now) (s .args .message-memory .now) (s .args .responses .now) (s .args .reports .now) 0 0)) (c .before .before .before .before .before .before .before .before .before .before .before .before .before .before .before .before .room-for .ensures)
-    ∙ accepted (run (s .args .state .now) (s .args .stream-memory .now) (s .args .message-memory .now) (s .args .responses .now) (s .args .reports .now) 0 0) (s .args .burst .now) (c .before .before .before .before .before .before .before .before .before .before .before .before .before .before .before .before .before .before .before .before .before .before .before .before .before .before .if1 .left) (sym (c .before .before .before .before .before .before .before .before .before .before .before .before .before .before .before .before .before .before .before .before .before .before .before .before .named-by-19 .ensures) ∙ c .before .before .before .before .before .before .before .before .before .before .before .before .before .before .before .before .before .before .before .before .before .before .before .if2 .left) (sym (c .before .before .before .before .before .before .before .before .before .before .before .before .before .before .before .before .before .before .wrong-memory .ensures) ∙ c .before .before .before .before .before .before .before .before .before .before .before .before .before .before .before .before .before .if3 .left))
+    ∙ (ap (λ (n : ℕ). ran (s .args .pause) n (s .args .burst .now) (run (s .args .state .now) (s .args .stream-memory .now) (s .args .message-memory .now) (s .args .responses .now) (s .args .reports .now) 0 0)) (c .before .before .before .before .before .before .before .before .before .before .before .before .before .before .before .before .room-for .ensures)
+    ∙ accepted (s .args .pause) (run (s .args .state .now) (s .args .stream-memory .now) (s .args .message-memory .now) (s .args .responses .now) (s .args .reports .now) 0 0) (s .args .burst .now) (c .before .before .before .before .before .before .before .before .before .before .before .before .before .before .before .before .before .before .before .before .before .before .before .before .before .before .if1 .left) (sym (c .before .before .before .before .before .before .before .before .before .before .before .before .before .before .before .before .before .before .before .before .before .before .before .before .named-by-19 .ensures) ∙ c .before .before .before .before .before .before .before .before .before .before .before .before .before .before .before .before .before .before .before .before .before .before .before .if2 .left) (sym (c .before .before .before .before .before .before .before .before .before .before .before .before .before .before .before .before .before .before .wrong-memory .ensures) ∙ c .before .before .before .before .before .before .before .before .before .before .before .before .before .before .before .before .before .if3 .left))
 
 pub read-burst-spec : {M : Type 1} → statement M
 read-burst-spec =

@@ -12,18 +12,18 @@ use Rattle.bursts.proofs.run_over.Lts as lts
 use Rattle.bursts.proofs.turn_at.Reads as turn-at-reads
 
 abbrev Inv-loop : tie.InvT-loop
-Inv-loop state₀ stream-memory₀ message-memory₀ responses₀ reports₀ burst room left₀ count₀ at₀ state stream-memory message-memory responses reports left count at =
-    Going burst room (run state₀ stream-memory₀ message-memory₀ responses₀ reports₀ 0 0) (run state stream-memory message-memory responses reports count at) left
+Inv-loop state₀ stream-memory₀ message-memory₀ responses₀ reports₀ burst pause room left₀ count₀ at₀ state stream-memory message-memory responses reports left count at =
+    Going pause burst room (run state₀ stream-memory₀ message-memory₀ responses₀ reports₀ 0 0) (run state stream-memory message-memory responses reports count at) left
 
 abbrev μ-loop : tie.MeasureT-loop
-μ-loop state₀ stream-memory₀ message-memory₀ responses₀ reports₀ burst room left₀ count₀ at₀ state stream-memory message-memory responses reports left count at =
+μ-loop state₀ stream-memory₀ message-memory₀ responses₀ reports₀ burst pause room left₀ count₀ at₀ state stream-memory message-memory responses reports left count at =
     left
 
 -- src/lib.rt:137:5
 loop-holds : tie.Need-loop-holds Inv-loop μ-loop
 loop-holds c =
     let s = c .before .before .before .before .before .before in
-    begins (s .args .burst .now) (s .args .room) (run (s .args .state .now) (s .args .stream-memory .now) (s .args .message-memory .now) (s .args .responses .now) (s .args .reports .now) 0 0) (s .pre .0) (s .pre .1)
+    begins (s .args .pause) (s .args .burst .now) (s .args .room) (run (s .args .state .now) (s .args .stream-memory .now) (s .args .message-memory .now) (s .args .responses .now) (s .args .reports .now) 0 0) (s .pre .0) (s .pre .1)
 
 -- src/lib.rt:138:13
 turn-at-requires : tie.Need-turn-at-requires Inv-loop μ-loop
@@ -57,7 +57,7 @@ returns c =
     let s = c .before .before .before .before .before .before .before .before .before .before .before .before .before .before .before .before .before .before .before .before .before .before .before .before .before in
     let l = c .before .before .before .before .before .before .before .before .before .before .before .before .before .before .before .before .before .before .loop in
     let t = c .before .before .before .before .before .before .before .before .before .before .before .before .turn-at in
-    stops (l .left) (s .args .burst .now) (run (l .state) (l .stream-memory) (l .message-memory) (l .responses) (l .reports) (l .count) (l .at)) (turned (t .result .stop) (run (t .last .0) (t .last .1 .0) (t .last .1 .1 .0) (t .last .1 .1 .1 .0) (t .last .1 .1 .1 .1 .0) (t .result .count) (t .result .next))) (t .ensures .0) (c .if1 .taken) ∙ l .inv .same
+    stops (s .args .pause) (l .left) (s .args .burst .now) (run (l .state) (l .stream-memory) (l .message-memory) (l .responses) (l .reports) (l .count) (l .at)) (turned (t .result .stop) (run (t .last .0) (t .last .1 .0) (t .last .1 .1 .0) (t .last .1 .1 .1 .0) (t .last .1 .1 .1 .1 .0) (t .result .count) (t .result .next))) (t .ensures .0) (c .if1 .taken) ∙ l .inv .same
 
 -- src/lib.rt:157:9
 sub-left : tie.Need-sub-left Inv-loop μ-loop
@@ -65,7 +65,7 @@ sub-left c =
     let s = c .before .before .before .before .before .before .before .before .before .before .before .before .before .before .before .before .before .before .before .before .before .before .before .before .before in
     let l = c .before .before .before .before .before .before .before .before .before .before .before .before .before .before .before .before .before .before .loop in
     let t = c .before .before .before .before .before .before .before .before .before .before .before .before .turn-at in
-    let some : l .left ≡ 0 → ⊥ = had-room (l .left) (s .args .burst .now) (run (l .state) (l .stream-memory) (l .message-memory) (l .responses) (l .reports) (l .count) (l .at)) (turned (t .result .stop) (run (t .last .0) (t .last .1 .0) (t .last .1 .1 .0) (t .last .1 .1 .1 .0) (t .last .1 .1 .1 .1 .0) (t .result .count) (t .result .next))) (t .ensures .0) (c .if1 .left) in
+    let some : l .left ≡ 0 → ⊥ = had-room (s .args .pause) (l .left) (s .args .burst .now) (run (l .state) (l .stream-memory) (l .message-memory) (l .responses) (l .reports) (l .count) (l .at)) (turned (t .result .stop) (run (t .last .0) (t .last .1 .0) (t .last .1 .1 .0) (t .last .1 .1 .1 .0) (t .last .1 .1 .1 .1 .0) (t .result .count) (t .result .next))) (t .ensures .0) (c .if1 .left) in
     omega (arith, some)
 
 -- src/lib.rt:137:5
@@ -74,7 +74,7 @@ loop-less c =
     let s = c .before .before .before .before .before .before .before .before .before .before .before .before .before .before .before .before .before .before .before .before .before .before .before .before .before in
     let l = c .before .before .before .before .before .before .before .before .before .before .before .before .before .before .before .before .before .before .loop in
     let t = c .before .before .before .before .before .before .before .before .before .before .before .before .turn-at in
-    let some : l .left ≡ 0 → ⊥ = had-room (l .left) (s .args .burst .now) (run (l .state) (l .stream-memory) (l .message-memory) (l .responses) (l .reports) (l .count) (l .at)) (turned (t .result .stop) (run (t .last .0) (t .last .1 .0) (t .last .1 .1 .0) (t .last .1 .1 .1 .0) (t .last .1 .1 .1 .1 .0) (t .result .count) (t .result .next))) (t .ensures .0) (c .if1 .left) in
+    let some : l .left ≡ 0 → ⊥ = had-room (s .args .pause) (l .left) (s .args .burst .now) (run (l .state) (l .stream-memory) (l .message-memory) (l .responses) (l .reports) (l .count) (l .at)) (turned (t .result .stop) (run (t .last .0) (t .last .1 .0) (t .last .1 .1 .0) (t .last .1 .1 .1 .0) (t .last .1 .1 .1 .1 .0) (t .result .count) (t .result .next))) (t .ensures .0) (c .if1 .left) in
     omega (arith, some)
 
 -- src/lib.rt:137:5
@@ -83,7 +83,7 @@ loop-again c =
     let s = c .before .before .before .before .before .before .before .before .before .before .before .before .before .before .before .before .before .before .before .before .before .before .before .before .before in
     let l = c .before .before .before .before .before .before .before .before .before .before .before .before .before .before .before .before .before .before .loop in
     let t = c .before .before .before .before .before .before .before .before .before .before .before .before .turn-at in
-    keeps-going (s .args .burst .now) (s .args .room) (run (s .args .state .now) (s .args .stream-memory .now) (s .args .message-memory .now) (s .args .responses .now) (s .args .reports .now) 0 0) (run (l .state) (l .stream-memory) (l .message-memory) (l .responses) (l .reports) (l .count) (l .at)) (l .left) (l .inv) (turned (t .result .stop) (run (t .last .0) (t .last .1 .0) (t .last .1 .1 .0) (t .last .1 .1 .1 .0) (t .last .1 .1 .1 .1 .0) (t .result .count) (t .result .next))) (t .ensures .0) (c .if1 .left) (t .ensures .1) (t .kept .0) (t .kept .1 .0) (t .kept .1 .1 .0) (t .kept .1 .1 .1 .0) (t .kept .1 .1 .1 .1 .0)
+    keeps-going (s .args .pause) (s .args .burst .now) (s .args .room) (run (s .args .state .now) (s .args .stream-memory .now) (s .args .message-memory .now) (s .args .responses .now) (s .args .reports .now) 0 0) (run (l .state) (l .stream-memory) (l .message-memory) (l .responses) (l .reports) (l .count) (l .at)) (l .left) (l .inv) (turned (t .result .stop) (run (t .last .0) (t .last .1 .0) (t .last .1 .1 .0) (t .last .1 .1 .1 .0) (t .last .1 .1 .1 .1 .0) (t .result .count) (t .result .next))) (t .ensures .0) (c .if1 .left) (t .ensures .1) (t .kept .0) (t .kept .1 .0) (t .kept .1 .1 .0) (t .kept .1 .1 .1 .0) (t .kept .1 .1 .1 .1 .0)
 
 pub run-over-spec : {M : Type 1} → statement M
 run-over-spec =

@@ -1,0 +1,249 @@
+/* Kaiverohm: a RapidIO endpoint whose every promise is proved.
+
+   It reads data-streaming packets (type 9) and messages (type 11), joins
+   their segments in memory that you lend it, and writes type 9 segments and
+   type 13 responses. It keeps nothing between calls: all it knows stands in
+   your buffers. It allocates nothing, waits for nothing and calls nothing but
+   memcpy and memset.
+
+   The functions are proved (crates/kaiverohm). The proof covers any bytes in
+   any buffer and any number in any argument. It cannot see the C that calls.
+   So these conditions are yours, at every call:
+
+     1. A pointer with a length after it is good for that many items, to read,
+        and to write where it is not const. Where the length is 0 the pointer
+        is not NULL, and nothing is read or written there.
+     2. What a call may write overlaps nothing else that it is lent.
+     3. A pointer to uint64_t is a multiple of 8.
+     4. Nothing else writes to what is lent while the call runs. Two calls may
+        run at once if they share no buffer that either of them writes.
+     5. No buffer ends past the end of the address space, and none is longer
+        than 2^63 - 1 bytes.
+
+   Nothing else is asked. A buffer of another length than the endpoint needs
+   is refused by its number. A state that no call could have left is refused
+   by its number or read as it stands, and every byte written is one that the
+   promise names.
+
+   Numbers of refusals are those of the paper (docs/DECISIONS.md says where
+   the paper is open). 'All stays' means: no byte of any buffer changes.
+
+   Promises are in crates/: each function names its file and its promise. */
+
+#ifndef KAIVEROHM_H
+#define KAIVEROHM_H
+
+#include <stddef.h>
+#include <stdint.h>
+
+#ifdef __cplusplus
+extern "C" {
+#endif
+
+#define KAIVEROHM_STATE_WORDS 147      /* a state: 147 words of 8 bytes */
+#define KAIVEROHM_STREAM_CONTEXTS 16   /* stream memory: 16 rooms of R bytes */
+#define KAIVEROHM_MESSAGE_CONTEXTS 8   /* message memory: 8 rooms of 4,096 */
+#define KAIVEROHM_MESSAGE_ROOM 4096
+#define KAIVEROHM_MESSAGE_MEMORY 32768
+#define KAIVEROHM_RESPONSE_BYTES 7     /* a type 13 response */
+#define KAIVEROHM_LARGEST_PDU 65536
+#define KAIVEROHM_LARGEST_PACKET 265   /* of what the segment writer writes */
+#define KAIVEROHM_REPORT_WORDS 9       /* a report in a burst: 9 words */
+#define KAIVEROHM_SLOT_BYTES 8         /* a response in a burst: 8 bytes */
+
+/* What a call says: crates/reports/specs/Reports.antt, kindOf. */
+enum {
+    KAIVEROHM_REFUSED = 0,    /* number: the refusal */
+    KAIVEROHM_HELD = 1,       /* a segment is stored, more is to come */
+    KAIVEROHM_DELIVERED = 2,  /* a PDU is whole */
+    KAIVEROHM_MESSAGE = 3,    /* a message is whole */
+    KAIVEROHM_READY = 4,      /* a state is made */
+    KAIVEROHM_CLOSED = 5,     /* a context was open, and is closed */
+    KAIVEROHM_WAS_FREE = 6,   /* a context was free, and stays so */
+    KAIVEROHM_WRITTEN = 7     /* number: the bytes of the packet written */
+};
+
+/* Why a burst stopped: crates/bursts/specs/Bursts.antt. */
+enum {
+    KAIVEROHM_BURST_REFUSED = 0,  /* number: 19 or 12. Nothing was read */
+    KAIVEROHM_BURST_END = 1,      /* all its packets were read */
+    KAIVEROHM_BURST_BAD = 2,      /* the record at next is no record */
+    KAIVEROHM_BURST_FULL = 3,     /* a packet more, but no room for its report */
+    KAIVEROHM_BURST_DELIVERY = 4  /* the last packet read delivered something */
+};
+
+/* The answer of a call that reads no packet. */
+struct kaiverohm_answer {
+    uint64_t kind;
+    uint64_t number;  /* the refusal, or the bytes written; else 0 */
+};
+
+/* The answer to a packet. Fields that a kind does not name are 0. */
+struct kaiverohm_report {
+    uint64_t kind;              /* refused, held, delivered or message */
+    uint64_t number;            /* refused: the refusal */
+    uint64_t dropped;           /* any kind: 1 where this packet closed an open
+                                   stream context undelivered */
+    uint64_t response;          /* any kind: bytes of response written, 7 or 0 */
+    uint64_t context;           /* delivered, message: the context, so the room */
+    uint64_t source;            /* delivered, message: who sent it */
+    uint64_t cos_or_letter;     /* delivered: cos. message: letter */
+    uint64_t stream_or_mailbox; /* delivered: streamID. message: mailbox */
+    uint64_t length;            /* delivered, message: its bytes in the room */
+};
+
+/* The answer to a burst. */
+struct kaiverohm_burst {
+    uint64_t stop;    /* why it stopped */
+    uint64_t number;  /* refused: the refusal. Else 0 */
+    uint64_t count;   /* the packets read, so the reports written */
+    uint64_t next;    /* where the first record that was not read begins */
+};
+
+/* A part of a memory of yours. */
+struct kaiverohm_place {
+    uint64_t offset;
+    uint64_t length;
+};
+
+/* What the segment writer writes in the head of each packet. */
+struct kaiverohm_heading {
+    uint16_t destination;
+    uint16_t source;
+    uint16_t stream;
+    uint8_t cos;
+    uint8_t priority;  /* 0 to 3 */
+};
+
+/* The words of a state: 147.
+   Promise: crates/endpoint/specs/Calls.antt, LengthPromise. */
+uint64_t kaiverohm_state_length(void);
+
+/* Makes a state for a device ID, an MTU and rooms of R bytes.
+
+   state: 147 words, written. What stood there is not looked at.
+   Answers READY; or REFUSED, in this order:
+     12  the state has another length than 147. All stays.
+     18  the MTU is no multiple of 4 from 32 to 256. The state is zeros.
+     19  R is under the MTU or over 65,536. The state is zeros.
+   Promise: crates/kaiverohm/specs/Exports.antt, SetupPromise. */
+struct kaiverohm_answer kaiverohm_setup(uint64_t *state, size_t state_words,
+                                        uint16_t device, uint64_t mtu, uint64_t room);
+
+/* Reads one packet: the wire packet without its first link byte, CRC and fill.
+
+   state:          147 words, read and written.
+   stream_memory:  exactly 16 R bytes, written. Room n begins at n R.
+   message_memory: exactly 32,768 bytes, written. Room n begins at 4,096 n.
+   response:       7 bytes or more. The first 7 may be written.
+   packet:         any number of bytes, read.
+   Answers HELD, DELIVERED, MESSAGE or REFUSED by the first row of the paper's
+   table that holds: 19, 12, 1 to 11, 20 to 25.
+     held, delivered  a stream room, or a message room and the response, and
+                      the context's words are written.
+     refused          19, 12, 1 to 5, 8, 10: all stays. 6, 7, 9, 11: the flow's
+                      context is closed if it was open, all else stays.
+                      20 to 25: the response is written, all else stays.
+   report.response says whether the response was written. A delivered room
+   keeps its bytes until its context is next used.
+   Promise: crates/kaiverohm/specs/Exports.antt, ReadPromise. */
+struct kaiverohm_report kaiverohm_read(uint64_t *state, size_t state_words,
+                                       uint8_t *stream_memory, size_t stream_length,
+                                       uint8_t *message_memory, size_t message_length,
+                                       uint8_t *response, size_t response_length,
+                                       const uint8_t *packet, size_t packet_length);
+
+/* Reads many packets, as kaiverohm_read would one after another. The state
+   and the lengths are tested once.
+
+   state, stream_memory, message_memory: as in kaiverohm_read.
+   responses:  8 bytes for each packet; at least 7. Packet k may write the first
+               7 of the 8 bytes from 8 k on; report k says whether it did.
+   reports:    9 words for each packet: a struct kaiverohm_report, from 9 k on.
+   burst:      records, each a length and that many packet bytes, read. A
+               length below 128 is one byte. A longer one, below 16,384, is two:
+               128 + length % 128, then length / 128, which is not 0.
+   pause:      0, or another number to stop behind each delivery.
+   It reads packets until the end of the burst, a record that is none, the last
+   packet that has 9 words of report and 8 bytes of response, or, with pause, a
+   packet that delivers a PDU or a message.
+   Answers
+     END       all were read.
+     BAD       the record at next is cut, or its length is none. All before it
+               were read.
+     FULL      a record stands at next and has no room. Call again from there.
+     DELIVERY  the last report delivers. Take its bytes out of the room, then
+               call again from next.
+     REFUSED   19 or 12, as in kaiverohm_read. All stays, count is 0.
+   Words and bytes behind the last report and its response stay.
+   Without pause a later packet of the same burst may use the room of a PDU or a
+   message that was delivered, since its context is free again: then only the
+   reports are good. So call with pause where the bytes are wanted.
+   Promise: crates/bursts/specs/Bursts.antt, BurstPromise. */
+struct kaiverohm_burst kaiverohm_read_burst(uint64_t *state, size_t state_words,
+                                            uint8_t *stream_memory, size_t stream_length,
+                                            uint8_t *message_memory, size_t message_length,
+                                            uint8_t *responses, size_t responses_length,
+                                            uint64_t *reports, size_t report_words,
+                                            const uint8_t *burst, size_t burst_length,
+                                            uint64_t pause);
+
+/* Gives the PDU in stream context n up, or the message in message context n.
+
+   state: 147 words, read and written.
+   Answers CLOSED, and the context's words are 0; WAS_FREE, and all stays; or
+   REFUSED, in this order, and all stays:
+     12  the state has another length than 147.
+     19  the state is none.
+     13  n is over 15, or for messages over 7.
+   Promises: crates/kaiverohm/specs/Exports.antt, AbandonStreamPromise and
+   AbandonMessagePromise. */
+struct kaiverohm_answer kaiverohm_abandon_stream(uint64_t *state, size_t state_words, uint64_t n);
+
+struct kaiverohm_answer kaiverohm_abandon_message(uint64_t *state, size_t state_words, uint64_t n);
+
+/* Where the first l bytes of a context's room lie in your memory: after a
+   report, kaiverohm_stream_room(state, words, stream_length, report.context,
+   report.length).
+
+   state: 147 words, read.
+   size:  the length of your stream memory, or your message memory.
+   Answers the offset and l. Where n is past the last context, l is over the
+   room, size is not what kaiverohm_read needs, or the state is none, offset and
+   length are 0. The context need not be open.
+   Promises: crates/places/specs/Places.antt, StreamPlacePromise and
+   MessagePlacePromise. */
+struct kaiverohm_place kaiverohm_stream_room(const uint64_t *state, size_t state_words,
+                                             uint64_t size, uint64_t n, uint64_t l);
+
+struct kaiverohm_place kaiverohm_message_room(const uint64_t *state, size_t state_words,
+                                              uint64_t size, uint64_t n, uint64_t l);
+
+/* How many packets a PDU of that many bytes makes; 0 where the writer would
+   refuse the MTU (18) or the length (14).
+   Promise: crates/segments/specs/Writer.antt, CountPromise. */
+uint64_t kaiverohm_segment_count(uint64_t mtu, uint64_t pdu_length);
+
+/* Writes segment `number`, from 0, of a PDU as a type 9 packet.
+
+   out: room for the packet: MTU + 9 bytes are always enough. Written from its
+        beginning; bytes behind the packet stay.
+   pdu: the whole PDU, read.
+   Answers WRITTEN and the packet's length; or REFUSED, in this order, and all
+   stays:
+     18  the MTU is not allowed.
+     17  the priority is over 3.
+     14  the PDU has 0 bytes or over 65,536.
+     15  number is not below kaiverohm_segment_count.
+     16  out is shorter than the packet.
+   Promise: crates/kaiverohm/specs/Exports.antt, WritePromise. */
+struct kaiverohm_answer kaiverohm_write_segment(uint8_t *out, size_t out_length,
+                                                struct kaiverohm_heading heading, uint64_t mtu,
+                                                const uint8_t *pdu, size_t pdu_length,
+                                                uint64_t number);
+
+#ifdef __cplusplus
+}
+#endif
+
+#endif
