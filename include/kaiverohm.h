@@ -36,6 +36,10 @@
 #include <stddef.h>
 #include <stdint.h>
 
+#if !defined(__x86_64__) || defined(__ILP32__)
+#error "libkaiverohm.a is for x86-64 with 64-bit pointers"
+#endif
+
 #ifdef __cplusplus
 extern "C" {
 #endif
