@@ -1,0 +1,740 @@
+/* The library against the second program (second/endpoint.c), call by call:
+   the same calls on the same bytes must give the same answers, and leave the
+   same state and the same bytes in every lent memory. Every buffer of the
+   library has guard bytes on both sides.
+
+   Random, from a seed that is printed: differ [SEED [PACKETS]].
+
+   One difference is expected. A context's open word may hold any number but 0.
+   On an accepted segment the library writes 1 there, the second program leaves
+   what it was; both follow docs/DECISIONS.md. So open words are compared as
+   open or not. */
+
+#include <stdarg.h>
+#include <stdio.h>
+#include <stdlib.h>
+#include <string.h>
+
+#include "../../second/endpoint.h"
+#include "kaiverohm.h"
+
+enum { GUARD = 64, WORDS = KAIVEROHM_STATE_WORDS, PACKET = 700, BURST = 40 };
+
+static uint64_t seed;
+static unsigned long long packets, bursts, calls, states19;
+static unsigned long long refusals[32], kinds[8], stops[5];
+
+static void fail(const char *format, ...)
+{
+    va_list list;
+    va_start(list, format);
+    fprintf(stderr, "differ: seed %llu, packet %llu, burst %llu: ", (unsigned long long)seed,
+            packets, bursts);
+    vfprintf(stderr, format, list);
+    fprintf(stderr, "\n");
+    va_end(list);
+    exit(1);
+}
+
+/* ---- random numbers: splitmix64 */
+
+static uint64_t random_state;
+
+static uint64_t draw(void)
+{
+    uint64_t z = (random_state += 0x9e3779b97f4a7c15u);
+    z = (z ^ (z >> 30)) * 0xbf58476d1ce4e5b9u;
+    z = (z ^ (z >> 27)) * 0x94d049bb133111ebu;
+    return z ^ (z >> 31);
+}
+
+static uint64_t below(uint64_t n)
+{
+    return draw() % n;
+}
+
+static int one_in(uint64_t n)
+{
+    return below(n) == 0;
+}
+
+static void scatter(uint8_t *bytes, size_t length)
+{
+    for (size_t i = 0; i < length; i++)
+        bytes[i] = (uint8_t)draw();
+}
+
+/* ---- buffers with guards. The room for one byte or word more than asked for
+   lets a test lend a buffer that is too long. */
+
+struct guarded {
+    uint8_t *whole;
+    uint8_t *bytes;
+    size_t length;
+};
+
+static struct guarded guarded(size_t length)
+{
+    struct guarded g = {malloc(length + 2 * GUARD), NULL, length};
+    if (g.whole == NULL)
+        fail("no memory");
+    g.bytes = g.whole + GUARD;
+    memset(g.whole, 0xa5, GUARD);
+    memset(g.bytes + length, 0x5a, GUARD);
+    return g;
+}
+
+static void unharmed(const struct guarded *g, const char *name)
+{
+    for (size_t i = 0; i < GUARD; i++) {
+        if (g->whole[i] != 0xa5)
+            fail("a byte before %s was written", name);
+        if (g->bytes[g->length + i] != 0x5a)
+            fail("a byte behind %s was written", name);
+    }
+}
+
+/* ---- a board of the library's, and one of the second program's */
+
+struct board {
+    struct guarded state, streams, messages, response, packet;
+    struct second_endpoint second;
+    uint8_t *second_streams, *second_messages, *second_response;
+    uint64_t mtu, room;
+};
+
+static uint64_t *words(struct board *b)
+{
+    return (uint64_t *)(void *)b->state.bytes;
+}
+
+static void guards(const struct board *b)
+{
+    unharmed(&b->state, "the state");
+    unharmed(&b->streams, "the stream memory");
+    unharmed(&b->messages, "the message memory");
+    unharmed(&b->response, "the response");
+    unharmed(&b->packet, "the packet");
+}
+
+static struct board board(uint64_t mtu, uint64_t room)
+{
+    struct board b;
+    memset(&b, 0, sizeof b);
+    b.mtu = mtu;
+    b.room = room;
+    b.state = guarded(8 * (WORDS + 1));
+    b.streams = guarded(16 * room + 1);
+    b.messages = guarded(KAIVEROHM_MESSAGE_MEMORY + 1);
+    b.response = guarded(16);
+    b.packet = guarded(PACKET);
+    b.second_streams = malloc(b.streams.length);
+    b.second_messages = malloc(b.messages.length);
+    b.second_response = malloc(b.response.length);
+    scatter(b.state.bytes, b.state.length);
+    scatter(b.streams.bytes, b.streams.length);
+    scatter(b.messages.bytes, b.messages.length);
+    scatter(b.response.bytes, b.response.length);
+    memcpy(b.second_streams, b.streams.bytes, b.streams.length);
+    memcpy(b.second_messages, b.messages.bytes, b.messages.length);
+    memcpy(b.second_response, b.response.bytes, b.response.length);
+    return b;
+}
+
+static void no_board(struct board *b)
+{
+    free(b->state.whole);
+    free(b->streams.whole);
+    free(b->messages.whole);
+    free(b->response.whole);
+    free(b->packet.whole);
+    free(b->second_streams);
+    free(b->second_messages);
+    free(b->second_response);
+}
+
+/* A word of the second program's state by its place in the library's. */
+static uint64_t *second_word(struct second_endpoint *s, size_t i)
+{
+    if (i == 0)
+        return &s->device;
+    if (i == 1)
+        return &s->mtu;
+    if (i == 2)
+        return &s->room;
+    if (i < 83) {
+        struct second_stream *c = &s->stream[(i - 3) / 5];
+        uint64_t *field[] = {&c->open, &c->source, &c->cos, &c->stream_id, &c->held};
+        return field[(i - 3) % 5];
+    }
+    struct second_message *c = &s->message[(i - 83) / 8];
+    uint64_t *field[] = {&c->open,   &c->source, &c->letter, &c->mbox,
+                         &c->msglen, &c->ssize,  &c->marks,  &c->last};
+    return field[(i - 83) % 8];
+}
+
+static int is_open_word(size_t i)
+{
+    return i >= 83 ? (i - 83) % 8 == 0 : i >= 3 && (i - 3) % 5 == 0;
+}
+
+static void same_words(const uint64_t *ours, struct second_endpoint *theirs, const char *call)
+{
+    for (size_t i = 0; i < WORDS; i++) {
+        uint64_t a = ours[i], b = *second_word(theirs, i);
+        if (is_open_word(i) ? (a != 0) != (b != 0) : a != b)
+            fail("%s: word %zu of the state is %llx and %llx", call, i, (unsigned long long)a,
+                 (unsigned long long)b);
+    }
+}
+
+static void same_bytes(const uint8_t *ours, const uint8_t *theirs, size_t length, const char *what)
+{
+    if (memcmp(ours, theirs, length) == 0)
+        return;
+    size_t i = 0;
+    while (ours[i] == theirs[i])
+        i++;
+    fail("byte %zu of %s is %02x and %02x", i, what, ours[i], theirs[i]);
+}
+
+static void same_board(struct board *b, const char *call)
+{
+    same_words(words(b), &b->second, call);
+    same_bytes(b->streams.bytes, b->second_streams, b->streams.length, "the stream memory");
+    same_bytes(b->messages.bytes, b->second_messages, b->messages.length, "the message memory");
+    same_bytes(b->response.bytes, b->second_response, b->response.length, "the response");
+    guards(b);
+}
+
+/* ---- answers */
+
+static uint64_t kind_of(enum second_kind kind)
+{
+    switch (kind) {
+    case SECOND_REFUSED: return KAIVEROHM_REFUSED;
+    case SECOND_HELD: return KAIVEROHM_HELD;
+    case SECOND_PDU: return KAIVEROHM_DELIVERED;
+    case SECOND_MESSAGE: return KAIVEROHM_MESSAGE;
+    case SECOND_READY: return KAIVEROHM_READY;
+    case SECOND_ABANDONED: return KAIVEROHM_CLOSED;
+    case SECOND_WAS_FREE: return KAIVEROHM_WAS_FREE;
+    case SECOND_WRITTEN: return KAIVEROHM_WRITTEN;
+    }
+    fail("the second program gives no kind");
+    return 0;
+}
+
+static void same_answer(struct kaiverohm_answer a, struct second_answer b, const char *call)
+{
+    uint64_t number = b.kind == SECOND_WRITTEN ? b.length : b.refusal;
+    calls++;
+    kinds[kind_of(b.kind)]++;
+    if (b.kind == SECOND_REFUSED)
+        refusals[b.refusal % 32]++;
+    if (a.kind != kind_of(b.kind) || a.number != number)
+        fail("%s: %llu %llu and %llu %llu", call, (unsigned long long)a.kind,
+             (unsigned long long)a.number, (unsigned long long)kind_of(b.kind),
+             (unsigned long long)number);
+}
+
+/* `clear` says that the response's first byte was 0 before. No response begins
+   with 0, so then the bytes tell whether one was written. */
+static void same_report(const struct kaiverohm_report *a, struct second_answer b,
+                        const uint8_t *packet, size_t length, int clear, const uint8_t *response)
+{
+    int message = b.kind == SECOND_MESSAGE || (b.kind == SECOND_REFUSED && b.refusal >= 20)
+                  || (b.kind == SECOND_HELD && length > 0 && packet[0] % 16 == 11);
+    kinds[kind_of(b.kind)]++;
+    if (b.kind == SECOND_REFUSED)
+        refusals[b.refusal % 32]++;
+    if (a->kind != kind_of(b.kind) || a->number != b.refusal || a->dropped != b.dropped
+        || a->context != b.context || a->source != b.source
+        || a->cos_or_letter != b.cos_or_letter || a->stream_or_mailbox != b.stream_or_mailbox
+        || a->length != b.length)
+        fail("report %llu %llu %llu, %llu %llu %llu %llu %llu and answer %d %u %d, %llu %llu %llu %llu %llu",
+             (unsigned long long)a->kind, (unsigned long long)a->number,
+             (unsigned long long)a->dropped, (unsigned long long)a->context,
+             (unsigned long long)a->source, (unsigned long long)a->cos_or_letter,
+             (unsigned long long)a->stream_or_mailbox, (unsigned long long)a->length, b.kind,
+             b.refusal, b.dropped, (unsigned long long)b.context, (unsigned long long)b.source,
+             (unsigned long long)b.cos_or_letter, (unsigned long long)b.stream_or_mailbox,
+             (unsigned long long)b.length);
+    if (a->response != (message ? 7u : 0u))
+        fail("report says %llu bytes of response", (unsigned long long)a->response);
+    if (clear && (response[0] != 0) != (a->response == 7))
+        fail("the response was written, and the report says not, or the other way");
+}
+
+/* ---- traffic: flows that send PDUs, messages in any order, losses, damage */
+
+struct sending {
+    struct kaiverohm_heading heading;
+    uint8_t pdu[3000];
+    size_t length;
+    uint64_t next;
+};
+
+struct posting {
+    unsigned source, letter, mbox, msglen, ssize, last, sent;
+};
+
+static struct sending sendings[20];
+static struct posting postings[11];
+
+static void same_segment(uint8_t *packet, size_t room, const struct sending *s, uint64_t mtu,
+                         uint64_t number, size_t *length)
+{
+    struct guarded out = guarded(room);
+    uint8_t *theirs = malloc(room + 1);
+    scatter(out.bytes, room);
+    memcpy(theirs, out.bytes, room);
+    struct second_heading heading = {s->heading.priority, s->heading.destination,
+                                     s->heading.source, s->heading.cos, s->heading.stream};
+    struct kaiverohm_answer a = kaiverohm_write_segment(out.bytes, room, s->heading, mtu, s->pdu,
+                                                        s->length, number);
+    same_answer(a, second_write_segment(theirs, room, heading, mtu, s->pdu, s->length, number),
+                "write_segment");
+    if (kaiverohm_segment_count(mtu, s->length) != second_segment_count(mtu, s->length))
+        fail("segment_count");
+    same_bytes(out.bytes, theirs, room, "a segment");
+    unharmed(&out, "the segment's buffer");
+    *length = a.kind == KAIVEROHM_WRITTEN ? a.number : 0;
+    memcpy(packet, out.bytes, *length);
+    free(out.whole);
+    free(theirs);
+}
+
+static size_t stream_packet(uint8_t *packet, uint64_t mtu, uint64_t room)
+{
+    struct sending *s = &sendings[one_in(4) ? below(20) : below(4)];
+    uint64_t count = kaiverohm_segment_count(mtu, s->length);
+    size_t length;
+    if (s->next >= count) {
+        s->heading.destination = 1;
+        s->heading.source = (uint16_t)(1 + (s - sendings) % 5);
+        s->heading.cos = (uint8_t)((s - sendings) / 5);
+        s->heading.stream = (uint16_t)draw();
+        s->heading.priority = (uint8_t)below(4);
+        s->length = one_in(8) ? 1 + below(sizeof s->pdu)
+                              : 1 + below(room < 4 * mtu ? room : 4 * mtu);
+        if (s->length > sizeof s->pdu)
+            s->length = sizeof s->pdu;
+        scatter(s->pdu, s->length);
+        s->next = 0;
+    }
+    if (one_in(10))
+        s->next++;
+    same_segment(packet, mtu + 9 + below(8), s, mtu, s->next, &length);
+    s->next++;
+    return length;
+}
+
+static size_t message_packet(uint8_t *packet)
+{
+    struct posting *p = &postings[one_in(3) ? below(11) : below(3)];
+    unsigned number = 0, size;
+    if (p->ssize == 0 || p->sent == (1u << (p->msglen + 1)) - 1 || one_in(30)) {
+        p->source = (unsigned)(1 + (p - postings) % 6);
+        p->letter = (unsigned)below(4);
+        p->mbox = (unsigned)below(4);
+        p->msglen = (unsigned)(one_in(3) ? 0 : 1 + below(one_in(4) ? 15 : 3));
+        p->ssize = (unsigned)(9 + below(one_in(4) ? 6 : 3));
+        p->last = (unsigned)(8 * (1 + below((1u << (p->ssize - 6)) / 8)));
+        p->sent = 0;
+    }
+    do
+        number = (unsigned)below(p->msglen + 1);
+    while ((p->sent >> number & 1) != 0 && !one_in(4));
+    p->sent |= 1u << number;
+    size = number == p->msglen ? p->last : 1u << (p->ssize - 6);
+    packet[0] = (uint8_t)(below(4) << 6 | 1 << 4 | 11);
+    packet[1] = 0;
+    packet[2] = 1;
+    packet[3] = 0;
+    packet[4] = (uint8_t)p->source;
+    packet[5] = (uint8_t)(p->msglen << 4 | p->ssize);
+    packet[6] = (uint8_t)(p->letter << 6 | p->mbox << 4 | (p->msglen == 0 ? below(16) : number));
+    scatter(packet + 7, size);
+    return 7 + size;
+}
+
+static size_t damaged(uint8_t *packet, size_t length)
+{
+    switch (below(7)) {
+    case 0: /* a bit of the head */
+        packet[below(9)] ^= (uint8_t)(1 << below(8));
+        return length;
+    case 1: /* a byte of the fields */
+        packet[5 + below(4)] = (uint8_t)draw();
+        return length;
+    case 2: /* cut */
+        return below(length + 1);
+    case 3: /* longer by a little */
+        scatter(packet + length, 9);
+        return length + below(9);
+    case 4: /* any bytes at all */
+        scatter(packet, PACKET);
+        return below(one_in(2) ? 20 : PACKET);
+    case 5: /* any fields, ours, of type 9 or 11 */
+        scatter(packet, PACKET);
+        packet[0] = (uint8_t)((packet[0] & 0xc0) | 0x10 | (one_in(2) ? 9 : 11));
+        packet[1] = 0;
+        packet[2] = 1;
+        return 5 + below(40);
+    default: /* cut to an even length */
+        return length & ~(size_t)1;
+    }
+}
+
+/* Now and then seventeen starts on seventeen flows, so that no context is free. */
+static size_t flood_packet(uint8_t *packet, uint64_t mtu, unsigned number)
+{
+    struct sending s = {{1, (uint16_t)(100 + number), 7, 200, 0}, {0}, 2 * mtu, 0};
+    size_t length;
+    scatter(s.pdu, s.length);
+    same_segment(packet, mtu + 9, &s, mtu, 0, &length);
+    return length;
+}
+
+static size_t some_packet(uint8_t *packet, uint64_t mtu, uint64_t room)
+{
+    static unsigned flood;
+    size_t length;
+    memset(packet, 0, PACKET);
+    if (flood == 0 && one_in(300))
+        flood = 17;
+    if (flood > 0)
+        return flood_packet(packet, mtu, flood--);
+    length = below(5) < 3 ? stream_packet(packet, mtu, room) : message_packet(packet);
+    return one_in(5) ? damaged(packet, length) : length;
+}
+
+/* ---- one packet */
+
+static void read_one(struct board *b, size_t state_words, size_t streams, size_t messages,
+                     size_t response, const uint8_t *packet, size_t length)
+{
+    int clear = one_in(2);
+    struct second_lent lent = {b->second_streams,  streams,  b->second_messages, messages,
+                               b->second_response, response};
+    struct second_answer there;
+    if (clear) {
+        memset(b->response.bytes, 0, 16);
+        memset(b->second_response, 0, 16);
+    }
+    memcpy(b->packet.bytes, packet, length);
+    struct kaiverohm_report here = kaiverohm_read(
+        words(b), state_words, b->streams.bytes, streams, b->messages.bytes, messages,
+        b->response.bytes, response, b->packet.bytes, length);
+    if (state_words == WORDS) {
+        there = second_read(&b->second, lent, packet, length);
+    } else {
+        /* The second program's state is a struct: it has no wrong length. */
+        memset(&there, 0, sizeof there);
+        there.kind = SECOND_REFUSED;
+        there.refusal = 12;
+    }
+    packets++;
+    same_report(&here, there, packet, length, clear && response >= 7, b->response.bytes);
+    same_bytes(b->packet.bytes, packet, length, "the packet");
+    same_board(b, "read");
+}
+
+/* ---- the other calls */
+
+static void other_calls(struct board *b)
+{
+    uint64_t n = one_in(8) ? draw() : below(18);
+    uint64_t l = one_in(8) ? draw() : below(b->room + 2);
+    size_t size = 16 * b->room + (one_in(8) ? 1 : 0);
+    struct kaiverohm_place p = kaiverohm_stream_room(words(b), WORDS, size, n, l);
+    struct second_part part = second_stream_room(&b->second, b->second_streams, size, n, l);
+    if (p.length != part.length || p.offset != (uint64_t)(part.bytes - b->second_streams))
+        fail("stream_room");
+    l = one_in(8) ? draw() : below(4098);
+    size = KAIVEROHM_MESSAGE_MEMORY + (one_in(8) ? 1 : 0);
+    n = one_in(8) ? draw() : below(10);
+    p = kaiverohm_message_room(words(b), WORDS, size, n, l);
+    part = second_message_room(&b->second, b->second_messages, size, n, l);
+    if (p.length != part.length || p.offset != (uint64_t)(part.bytes - b->second_messages))
+        fail("message_room");
+    p = kaiverohm_stream_room(words(b), WORDS - 1, 16 * b->room, 1, 1);
+    if (p.offset != 0 || p.length != 0)
+        fail("stream_room of a short state");
+    calls += 3;
+    n = one_in(8) ? draw() : below(18);
+    if (one_in(2))
+        same_answer(kaiverohm_abandon_stream(words(b), WORDS, n),
+                    second_abandon_stream(&b->second, n), "abandon_stream");
+    else
+        same_answer(kaiverohm_abandon_message(words(b), WORDS, n % 11),
+                    second_abandon_message(&b->second, n % 11), "abandon_message");
+    same_board(b, "abandon");
+    struct kaiverohm_answer a = kaiverohm_abandon_stream(words(b), WORDS + 1, n);
+    if (a.kind != KAIVEROHM_REFUSED || a.number != 12)
+        fail("abandon_stream of a long state");
+    same_board(b, "abandon");
+}
+
+/* Numbers near every bound that the state's fields have. */
+static uint64_t odd_number(const struct board *b)
+{
+    static const uint64_t bounds[] = {0,   1,    2,    3,     7,     8,     9,     14,
+                                      15,  16,   31,   32,    33,    64,    128,   255,
+                                      256, 2047, 2048, 65535, 65536, 65537, 1u << 31};
+    switch (below(6)) {
+    case 0: return draw();
+    case 1: return UINT64_MAX - below(3);
+    case 2: return b->room + below(3) - 1;
+    case 3: return b->mtu + below(3) - 1;
+    default: return bounds[below(sizeof bounds / sizeof bounds[0])];
+    }
+}
+
+/* Any words may stand in a state. Both boards get the same ones. */
+static void odd_state(struct board *b)
+{
+    for (uint64_t k = 1 + below(3); k > 0; k--) {
+        size_t i = one_in(6) ? below(3) : 3 + below(WORDS - 3);
+        words(b)[i] = *second_word(&b->second, i) = odd_number(b);
+    }
+    if (one_in(4)) /* an open message, nearly right */ {
+        size_t c = 83 + 8 * below(8);
+        uint64_t values[] = {1 + below(2), below(6), below(4),      below(4),
+                             below(17),    8 + below(8), below(1u << below(17)), 8 * below(34)};
+        for (size_t i = 0; i < 8; i++)
+            words(b)[c + i] = *second_word(&b->second, c + i) = values[i];
+    }
+    if (second_refusal19(&b->second))
+        states19++;
+}
+
+/* ---- a round of single calls on one board */
+
+static void singles(uint64_t mtu, uint64_t room, unsigned long long count)
+{
+    struct board b = board(mtu, room);
+    struct second_endpoint kept_second;
+    uint64_t kept[WORDS];
+    uint8_t packet[PACKET + 16];
+
+    uint64_t off = one_in(2) ? mtu + 2 : 4 * below(80);
+    same_answer(kaiverohm_setup(words(&b), WORDS, 1, off, room),
+                second_setup(&b.second, 1, off, room), "setup, MTU off");
+    same_words(words(&b), &b.second, "setup, MTU off");
+    same_answer(kaiverohm_setup(words(&b), WORDS, 1, mtu, 65537),
+                second_setup(&b.second, 1, mtu, 65537), "setup, R off");
+    same_words(words(&b), &b.second, "setup, R off");
+    struct kaiverohm_answer a = kaiverohm_setup(words(&b), WORDS + 1, 1, mtu, room);
+    if (a.kind != KAIVEROHM_REFUSED || a.number != 12)
+        fail("setup of a long state");
+    same_answer(kaiverohm_setup(words(&b), WORDS, 1, mtu, room),
+                second_setup(&b.second, 1, mtu, room), "setup");
+    same_board(&b, "setup");
+
+    while (count-- > 0) {
+        if (one_in(150))
+            same_answer(kaiverohm_setup(words(&b), WORDS, 1, mtu, room),
+                        second_setup(&b.second, 1, mtu, room), "setup");
+        size_t length = some_packet(packet, mtu, room);
+        size_t state_words = WORDS, streams = 16 * room, messages = KAIVEROHM_MESSAGE_MEMORY;
+        size_t response = one_in(2) ? 7 : 7 + below(10);
+        int odd = one_in(6);
+        if (one_in(12)) {
+            switch (below(4)) {
+            case 0: state_words = one_in(2) ? WORDS - 1 : WORDS + 1; break;
+            case 1: streams = one_in(4) ? 0 : streams + 1 - 2 * below(2); break;
+            case 2: messages = one_in(4) ? 0 : messages + 1 - 2 * below(2); break;
+            default: response = below(7); break;
+            }
+        }
+        if (odd) {
+            memcpy(kept, words(&b), sizeof kept);
+            kept_second = b.second;
+            odd_state(&b);
+        }
+        read_one(&b, state_words, streams, messages, response, packet, length);
+        if (one_in(10))
+            other_calls(&b);
+        /* Some odd states are gone on from, with our own device, MTU and R. */
+        b.second.device = words(&b)[0] = 1;
+        b.second.mtu = words(&b)[1] = mtu;
+        b.second.room = words(&b)[2] = room;
+        if (odd && (!one_in(4) || second_refusal19(&b.second))) {
+            memcpy(words(&b), kept, sizeof kept);
+            b.second = kept_second;
+        }
+    }
+    no_board(&b);
+}
+
+/* ---- bursts */
+
+static void burst(uint64_t mtu, uint64_t room, struct board *b)
+{
+    static uint8_t bytes[BURST * (PACKET + 20)];
+    static uint8_t list[BURST][PACKET + 16];
+    size_t lengths[BURST], starts[BURST + 1], at = 0, count = below(BURST);
+    uint64_t pause = one_in(2) ? below(3) : 0;
+    int bad = one_in(6), clear = one_in(2);
+
+    for (size_t k = 0; k < count; k++) {
+        lengths[k] = some_packet(list[k], mtu, room);
+        starts[k] = at;
+        if (lengths[k] < 128) {
+            bytes[at++] = (uint8_t)lengths[k];
+        } else {
+            bytes[at++] = (uint8_t)(128 + lengths[k] % 128);
+            bytes[at++] = (uint8_t)(lengths[k] / 128);
+        }
+        memcpy(bytes + at, list[k], lengths[k]);
+        at += lengths[k];
+    }
+    starts[count] = at;
+    if (bad) {
+        switch (below(4)) {
+        case 0: bytes[at++] = 5; bytes[at++] = 1; break;               /* cut */
+        case 1: bytes[at++] = 130; break;                              /* a cut length */
+        case 2: bytes[at++] = 130; bytes[at++] = 0; break;             /* a second byte of 0 */
+        default: bytes[at++] = 130; bytes[at++] = 129; bytes[at++] = 1; /* a third byte */
+        }
+    }
+
+    size_t room_reports = one_in(2) ? BURST + 2 : below(count + 2);
+    size_t room_replies = one_in(2) ? BURST + 2 : 1 + below(count + 2);
+    struct guarded lent = guarded(at);
+    struct guarded reports = guarded(72 * room_reports + 8 * below(9));
+    struct guarded replies = guarded(8 * room_replies + below(8));
+    uint8_t *their_reports = malloc(reports.length + 1), *their_replies = malloc(replies.length);
+    size_t streams = 16 * room, replies_length = replies.length;
+    if (one_in(20))
+        replies_length = below(9);
+    if (one_in(20))
+        streams--;
+    memcpy(lent.bytes, bytes, at);
+    scatter(reports.bytes, reports.length);
+    scatter(replies.bytes, replies.length);
+    if (clear)
+        memset(replies.bytes, 0, replies.length);
+    memcpy(their_reports, reports.bytes, reports.length);
+    memcpy(their_replies, replies.bytes, replies.length);
+    if (one_in(8))
+        odd_state(b);
+
+    struct kaiverohm_burst here = kaiverohm_read_burst(
+        words(b), WORDS, b->streams.bytes, streams, b->messages.bytes, KAIVEROHM_MESSAGE_MEMORY,
+        replies.bytes, replies_length, (uint64_t *)(void *)reports.bytes, reports.length / 8,
+        lent.bytes, at, pause);
+
+    /* What it must be: the packets one after another. */
+    struct kaiverohm_burst want = {KAIVEROHM_BURST_END, 0, 0, 0};
+    size_t most = reports.length / 72 < replies_length / 8 ? reports.length / 72
+                                                            : replies_length / 8;
+    if (second_refusal19(&b->second)) {
+        want.stop = KAIVEROHM_BURST_REFUSED;
+        want.number = 19;
+    } else if (streams != 16 * b->second.room || replies_length < 7) {
+        want.stop = KAIVEROHM_BURST_REFUSED;
+        want.number = 12;
+    } else {
+        size_t k = 0;
+        while (want.stop == KAIVEROHM_BURST_END) {
+            if (k == count) {
+                want.stop = bad ? KAIVEROHM_BURST_BAD : KAIVEROHM_BURST_END;
+                break;
+            }
+            if (k == most) {
+                want.stop = KAIVEROHM_BURST_FULL;
+                break;
+            }
+            struct second_lent l = {b->second_streams,     streams, b->second_messages,
+                                    KAIVEROHM_MESSAGE_MEMORY, their_replies + 8 * k, 8};
+            struct second_answer there = second_read(&b->second, l, list[k], lengths[k]);
+            struct kaiverohm_report report;
+            packets++;
+            memcpy(&report, reports.bytes + 72 * k, 72);
+            same_report(&report, there, list[k], lengths[k], clear, replies.bytes + 8 * k);
+            memcpy(their_reports + 72 * k, &report, 72);
+            k++;
+            if (pause != 0 && (there.kind == SECOND_PDU || there.kind == SECOND_MESSAGE))
+                want.stop = KAIVEROHM_BURST_DELIVERY;
+        }
+        want.count = k;
+        want.next = starts[k];
+    }
+    bursts++;
+    stops[want.stop]++;
+    if (here.stop != want.stop || here.number != want.number || here.count != want.count
+        || here.next != want.next)
+        fail("burst %llu %llu %llu %llu and %llu %llu %llu %llu", (unsigned long long)here.stop,
+             (unsigned long long)here.number, (unsigned long long)here.count,
+             (unsigned long long)here.next, (unsigned long long)want.stop,
+             (unsigned long long)want.number, (unsigned long long)want.count,
+             (unsigned long long)want.next);
+    same_bytes(reports.bytes, their_reports, reports.length, "the reports");
+    same_bytes(replies.bytes, their_replies, replies.length, "the responses");
+    same_bytes(lent.bytes, bytes, at, "the burst");
+    unharmed(&reports, "the reports");
+    unharmed(&replies, "the responses");
+    unharmed(&lent, "the burst");
+    same_board(b, "read_burst");
+    free(lent.whole);
+    free(reports.whole);
+    free(replies.whole);
+    free(their_reports);
+    free(their_replies);
+}
+
+static void many_bursts(uint64_t mtu, uint64_t room, unsigned count)
+{
+    struct board b = board(mtu, room);
+    same_answer(kaiverohm_setup(words(&b), WORDS, 1, mtu, room),
+                second_setup(&b.second, 1, mtu, room), "setup");
+    while (count-- > 0) {
+        burst(mtu, room, &b);
+        if (second_refusal19(&b.second) || b.second.mtu != mtu || b.second.room != room)
+            same_answer(kaiverohm_setup(words(&b), WORDS, 1, mtu, room),
+                        second_setup(&b.second, 1, mtu, room), "setup");
+        b.second.device = words(&b)[0] = 1;
+    }
+    no_board(&b);
+}
+
+int main(int argc, char **argv)
+{
+    static const struct {
+        uint64_t mtu, room;
+        unsigned share; /* of 100 */
+    } sizes[] = {{32, 2048, 30}, {32, 32, 10},    {36, 100, 10},  {64, 4095, 15},
+                 {128, 128, 5},  {252, 1024, 10}, {256, 2048, 18}, {256, 65536, 2}};
+    seed = argc > 1 ? strtoull(argv[1], NULL, 0) : 20261115;
+    unsigned long long total = argc > 2 ? strtoull(argv[2], NULL, 0) : 20000;
+    random_state = seed;
+    printf("differ: seed %llu\n", (unsigned long long)seed);
+    for (size_t i = 0; i < sizeof sizes / sizeof sizes[0]; i++) {
+        memset(sendings, 0, sizeof sendings);
+        memset(postings, 0, sizeof postings);
+        singles(sizes[i].mtu, sizes[i].room, total * sizes[i].share / 200);
+        many_bursts(sizes[i].mtu, sizes[i].room, (unsigned)(total * sizes[i].share / 200 / 15));
+    }
+
+    printf("packets %llu, bursts %llu, other calls %llu, states that 19 names %llu\n", packets,
+           bursts, calls, states19);
+    printf("held %llu, delivered %llu, messages %llu, refused:", kinds[KAIVEROHM_HELD],
+           kinds[KAIVEROHM_DELIVERED], kinds[KAIVEROHM_MESSAGE]);
+    for (unsigned n = 0; n < 32; n++)
+        if (refusals[n] > 0)
+            printf(" %u %llux", n, refusals[n]);
+    printf("\nbursts: refused %llu, end %llu, bad %llu, full %llu, delivery %llu\n", stops[0],
+           stops[1], stops[2], stops[3], stops[4]);
+
+    /* Every answer has to occur, or the traffic is too tame. */
+    static const unsigned needed[] = {1,  2,  3,  4,  5,  6,  7,  8,  9,  10, 11, 12, 13,
+                                      15, 18, 19, 20, 21, 22, 23, 24, 25};
+    for (size_t i = 0; i < sizeof needed / sizeof needed[0] && total >= 10000; i++)
+        if (refusals[needed[i]] == 0)
+            fail("refusal %u did not occur", needed[i]);
+    printf("no difference\n");
+    return 0;
+}
