@@ -43,7 +43,12 @@ fn print_packets(
     let mut at = 0;
     loop {
         let found = records::next_record(log, at);
-        let Next::Record { from, size: _, next } = found else {
+        let Next::Record {
+            from,
+            size: _,
+            next,
+        } = found
+        else {
             return;
         };
         print_packet(state, stream_memory, message_memory, &log[from..next]);

@@ -47,10 +47,17 @@ fn print_segments(heading: Heading, mtu: usize, pdu: &[u8], out: &mut [u8]) {
     printing::print_number(count);
     printing::print_text(b"\n");
     let mut number = 0;
-    while number <= count {
+    while number < count {
         print_segment(heading, mtu, pdu, number, out);
         number += 1;
     }
+    print_segment(heading, mtu, pdu, count, out);
+}
+
+// The segments of the PDU of that seed.
+fn print_pdu(heading: Heading, mtu: usize, seed: u8, pdu: &mut [u8], out: &mut [u8]) {
+    fill(pdu, seed);
+    print_segments(heading, mtu, pdu, out);
 }
 
 // A number of four bytes.
@@ -81,8 +88,13 @@ fn print_case(case: &[u8])
         stream: lists::word_at(case, 10) as u16,
         priority: case[4],
     };
-    fill(&mut pdu[..size], case[16]);
-    print_segments(heading, long_at(case, 0), &pdu[..size], &mut out[..room]);
+    print_pdu(
+        heading,
+        long_at(case, 0),
+        case[16],
+        &mut pdu[..size],
+        &mut out[..room],
+    );
 }
 
 fn print_cases(cases: &[u8]) {
