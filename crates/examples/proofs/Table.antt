@@ -1,27 +1,12 @@
 -- Each example by computation.
 use mathlib.Core.Path.{refl}
-use Rattle.lists.specs.Bytes.{written}
-use Rattle.lists.specs.First.{firstOf, any}
-use Rattle.lists.specs.Rows.{rows, joined}
-use Rattle.answers.specs.Refusals.{verdict}
-use Rattle.wire.specs.Type9.{sameFlow, segmentAt, segmentOf, badMTU, pduLength, dataLength}
-use Rattle.wire.specs.Type11.{messageOf, bytesOf, inEights}
-use Rattle.wire.specs.Type13.{responseTo, answered}
-use Rattle.rules.specs.Segments.{malformed}
-use Rattle.rules.specs.Messages.{reservedSize, badLength, pastLast}
-use Rattle.contexts.specs.Marks.{marked, allMarked}
-use Rattle.contexts.specs.State.{isFreeStream, isFreeMessage, isOfFlow, isOfMessage, flowContext, freeStream, messageContext, freeMessage}
-use Rattle.contexts.specs.Words.{stateOf, wordsOf}
-use Rattle.refusal19.specs.Refusal19.{badRoom, badStream, badLast, badMarks, badMessage, namedBy19}
-use Rattle.streams.specs.Joining as stream
-use Rattle.streams.specs.Rows.{missized, notOpen, passesRoom, noneFree, lengthDiffers}
-use Rattle.messages.specs.Joining as message
-use Rattle.messages.specs.Rows as messageRows
-use Rattle.reading.specs.Table.{wrongSizes, table}
-use Rattle.reading.specs.Read.{reading}
-use Rattle.segments.specs.Cutting.{segmentCount, dataOf, isFirst, isFinal, padOf, flagsOf, fieldOf, packetOf}
-use Rattle.examples.specs.Table.{ExamplesHold}
+use Rattle.examples.specs.Table.{ExamplesHold, JointLooksSent}
+use Rattle.examples.proofs.Computing.{computing}
 
 examples-hold : ExamplesHold
-unfolding written firstOf any rows joined verdict sameFlow segmentAt segmentOf badMTU pduLength dataLength messageOf bytesOf inEights responseTo answered malformed reservedSize badLength pastLast marked allMarked isFreeStream isFreeMessage isOfFlow isOfMessage flowContext freeStream messageContext freeMessage stateOf wordsOf badRoom badStream badLast badMarks badMessage namedBy19 stream.placed stream.accepted stream.refusedClosing missized notOpen passesRoom noneFree lengthDiffers message.alone message.placed message.accepted messageRows.foundFor messageRows.otherMessage messageRows.alreadyMarked messageRows.noneFree wrongSizes table reading segmentCount dataOf isFirst isFinal padOf flagsOf fieldOf packetOf
+unfolding computing
 examples-hold = (refl, (refl, (refl, (refl, (refl, (refl, (refl, (refl, (refl, (refl, (refl, tt)))))))))))
+
+joint-looks-sent : JointLooksSent
+unfolding computing
+joint-looks-sent = refl

@@ -1,5 +1,6 @@
 -- The starred examples of document 01, in its order and with its numbers ('Examples to hold it to'). MTU 32.
 use Prim.Native.Nat.{ℕ, zero, suc}
+use mathlib.Core.Path.{_≡_}
 use mathlib.Core.List.{List, [], _∷_, _++_}
 use lib.ListN.{take, drop, replicate}
 use Rattle.answers.specs.Answers.{held, delivered, message, refused}
@@ -56,74 +57,39 @@ DONE b = response (0x5D ∷ 0x00 ∷ 0x02 ∷ 0x00 ∷ 0x01 ∷ 0x10 ∷ b ∷ [
 abbrev pub ERROR : (byte6 : ℕ) → Fact
 ERROR b = response (0x5D ∷ 0x00 ∷ 0x02 ∷ 0x00 ∷ 0x01 ∷ 0x17 ∷ b ∷ [])
 
--- a line for each packet: what it gets. `delivered` has context, source, cos, streamID, length; `message` has context, source, letter, mailbox, length
+-- A row: the number, the packets that are sent, and for each what it gets. `delivered` has context, source, cos, streamID, length; `message` has
+-- context, source, letter, mailbox, length.
 abbrev pub examples : List Example
 examples =
     -- L=32: one packet of 41 bytes.
-    example 1 (pdu 32)
-        ( gets (delivered 0 2 5 7 32) (hasBytes 41 ∷ [])
-        ∷ [])
+    example 1 (pdu 32) (gets (delivered 0 2 5 7 32) (hasBytes 41 ∷ []) ∷ [])
     -- L=33: 41 bytes (byte 6 is 80), then 11 (byte 6 is 43, length 0021).
-    ∷ example 2 (pdu 33)
-        ( gets held (hasBytes 41 ∷ byte6 0x80 ∷ [])
-        ∷ gets (delivered 0 2 5 7 33) (hasBytes 11 ∷ byte6 0x43 ∷ lengthField 0x0021 ∷ [])
-        ∷ [])
+    ∷ example 2 (pdu 33) (gets held (hasBytes 41 ∷ byte6 0x80 ∷ []) ∷ gets (delivered 0 2 5 7 33) (hasBytes 11 ∷ byte6 0x43 ∷ lengthField 0x0021 ∷ []) ∷ [])
     -- L=64: the end has 41 bytes, byte 6 is 40, length 0040.
-    ∷ example 3 (pdu 64)
-        ( gets held []
-        ∷ gets (delivered 0 2 5 7 64) (hasBytes 41 ∷ byte6 0x40 ∷ lengthField 0x0040 ∷ [])
-        ∷ [])
+    ∷ example 3 (pdu 64) (gets held [] ∷ gets (delivered 0 2 5 7 64) (hasBytes 41 ∷ byte6 0x40 ∷ lengthField 0x0040 ∷ []) ∷ [])
     -- L=65: the continuation has 39 bytes, byte 6 is 00.
-    ∷ example 4 (pdu 65)
-        ( gets held []
-        ∷ gets held (hasBytes 39 ∷ byte6 0x00 ∷ [])
-        ∷ gets (delivered 0 2 5 7 65) []
-        ∷ [])
+    ∷ example 4 (pdu 65) (gets held [] ∷ gets held (hasBytes 39 ∷ byte6 0x00 ∷ []) ∷ gets (delivered 0 2 5 7 65) [] ∷ [])
     -- L=96, middle lost: the end gets 11, dropped.
-    ∷ example 6 (pdu 96)
-        ( gets held []
-        ∷ lost
-        ∷ getsDropped (refused 11) []
-        ∷ [])
+    ∷ example 6 (pdu 96) (gets held [] ∷ lost ∷ getsDropped (refused 11) [] ∷ [])
     -- L=96, start lost: 8, then 8.
-    ∷ example 7 (pdu 96)
-        ( lost
-        ∷ gets (refused 8) []
-        ∷ gets (refused 8) []
-        ∷ [])
+    ∷ example 7 (pdu 96) (lost ∷ gets (refused 8) [] ∷ gets (refused 8) [] ∷ [])
     -- Two 40-byte PDUs, first end lost: second start is held, dropped; second PDU delivered.
-    ∷ example 8 twoPDUs
-        ( gets held []
-        ∷ lost
-        ∷ getsDropped held []
-        ∷ gets (delivered 0 2 5 8 40) (delivers secondPDU ∷ [])
-        ∷ [])
+    ∷ example 8 twoPDUs (gets held [] ∷ lost ∷ getsDropped held [] ∷ gets (delivered 0 2 5 8 40) (delivers secondPDU ∷ []) ∷ [])
     -- Two 40-byte PDUs on one flow, first end and second start lost: a 40-byte PDU that nobody sent is delivered. This is the joint.
-    ∷ example 9 twoPDUs
-        ( gets held []
-        ∷ lost
-        ∷ lost
-        ∷ gets (delivered 0 2 5 7 40) (delivers joint ∷ deliversNot firstPDU ∷ deliversNot secondPDU ∷ [])
-        ∷ [])
+    ∷ example 9 twoPDUs (gets held [] ∷ lost ∷ lost ∷ gets (delivered 0 2 5 7 40) (delivers joint ∷ deliversNot firstPDU ∷ deliversNot secondPDU ∷ []) ∷ [])
     -- Seventeen starts on seventeen flows: the last gets 10. After one delivery an eighteenth is held.
     ∷ example 10 (starts 1 17 ++ (end 4 ∷ start 18 ∷ []))
-        (replicate 16 (gets held [])
-        ++ ( gets (refused 10) []
-        ∷ gets (delivered 3 4 5 7 40) (delivers firstPDU ∷ [])
-        ∷ gets held []
-        ∷ []))
+    (replicate 16 (gets held []) ++ (gets (refused 10) [] ∷ gets (delivered 3 4 5 7 40) (delivers firstPDU ∷ []) ∷ gets held [] ∷ []))
     -- ssize 64, two segments, segment 1 with 8 bytes first: then segment 0 delivers 72 bytes.
-    ∷ example 11 (segment1 ∷ segment0 ∷ [])
-        ( gets held (DONE 0x61 ∷ [])
-        ∷ gets (message 0 2 1 2 72) (delivers (counting 0 72) ∷ DONE 0x60 ∷ [])
-        ∷ [])
+    ∷ example 11 (segment1 ∷ segment0 ∷ []) (gets held (DONE 0x61 ∷ []) ∷ gets (message 0 2 1 2 72) (delivers (counting 0 72) ∷ DONE 0x60 ∷ []) ∷ [])
     -- A segment twice while open: 24, ERROR.
-    ∷ example 12 (segment1 ∷ segment1 ∷ [])
-        ( gets held (DONE 0x61 ∷ [])
-        ∷ gets (refused 24) (ERROR 0x61 ∷ [])
-        ∷ [])
+    ∷ example 12 (segment1 ∷ segment1 ∷ []) (gets held (DONE 0x61 ∷ []) ∷ gets (refused 24) (ERROR 0x61 ∷ []) ∷ [])
     ∷ []
 
 -- every example comes out as the paper says
 abbrev pub ExamplesHold : Type 0
 ExamplesHold = AllHold examples
+
+-- The two packets that arrive in example 9 are, byte for byte, those of a board that sends the joint itself: no reader of them can tell the two apart.
+abbrev pub JointLooksSent : Type 0
+JointLooksSent = take 1 twoPDUs ++ drop 3 twoPDUs ≡ cut (heading 2 7) 32 joint
