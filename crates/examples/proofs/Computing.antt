@@ -3,23 +3,26 @@ use Rattle.lists.specs.Bytes.{written}
 use Rattle.lists.specs.First.{firstOf, any}
 use Rattle.lists.specs.Rows.{rows, joined}
 use Rattle.answers.specs.Refusals.{verdict}
-use Rattle.wire.specs.Type9.{sameFlow, segmentAt, segmentOf, badMTU, pduLength, dataLength}
-use Rattle.wire.specs.Type11.{messageOf, bytesOf, inEights}
-use Rattle.wire.specs.Type13.{responseTo, answered}
+use Rattle.wire.specs.Type9.{sameFlow, segmentAt, segmentOf}
+use Rattle.wire.specs.Type11.{messageOf}
+use Rattle.sizes.specs.Sizes.{badMTU, pduLength, dataLength, bytesOf, inEights}
+use Rattle.responses.specs.Type13.{responseTo, answered}
 use Rattle.rules.specs.Segments.{malformed}
 use Rattle.rules.specs.Messages.{reservedSize, badLength, pastLast}
 use Rattle.contexts.specs.Marks.{marked, allMarked}
 use Rattle.contexts.specs.State.{isFreeStream, isFreeMessage, isOfFlow, isOfMessage, flowContext, freeStream, messageContext, freeMessage}
 use Rattle.contexts.specs.Words.{stateOf, wordsOf}
 use Rattle.refusal19.specs.Refusal19.{badRoom, badStream, badLast, badMarks, badMessage, namedBy19}
+use Rattle.stream_rooms.specs.Placing as streamRooms
 use Rattle.streams.specs.Joining as stream
 use Rattle.streams.specs.Rows as streamRows
+use Rattle.message_rooms.specs.Placing as messageRooms
 use Rattle.messages.specs.Joining as message
 use Rattle.messages.specs.Rows as messageRows
 use Rattle.reading.specs.Table.{wrongSizes, table}
 use Rattle.reading.specs.Read.{reading}
-use Rattle.segments.specs.Cutting.{segmentCount, dataOf, isFirst, isFinal, padOf, flagsOf, fieldOf, packetOf}
-use Rattle.segments.specs.Writer.{badSize, writerTable, writing}
+use Rattle.cutting.specs.Cutting.{segmentCount, dataOf, isFirst, isFinal, padOf, flagsOf, fieldOf, packetOf, badSize}
+use Rattle.segments.specs.Writer.{writerTable, writing}
 
 unfoldable pub computing : Unit {0}
 unfolding written firstOf any rows joined verdict
@@ -27,8 +30,8 @@ unfolding written firstOf any rows joined verdict
     malformed reservedSize badLength pastLast
     marked allMarked isFreeStream isFreeMessage isOfFlow isOfMessage flowContext freeStream messageContext freeMessage stateOf wordsOf
     badRoom badStream badLast badMarks badMessage namedBy19
-    stream.placed stream.accepted stream.refusedClosing streamRows.missized streamRows.notOpen streamRows.passesRoom streamRows.noneFree streamRows.lengthDiffers
-    message.alone message.placed message.accepted messageRows.foundFor messageRows.otherMessage messageRows.alreadyMarked messageRows.noneFree
+    streamRooms.placed stream.accepted stream.refusedClosing streamRows.missized streamRows.notOpen streamRows.passesRoom streamRows.noneFree streamRows.lengthDiffers
+    message.alone messageRooms.placed message.accepted messageRows.foundFor messageRows.otherMessage messageRows.alreadyMarked messageRows.noneFree
     wrongSizes table reading
     segmentCount dataOf isFirst isFinal padOf flagsOf fieldOf packetOf badSize writerTable writing
 computing = tt

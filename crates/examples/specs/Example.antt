@@ -7,8 +7,8 @@ use lib.ListN.{length, replicate}
 use lib.Dec.{eqb}
 use Rattle.lists.specs.Bytes.{byte, word}
 use Rattle.answers.specs.Answers.{Said, held, delivered, message, refused, ready, closed, free, wrote}
-use Rattle.segments.specs.declared.Heading.{Heading}
-use Rattle.segments.specs.Cutting.{segmentCount, packetOf}
+use Rattle.cutting.specs.declared.Heading.{Heading}
+use Rattle.cutting.specs.Cutting.{segmentCount, packetOf}
 use Rattle.flows.specs.Board.{Board, freshBoard, read, after, room, inRoom}
 
 -- ---- What is sent

@@ -8,7 +8,7 @@ use lib.ListN.{length, replicate}
 use Rattle.answers.specs.Answers.{Said, held, delivered, message, refused, ready, closed, free, wrote}
 use Rattle.wire.specs.Type9.{isS}
 use Rattle.reading.specs.Read as reading
-use Rattle.segments.specs.Cutting.{packetOf}
+use Rattle.cutting.specs.Cutting.{packetOf}
 use Rattle.segments.specs.Writer.{writing, wroteOf}
 use Rattle.flows.specs.OneFlow.{PDU, pdu}
 use Rattle.flows.specs.Board.{Board, Delivery, delivery, deliveredBy, read, left, room, inRoom}

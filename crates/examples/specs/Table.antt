@@ -4,8 +4,8 @@ use mathlib.Core.Path.{_≡_}
 use mathlib.Core.List.{List, [], _∷_, _++_}
 use lib.ListN.{take, drop, replicate}
 use Rattle.answers.specs.Answers.{held, delivered, message, refused}
-use Rattle.segments.specs.declared.Heading.{Heading}
-use Rattle.segments.specs.Cutting.{packetOf}
+use Rattle.cutting.specs.declared.Heading.{Heading}
+use Rattle.cutting.specs.Cutting.{packetOf}
 use Rattle.examples.specs.Example.{counting, cut, Fact, hasBytes, byte6, lengthField, delivers, deliversNot, response, lost, gets, getsDropped, Example, example, AllHold}
 
 -- to device 1, cos 5, priority 0

@@ -11,7 +11,7 @@ use Rattle.wire.specs.declared.Parsed.{Parsed}
 use Rattle.wire.specs.declared.Parsed.the-variants.{Refused, Stream, Message}
 use Rattle.wire.specs.Type9.{sameFlow, segmentOf}
 use Rattle.wire.specs.Parsed.{parsed}
-use Rattle.streams.specs.Joining.{dataOf}
+use Rattle.stream_rooms.specs.Placing.{dataOf}
 use Rattle.reading.proofs.Packets.{stream-parsed}
 use Rattle.flows.specs.OneFlow.{PDU, Told, held, delivered, refused, Outcome, flowStep}
 use Rattle.flows.specs.Board.{Board, read, after, view, freshBoard}

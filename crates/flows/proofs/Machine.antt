@@ -11,16 +11,16 @@ use Rattle.wire.specs.declared.Segment.{Segment}
 use Rattle.wire.specs.declared.MessageSegment.{MessageSegment}
 use Rattle.wire.specs.declared.Parsed.{Parsed}
 use Rattle.wire.specs.declared.Parsed.the-variants.{Refused, Stream, Message}
-use Rattle.wire.specs.Type9.{dataLength}
+use Rattle.sizes.specs.Sizes.{dataLength}
 use Rattle.wire.specs.Parsed.{parsed}
 use Rattle.contexts.specs.declared.StreamContext.{StreamContext}
 use Rattle.contexts.specs.State.{State}
 use Rattle.contexts.specs.Words.{stateOf, wordsOf}
 use Rattle.contexts.proofs.Words.{sixteen, eight, state-of}
-use Rattle.streams.specs.Joining as stream
+use Rattle.stream_rooms.specs.Placing as streamRoom
 use Rattle.streams.specs.Step as streamStep
 use Rattle.streams.proofs.Laws.{data-le}
-use Rattle.messages.specs.Joining as message
+use Rattle.message_rooms.specs.Placing as messageRoom
 use Rattle.messages.specs.Step as messageStep
 use Rattle.reading.specs.Table.{Lent}
 use Rattle.reading.specs.Read.{Left, lent, ofStream, ofMessage}
@@ -45,7 +45,7 @@ abbrev lentOn : Board → List ℕ → Lent
 lentOn b p = lent (b .words) (b .streamMemory) (b .messageMemory) (b .response) p
 
 -- the data of a type 9 packet, all there
-data-length : (p : List ℕ) (g : Segment) → g .from + g .raw ≡ length p → length (stream.dataOf p g) ≡ dataLength g
+data-length : (p : List ℕ) (g : Segment) → g .from + g .raw ≡ length p → length (streamRoom.dataOf p g) ≡ dataLength g
 data-length p g e = simp (length-take, length-drop) (omega (arith, data-le g))
 
 module _ (device mtu room : ℕ) (flows : List Flow) (b : Board) (p : List ℕ) (f : Fine device mtu room flows b) (bytes : AreBytes p) where
@@ -63,15 +63,15 @@ module _ (device mtu room : ℕ) (flows : List Flow) (b : Board) (p : List ℕ) 
 
   -- ---- a type 9 packet
   module _ (few : length flows ≤ 16) (g : Segment) (e : parsed device p ≡ Stream g) (member : among (g .flow) flows ≡ true) where
-    abbrev j : stream.Joined
+    abbrev j : streamRoom.Joined
     j = streamStep.stepped s (b .streamMemory) p g
 
     leaves : read b p ≡ ofStream (lentOn b p) j
     leaves = read-is (Stream g) e
 
-    sim : Sim flows s (b .streamMemory) g j (flowStep (s .mtu) (s .room) (view b (g .flow)) g (stream.dataOf p g))
+    sim : Sim flows s (b .streamMemory) g j (flowStep (s .mtu) (s .room) (view b (g .flow)) g (streamRoom.dataOf p g))
     sim =
-        subst (λ (v : Option PDU). Sim flows s (b .streamMemory) g j (flowStep (s .mtu) (s .room) v g (stream.dataOf p g))) (sym (view-is b (g .flow)))
+        subst (λ (v : Option PDU). Sim flows s (b .streamMemory) g j (flowStep (s .mtu) (s .room) v g (streamRoom.dataOf p g))) (sym (view-is b (g .flow)))
         (sim-stepped flows s (b .streamMemory) p g (sound-on f) member (data-length p g (stream-parsed p device g e .1)) few (f .good))
 
     back : stateOf (wordsOf (j .state)) ≡ j .state
@@ -96,7 +96,7 @@ module _ (device mtu room : ℕ) (flows : List Flow) (b : Board) (p : List ℕ) 
       own = ap (λ (y : Left). view (left y) (g .flow)) leaves ∙ (view-left (g .flow) ∙ sim .leaves .own-is);
       others = λ k ne. ap (λ (y : Left). view (left y) k) leaves ∙ (view-left k ∙ (sim .leaves .others k (same-false k (g .flow) ne) ∙ sym (view-is b k)));
       tells =
-          subst (λ (y : Left). Tells (s .room) (y .streamMemory) (g .flow) (y .says) (flowStep (s .mtu) (s .room) (view b (g .flow)) g (stream.dataOf p g) .told)) (sym leaves) (sim .tells);
+          subst (λ (y : Left). Tells (s .room) (y .streamMemory) (g .flow) (y .says) (flowStep (s .mtu) (s .room) (view b (g .flow)) g (streamRoom.dataOf p g) .told)) (sym leaves) (sim .tells);
       drops = ap (λ (y : Left). y .dropped) leaves ∙ sim .drops;
     }
 
@@ -105,7 +105,7 @@ module _ (device mtu room : ℕ) (flows : List Flow) (b : Board) (p : List ℕ) 
 
   -- ---- a type 11 packet
   module _ (m : MessageSegment) (e : parsed device p ≡ Message m) where
-    abbrev k : message.Joined
+    abbrev k : messageRoom.Joined
     k = messageStep.stepped s (b .messageMemory) (b .response) p m
 
     message-leaves : read b p ≡ ofMessage (lentOn b p) k

@@ -7,7 +7,7 @@ use mathlib.Core.List.{List, _++_}
 use lib.ListN.{length}
 use lib.Dec.{ltb}
 use Rattle.wire.specs.declared.Segment.{Segment}
-use Rattle.wire.specs.Type9.{dataLength}
+use Rattle.sizes.specs.Sizes.{dataLength}
 use Rattle.rules.specs.Segments.{malformed, wrongSize, wrongLength}
 use Rattle.flows.specs.OneFlow.{PDU, pdu, refused, outcome, isOpen, refusedClosing, joined, continued, flowStep}
 

@@ -10,16 +10,18 @@ use borrow.Author.Tests.{ltb-true, eqb-true, not-false}
 use Rattle.lists.proofs.Written.{length-written}
 use Rattle.answers.specs.Answers as answers
 use Rattle.wire.specs.declared.MessageSegment.{MessageSegment}
-use Rattle.wire.specs.Type11.{bytesOf, isSingle, mailbox}
-use Rattle.wire.specs.Type13.{ERROR, RETRY, responseTo, answered}
-use Rattle.wire.proofs.Sizes.{bytes-le}
+use Rattle.sizes.specs.Sizes.{bytesOf}
+use Rattle.wire.specs.Type11.{isSingle, mailbox}
+use Rattle.responses.specs.Type13.{ERROR, RETRY, responseTo, answered}
+use Rattle.sizes.proofs.Laws.{bytes-le}
 use Rattle.rules.specs.Messages.{judged, lastWith}
 use Rattle.rules.proofs.Laws.{sound}
 use Rattle.contexts.specs.State.{State, freeMessage}
 use Rattle.messages.specs.Rows.{foundFor, messageOpen, otherMessage, alreadyMarked, noneFree}
-use Rattle.messages.specs.Joining.{Joined, dataOf, alone, marksWith, complete, placed, accepted}
+use Rattle.message_rooms.specs.Placing.{Joined, dataOf, marksWith, complete, placed}
+use Rattle.messages.specs.Joining.{alone, accepted}
 use Rattle.messages.specs.Step.{refusedWith, matched, stepped}
-use Rattle.messages.proofs.Laws.{segment-ends}
+use Rattle.message_rooms.proofs.Laws.{segment-ends}
 use Rattle.reading.proofs.Cases.{by-test}
 use Rattle.flows.specs.Board.{deliveredBy}
 

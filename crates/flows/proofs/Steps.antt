@@ -13,7 +13,7 @@ use Rattle.lists.proofs.First.{first-passes}
 use Rattle.answers.specs.Answers as answers
 use Rattle.wire.specs.declared.Flow.{Flow}
 use Rattle.wire.specs.declared.Segment.{Segment}
-use Rattle.wire.specs.Type9.{dataLength}
+use Rattle.sizes.specs.Sizes.{dataLength}
 use Rattle.rules.specs.Segments.{malformed, wrongSize, wrongLength}
 use Rattle.contexts.specs.declared.StreamContext.{StreamContext}
 use Rattle.contexts.specs.State.{State, withStream, closedStream, isFreeStream, isOfFlow, flowContext, freeStream}
@@ -21,6 +21,7 @@ use Rattle.refusal19.specs.Refusal19.{namedBy19}
 use Rattle.refusal19.proofs.Good.{good}
 use Rattle.streams.specs.Rows.{foundFor, missized}
 use Rattle.streams.specs.Joining as stream
+use Rattle.stream_rooms.specs.Placing as streamRoom
 use Rattle.streams.specs.Step as step
 use Rattle.streams.proofs.Laws.{size-le, passed, begin-own, begin-free, go-closed, go-passes, go-differs, go-placed, step-begins, step-continues}
 use Rattle.reading.proofs.Cases.{by-test}
@@ -33,7 +34,7 @@ use Rattle.flows.proofs.Seen.{seen, seen-some, seen-none, Sound, Mine, 
 use Rattle.flows.proofs.OneStep.{flow-malformed, flow-missized, flow-begins, flow-closed, flow-passes, flow-differs, flow-joins}
 
 -- what a step leaves is what the one-flow endpoint's outcome says
-pub record Sim (flows : List Flow) (s : State) (memory : List ℕ) (g : Segment) (j : stream.Joined) (o : Outcome) : Type 0 where
+pub record Sim (flows : List Flow) (s : State) (memory : List ℕ) (g : Segment) (j : streamRoom.Joined) (o : Outcome) : Type 0 where
   pub leaves : After (s .room) flows (s .streams) memory (g .flow) (j .state .streams) (j .memory) (o .next)
   pub tells : Tells (s .room) (j .memory) (g .flow) (j .says) (o .told)
   pub drops : j .dropped ≡ o .dropped
@@ -64,7 +65,7 @@ module _ (flows : List Flow) (room : ℕ) (cs : List StreamContext) (memory : Li
   }
 
 module _ (flows : List Flow) (s : State) (memory p : List ℕ) (g : Segment) (ok : Sound (s .room) flows (s .streams) memory) (member : among (g .flow) flows ≡ true)
-    (data-is : length (stream.dataOf p g) ≡ dataLength g) where
+    (data-is : length (streamRoom.dataOf p g) ≡ dataLength g) where
   -- refused, and the flow's context closed
   sim-closing : (before : Option PDU) (number : ℕ) → ltb (own (s .streams) (g .flow)) 16 ≡ isOpen before → Sim flows s memory g (stream.refusedClosing s memory g number) (refusedClosing before number)
   unfolding stream.refusedClosing flowContext
@@ -78,32 +79,32 @@ module _ (flows : List Flow) (s : State) (memory p : List ℕ) (g : Segment) (ok
 
   -- stored in room n behind `base` bytes
   sim-placed : (n base streamID : ℕ) (dropped : Bool) → Mine (s .streams) (g .flow) n → n < 16 → base + dataLength g ≤ s .room
-      → Sim flows s memory g (stream.placed s memory p g n base streamID dropped) (joined g (pdu streamID (inRoom (s .room) memory n base ++ stream.dataOf p g)) dropped)
-  unfolding stream.placed
+      → Sim flows s memory g (streamRoom.placed s memory p g n base streamID dropped) (joined g (pdu streamID (inRoom (s .room) memory n base ++ streamRoom.dataOf p g)) dropped)
+  unfolding streamRoom.placed
   sim-placed n base streamID dropped mine lt fits = go (g .ends)
     where
-      fit : base + length (stream.dataOf p g) ≤ s .room
+      fit : base + length (streamRoom.dataOf p g) ≤ s .room
       fit = omega (arith, data-is)
 
       go : (e : Bool)
           → Sim flows s memory g
-          (stream.joining (cond e (answers.delivered n (g .flow .source) (g .flow .cos) streamID (base + dataLength g)) answers.held) dropped
+          (streamRoom.joining (cond e (answers.delivered n (g .flow .source) (g .flow .cos) streamID (base + dataLength g)) answers.held) dropped
           (withStream s n (cond e closedStream (record { live = 1; flow = g .flow; stream = streamID; held = base + dataLength g })))
-          (written memory (n * s .room + base) (stream.dataOf p g)))
-          (cond e (outcome none (delivered (pdu streamID (inRoom (s .room) memory n base ++ stream.dataOf p g))) dropped) (outcome (some (pdu streamID (inRoom (s .room) memory n base ++ stream.dataOf p g))) held dropped))
+          (written memory (n * s .room + base) (streamRoom.dataOf p g)))
+          (cond e (outcome none (delivered (pdu streamID (inRoom (s .room) memory n base ++ streamRoom.dataOf p g))) dropped) (outcome (some (pdu streamID (inRoom (s .room) memory n base ++ streamRoom.dataOf p g))) held dropped))
       go true = record {
-        leaves = stored-closed (s .room) flows (s .streams) memory ok (g .flow) member n mine lt base (stream.dataOf p g) fit;
+        leaves = stored-closed (s .room) flows (s .streams) memory ok (g .flow) member n mine lt base (streamRoom.dataOf p g) fit;
         tells =
             ap (λ (b : List ℕ). delivery (g .flow) (pdu streamID b) ∷ [])
-            (ap (λ (m : ℕ). inRoom (s .room) (written memory (n * s .room + base) (stream.dataOf p g)) n (base + m)) (sym data-is) ∙ stored-own (s .room) memory (ok .rooms) n lt base (stream.dataOf p g) fit);
+            (ap (λ (m : ℕ). inRoom (s .room) (written memory (n * s .room + base) (streamRoom.dataOf p g)) n (base + m)) (sym data-is) ∙ stored-own (s .room) memory (ok .rooms) n lt base (streamRoom.dataOf p g) fit);
         drops = refl;
         same-room = refl;
         same-messages = refl;
       }
       go false = record {
         leaves =
-            subst (λ (m : ℕ). After (s .room) flows (s .streams) memory (g .flow) (set (s .streams) n (record { live = 1; flow = g .flow; stream = streamID; held = base + m })) (written memory (n * s .room + base) (stream.dataOf p g)) (some (pdu streamID (inRoom (s .room) memory n base ++ stream.dataOf p g))))
-            data-is (stored-held (s .room) flows (s .streams) memory ok (g .flow) member n mine lt base (stream.dataOf p g) fit streamID);
+            subst (λ (m : ℕ). After (s .room) flows (s .streams) memory (g .flow) (set (s .streams) n (record { live = 1; flow = g .flow; stream = streamID; held = base + m })) (written memory (n * s .room + base) (streamRoom.dataOf p g)) (some (pdu streamID (inRoom (s .room) memory n base ++ streamRoom.dataOf p g))))
+            data-is (stored-held (s .room) flows (s .streams) memory ok (g .flow) member n mine lt base (streamRoom.dataOf p g) fit streamID);
         tells = refl;
         drops = refl;
         same-room = refl;
@@ -111,7 +112,7 @@ module _ (flows : List Flow) (s : State) (memory p : List ℕ) (g : Segment) (ok
       }
 
   -- row 8: all stays
-  sim-staying : seen (s .room) (s .streams) memory (g .flow) ≡ none → Sim flows s memory g (stream.joining (answers.refused 8) false s memory) (outcome none (refused 8) false)
+  sim-staying : seen (s .room) (s .streams) memory (g .flow) ≡ none → Sim flows s memory g (streamRoom.joining (answers.refused 8) false s memory) (outcome none (refused 8) false)
   sim-staying v = record { leaves = record { sound = ok; own-is = v; others = λ l ne. refl }; tells = refl; drops = refl; same-room = refl; same-messages = refl }
 
   -- a closing refusal by the code's tests
@@ -124,17 +125,17 @@ module _ (flows : List Flow) (s : State) (memory p : List ℕ) (g : Segment) (ok
   closing-7 d e = rw (d, e)
 
   abbrev Stepped : Option PDU → Type 0
-  Stepped before = Sim flows s memory g (step.stepped s memory p g) (flowStep (s .mtu) (s .room) before g (stream.dataOf p g))
+  Stepped before = Sim flows s memory g (step.stepped s memory p g) (flowStep (s .mtu) (s .room) before g (streamRoom.dataOf p g))
 
   module _ (few : length flows ≤ 16) (fine : namedBy19 s ≡ false) where
     sim-6 : (before : Option PDU) → ltb (own (s .streams) (g .flow)) 16 ≡ isOpen before → malformed g ≡ true → Stepped before
     sim-6 before o d =
-        subst₂ (λ (j : stream.Joined) (x : Outcome). Sim flows s memory g j x) (sym (closing-6 d)) (sym (flow-malformed (s .mtu) (s .room) g (stream.dataOf p g) before d)) (sim-closing before 6 o)
+        subst₂ (λ (j : streamRoom.Joined) (x : Outcome). Sim flows s memory g j x) (sym (closing-6 d)) (sym (flow-malformed (s .mtu) (s .room) g (streamRoom.dataOf p g) before d)) (sim-closing before 6 o)
 
     module _ (d : malformed g ≡ false) where
       sim-7 : (before : Option PDU) → ltb (own (s .streams) (g .flow)) 16 ≡ isOpen before → wrongSize (g .ends) (dataLength g) (s .mtu) ≡ true → Stepped before
       sim-7 before o e =
-          subst₂ (λ (j : stream.Joined) (x : Outcome). Sim flows s memory g j x) (sym (closing-7 d e)) (sym (flow-missized (s .mtu) (s .room) g (stream.dataOf p g) d before e)) (sim-closing before 7 o)
+          subst₂ (λ (j : streamRoom.Joined) (x : Outcome). Sim flows s memory g j x) (sym (closing-7 d e)) (sym (flow-missized (s .mtu) (s .room) g (streamRoom.dataOf p g) d before e)) (sim-closing before 7 o)
 
       module _ (e : wrongSize (g .ends) (dataLength g) (s .mtu) ≡ false) where
         -- a start or single fits any room
@@ -151,9 +152,9 @@ module _ (flows : List Flow) (s : State) (memory p : List ℕ) (g : Segment) (ok
             let i : ℕ = own (s .streams) (g .flow) in
             let lt : i < 16 = omega (arith, ok .size) in
             let opened : true ≡ isOpen before = sym (lt-ltb i 16 lt) ∙ o in
-            subst₂ (λ (j : stream.Joined) (x : Outcome). Sim flows s memory g j x)
+            subst₂ (λ (j : streamRoom.Joined) (x : Outcome). Sim flows s memory g j x)
             (step-begins s memory p g d {count = dataLength g} {mtu = s .mtu} refl refl e t (begin-own s memory p g t now lt refl))
-            (ap (joined g (pdu (g .field) (stream.dataOf p g))) opened ∙ sym (flow-begins (s .mtu) (s .room) g (stream.dataOf p g) d e before t))
+            (ap (joined g (pdu (g .field) (streamRoom.dataOf p g))) opened ∙ sym (flow-begins (s .mtu) (s .room) g (streamRoom.dataOf p g) d e before t))
             (sim-placed i 0 (g .field) true (own-mine flows (s .room) (s .streams) memory ok (g .flow)) lt start-small)
         sim-begins before (lacks q no-one) o t =
             let i : ℕ = spare (s .streams) in
@@ -161,9 +162,9 @@ module _ (flows : List Flow) (s : State) (memory p : List ℕ) (g : Segment) (ok
             let lt : i < 16 = omega (arith, ok .size) in
             let past-all : 16 ≤ own (s .streams) (g .flow) = omega (arith, ok .size) in
             let shut : false ≡ isOpen before = sym (le-ltb (own (s .streams) (g .flow)) 16 past-all) ∙ o in
-            subst₂ (λ (j : stream.Joined) (x : Outcome). Sim flows s memory g j x)
+            subst₂ (λ (j : streamRoom.Joined) (x : Outcome). Sim flows s memory g j x)
             (step-begins s memory p g d {count = dataLength g} {mtu = s .mtu} refl refl e t (begin-free s memory p g t now past-all {free = i} refl lt refl))
-            (ap (joined g (pdu (g .field) (stream.dataOf p g))) shut ∙ sym (flow-begins (s .mtu) (s .room) g (stream.dataOf p g) d e before t))
+            (ap (joined g (pdu (g .field) (streamRoom.dataOf p g))) shut ∙ sym (flow-begins (s .mtu) (s .room) g (streamRoom.dataOf p g) d e before t))
             (sim-placed i 0 (g .field) false (spare-mine flows (s .room) (s .streams) memory ok (g .flow) no-one within) lt start-small)
 
         module _ (t : g .begins ≡ false) where
@@ -180,9 +181,9 @@ module _ (flows : List Flow) (s : State) (memory p : List ℕ) (g : Segment) (ok
           sim-closed : 16 ≤ i → Stepped none
           unfolding flowContext
           sim-closed o =
-              subst₂ (λ (j : stream.Joined) (x : Outcome). Sim flows s memory g j x)
+              subst₂ (λ (j : streamRoom.Joined) (x : Outcome). Sim flows s memory g j x)
               (step-continues s memory p g d {count = dataLength g} {mtu = s .mtu} refl refl e t (go-closed s memory p g t now o))
-              (sym (flow-closed (s .mtu) (s .room) g (stream.dataOf p g) d e t))
+              (sym (flow-closed (s .mtu) (s .room) g (streamRoom.dataOf p g) d e t))
               (sim-staying (seen-none (s .room) (s .streams) memory (g .flow) o))
 
           module _ (lt : i < 16) (small : c .held ≤ s .room) where
@@ -192,10 +193,10 @@ module _ (flows : List Flow) (s : State) (memory p : List ℕ) (g : Segment) (ok
             sim-9 : ltb (s .room) (c .held + dataLength g) ≡ true → Stepped (some held-so-far)
             unfolding flowContext stream.refusedClosing
             sim-9 h =
-                subst₂ (λ (j : stream.Joined) (x : Outcome). Sim flows s memory g j x)
+                subst₂ (λ (j : streamRoom.Joined) (x : Outcome). Sim flows s memory g j x)
                 (step-continues s memory p g d {count = dataLength g} {mtu = s .mtu} refl refl e t
                 (go-passes s memory p g t now lt {c = c} {room = s .room} refl refl (ltb-true (s .room) (c .held + dataLength g) h) (record { answer = refl; drop = refl; state = refl })))
-                (sym (flow-passes (s .mtu) (s .room) g (stream.dataOf p g) d e t held-so-far (c .held) holds h))
+                (sym (flow-passes (s .mtu) (s .room) g (streamRoom.dataOf p g) d e t held-so-far (c .held) holds h))
                 (sim-closing (some held-so-far) 9 (lt-ltb i 16 lt))
 
             module _ (h : ltb (s .room) (c .held + dataLength g) ≡ false) where
@@ -205,18 +206,18 @@ module _ (flows : List Flow) (s : State) (memory p : List ℕ) (g : Segment) (ok
               sim-11 : wrongLength g (c .held + dataLength g) ≡ true → Stepped (some held-so-far)
               unfolding flowContext stream.refusedClosing
               sim-11 w =
-                  subst₂ (λ (j : stream.Joined) (x : Outcome). Sim flows s memory g j x)
+                  subst₂ (λ (j : streamRoom.Joined) (x : Outcome). Sim flows s memory g j x)
                   (step-continues s memory p g d {count = dataLength g} {mtu = s .mtu} refl refl e t
                   (go-differs s memory p g t now lt {c = c} {room = s .room} refl refl fits w (record { answer = refl; drop = refl; state = refl })))
-                  (sym (flow-differs (s .mtu) (s .room) g (stream.dataOf p g) d e t held-so-far (c .held) holds h w))
+                  (sym (flow-differs (s .mtu) (s .room) g (streamRoom.dataOf p g) d e t held-so-far (c .held) holds h w))
                   (sim-closing (some held-so-far) 11 (lt-ltb i 16 lt))
 
               sim-joins : wrongLength g (c .held + dataLength g) ≡ false → Stepped (some held-so-far)
               unfolding flowContext
               sim-joins w =
-                  subst₂ (λ (j : stream.Joined) (x : Outcome). Sim flows s memory g j x)
+                  subst₂ (λ (j : streamRoom.Joined) (x : Outcome). Sim flows s memory g j x)
                   (step-continues s memory p g d {count = dataLength g} {mtu = s .mtu} refl refl e t (go-placed s memory p g t now lt {c = c} {room = s .room} refl refl fits w refl))
-                  (sym (flow-joins (s .mtu) (s .room) g (stream.dataOf p g) d e t held-so-far (c .held) holds h w))
+                  (sym (flow-joins (s .mtu) (s .room) g (streamRoom.dataOf p g) d e t held-so-far (c .held) holds h w))
                   (sim-placed i (c .held) (c .stream) false (own-mine flows (s .room) (s .streams) memory ok (g .flow)) lt fits)
 
             sim-continues : Stepped (some held-so-far)

@@ -9,10 +9,11 @@ use Rattle.answers.specs.Answers as answers
 use Rattle.wire.specs.declared.Flow.{Flow}
 use Rattle.wire.specs.declared.Parsed.{Parsed}
 use Rattle.wire.specs.declared.Parsed.the-variants.{Refused, Stream, Message}
-use Rattle.wire.specs.Type9.{sameFlow, segmentOf, badMTU}
+use Rattle.wire.specs.Type9.{sameFlow, segmentOf}
+use Rattle.sizes.specs.Sizes.{badMTU}
 use Rattle.wire.specs.Parsed.{parsed}
 use Rattle.refusal19.specs.Refusal19.{badRoom}
-use Rattle.streams.specs.Joining.{dataOf}
+use Rattle.stream_rooms.specs.Placing.{dataOf}
 use Rattle.flows.specs.OneFlow.{PDU, pdu, Told, held, delivered, refused, flowStep}
 use Rattle.flows.specs.Board.{Board, Delivery, delivery, inRoom, read, after, Lends, freshBoard}
 use Rattle.flows.specs.ByFlow.{among, AreBytes}
