@@ -1,6 +1,5 @@
 -- The starred examples of document 01, in its order and with its numbers ('Examples to hold it to'). MTU 32.
 use Prim.Native.Nat.{ℕ, zero, suc}
-use mathlib.Core.Path.{_≡_}
 use mathlib.Core.List.{List, [], _∷_, _++_}
 use lib.ListN.{take, drop, replicate}
 use Rattle.answers.specs.Answers.{held, delivered, message, refused}
@@ -89,7 +88,3 @@ examples =
 -- every example comes out as the paper says
 abbrev pub ExamplesHold : Type 0
 ExamplesHold = AllHold examples
-
--- The two packets that arrive in example 9 are, byte for byte, those of a board that sends the joint itself: no reader of them can tell the two apart.
-abbrev pub JointLooksSent : Type 0
-JointLooksSent = take 1 twoPDUs ++ drop 3 twoPDUs ≡ cut (heading 2 7) 32 joint
