@@ -1,5 +1,5 @@
--- The impostors of document 01 ('How far a promise reaches'): endpoints that keep many a rule and no demand. Each breaks the demand that
--- the paper names, already on one PDU of 40 bytes that is sent whole to a fresh board (two PDUs where one could be guessed).
+-- The impostors of document 01 ('How far a promise reaches'): endpoints that keep many a rule and cheat. Each breaks the demand that the
+-- paper names, already on one PDU of 40 bytes that is sent whole to a fresh board (two PDUs where one could be guessed).
 use Prim.Native.Nat.{ℕ}
 use mathlib.Core.Path.{_≡_}
 use mathlib.Core.List.{List, [], _∷_, _++_}
