@@ -1,0 +1,213 @@
+-- A segment that the writer cuts is read as itself. By cases on S and E, since only a continuation has no field.
+use Prim.Native.Nat.{ℕ, zero, suc, _+_, _-_, _*_, _/_, _%_, _≤_, _<_}
+use mathlib.Core.Path.{_≡_, refl, sym, ap, _∙_, subst}
+use mathlib.Core.List.{List, [], _∷_, _++_}
+use mathlib.Core.Bool.{Bool, true, false, cond, not, _||_}
+use native.Mathlib.Omega.{arith}
+use lib.ListN.{length, take, drop, getD, length-append}
+use lib.Seq.{take-append-seam, getD-append-seam}
+use lib.Dec.{eqb, ltb}
+use borrow.Author.Tests.{eqb-true, eqb-false, eq-eqb, ne-eqb, le-ltb}
+use Rattle.lists.specs.Bytes.{byte, word, high, low}
+use Rattle.wire.specs.Packet.{bit, packetType, destination, tt as ttOf}
+use Rattle.wire.specs.declared.Flow.{Flow}
+use Rattle.wire.specs.declared.Segment.{Segment}
+use Rattle.wire.specs.declared.Parsed.{Parsed}
+use Rattle.wire.specs.declared.Parsed.the-variants.{Stream}
+use Rattle.wire.specs.Type9.{isS, isE, xh, segmentAt, segmentOf, pduLength, dataLength}
+use Rattle.wire.specs.Parsed.{parsed, parsedByType, parsedStream, parsedFielded}
+use Rattle.wire.proofs.Forms.{with-field, without-field}
+use Rattle.rules.specs.Segments.{malformed}
+use Rattle.streams.specs.Joining as joining
+use Rattle.segments.specs.declared.Heading.{Heading}
+use Rattle.segments.specs.Cutting.{segmentCount, dataOf, isFirst, isFinal, padOf, flagsOf, fieldOf, packetOf}
+use Rattle.flows.specs.ByFlow.{AreBytes}
+use Rattle.sending.specs.Segment.{cutSegment, flowOf, segmentFor, InRange, Cuttable, ReadsAs, SegmentsReadBack}
+
+-- ---- Numbers
+
+-- byte 0 of priority q
+record FirstByte (q x : ℕ) : Type 0 where
+  of-tt : x / 16 % 4 ≡ 1
+  of-type : x % 16 ≡ 9
+  of-priority : x / 64 ≡ q
+  is-byte : x < 256
+
+first-byte : (q : ℕ) → q ≤ 3 → FirstByte q (q * 64 + 16 + 9)
+first-byte q h = omega arith
+
+-- two bytes of a number
+two-bytes : (n : ℕ) → n < 65536 → high n * 256 + low n ≡ n
+two-bytes n h = omega arith
+
+two-bytes-mod : (n : ℕ) → high n * 256 + low n ≡ n % 65536
+two-bytes-mod n = omega arith
+
+-- byte 6
+record Flags (first final odd pad : Bool) (x : ℕ) : Type 0 where
+  of-S : bit x 128 ≡ first
+  of-E : bit x 64 ≡ final
+  of-xh : bit x 4 ≡ false
+  of-O : bit x 2 ≡ odd
+  of-P : bit x 1 ≡ pad
+  reserved : x / 8 % 8 ≡ 0
+  is-byte : ltb x 256 ≡ true
+
+all-flags : (first final odd pad : Bool) → Flags first final odd pad (cond first 128 0 + cond final 64 0 + cond odd 2 0 + cond pad 1 0)
+all-flags true true true true = record { of-S = refl; of-E = refl; of-xh = refl; of-O = refl; of-P = refl; reserved = refl; is-byte = refl }
+all-flags true true true false = record { of-S = refl; of-E = refl; of-xh = refl; of-O = refl; of-P = refl; reserved = refl; is-byte = refl }
+all-flags true true false true = record { of-S = refl; of-E = refl; of-xh = refl; of-O = refl; of-P = refl; reserved = refl; is-byte = refl }
+all-flags true true false false = record { of-S = refl; of-E = refl; of-xh = refl; of-O = refl; of-P = refl; reserved = refl; is-byte = refl }
+all-flags true false true true = record { of-S = refl; of-E = refl; of-xh = refl; of-O = refl; of-P = refl; reserved = refl; is-byte = refl }
+all-flags true false true false = record { of-S = refl; of-E = refl; of-xh = refl; of-O = refl; of-P = refl; reserved = refl; is-byte = refl }
+all-flags true false false true = record { of-S = refl; of-E = refl; of-xh = refl; of-O = refl; of-P = refl; reserved = refl; is-byte = refl }
+all-flags true false false false = record { of-S = refl; of-E = refl; of-xh = refl; of-O = refl; of-P = refl; reserved = refl; is-byte = refl }
+all-flags false true true true = record { of-S = refl; of-E = refl; of-xh = refl; of-O = refl; of-P = refl; reserved = refl; is-byte = refl }
+all-flags false true true false = record { of-S = refl; of-E = refl; of-xh = refl; of-O = refl; of-P = refl; reserved = refl; is-byte = refl }
+all-flags false true false true = record { of-S = refl; of-E = refl; of-xh = refl; of-O = refl; of-P = refl; reserved = refl; is-byte = refl }
+all-flags false true false false = record { of-S = refl; of-E = refl; of-xh = refl; of-O = refl; of-P = refl; reserved = refl; is-byte = refl }
+all-flags false false true true = record { of-S = refl; of-E = refl; of-xh = refl; of-O = refl; of-P = refl; reserved = refl; is-byte = refl }
+all-flags false false true false = record { of-S = refl; of-E = refl; of-xh = refl; of-O = refl; of-P = refl; reserved = refl; is-byte = refl }
+all-flags false false false true = record { of-S = refl; of-E = refl; of-xh = refl; of-O = refl; of-P = refl; reserved = refl; is-byte = refl }
+all-flags false false false false = record { of-S = refl; of-E = refl; of-xh = refl; of-O = refl; of-P = refl; reserved = refl; is-byte = refl }
+
+flags-of : (first final : Bool) (n : ℕ) → Flags first final (eqb ((n + 1) / 2 % 2) 1) (eqb (n % 2) 1) (flagsOf first final n)
+unfolding flagsOf
+flags-of first final n = all-flags first final (eqb ((n + 1) / 2 % 2) 1) (eqb (n % 2) 1)
+
+length-pad : (n : ℕ) → length (padOf n) ≡ n % 2
+unfolding padOf
+length-pad n = go (eqb (n % 2) 1) refl
+  where
+    go : (b : Bool) → eqb (n % 2) 1 ≡ b → length {A = ℕ} (cond b (0 ∷ []) []) ≡ n % 2
+    go true e = sym (eqb-true (n % 2) 1 e)
+    go false e = let ne = eqb-false (n % 2) 1 e in omega arith
+
+pdu-length-back : (size : ℕ) → 1 ≤ size → size ≤ 65536 → pduLength (size % 65536) ≡ size
+unfolding pduLength
+pdu-length-back size some most = go (eqb (size % 65536) 0) refl
+  where
+    go : (b : Bool) → eqb (size % 65536) 0 ≡ b → cond b 65536 (size % 65536) ≡ size
+    go true e = let z = eqb-true (size % 65536) 0 e in omega arith
+    go false e = let ne = eqb-false (size % 65536) 0 e in omega arith
+
+-- ---- Bytes
+
+pub no-bytes : AreBytes []
+no-bytes i = omega arith
+
+pub bytes-cons : (x : ℕ) (xs : List ℕ) → x < 256 → AreBytes xs → AreBytes (x ∷ xs)
+bytes-cons x xs h t zero = h
+bytes-cons x xs h t (suc i) = t i
+
+bytes-append : (a b : List ℕ) → AreBytes a → AreBytes b → AreBytes (a ++ b)
+bytes-append [] b h t = t
+bytes-append (x ∷ xs) b h t = bytes-cons x (xs ++ b) (h 0) (bytes-append xs b (λ i. h (suc i)) t)
+
+bytes-take : (n : ℕ) (l : List ℕ) → AreBytes l → AreBytes (take n l)
+bytes-take zero l h = no-bytes
+bytes-take (suc n) [] h = no-bytes
+bytes-take (suc n) (x ∷ xs) h = bytes-cons x (take n xs) (h 0) (bytes-take n xs (λ i. h (suc i)))
+
+bytes-drop : (n : ℕ) (l : List ℕ) → AreBytes l → AreBytes (drop n l)
+bytes-drop zero l h = h
+bytes-drop (suc n) [] h = no-bytes
+bytes-drop (suc n) (x ∷ xs) h = bytes-drop n xs (λ i. h (suc i))
+
+pub bytes-data : (mtu : ℕ) (pdu : List ℕ) (k : ℕ) → AreBytes pdu → AreBytes (dataOf mtu pdu k)
+unfolding dataOf
+bytes-data mtu pdu k h = bytes-take mtu (drop (k * mtu) pdu) (bytes-drop (k * mtu) pdu h)
+
+bytes-pad : (n : ℕ) → AreBytes (padOf n)
+unfolding padOf
+bytes-pad n = go (eqb (n % 2) 1)
+  where
+    go : (b : Bool) → AreBytes (cond b (0 ∷ []) [])
+    go true = bytes-cons 0 [] (omega arith) no-bytes
+    go false = no-bytes
+
+bytes-field : (first final : Bool) (stream size : ℕ) → AreBytes (fieldOf first final stream size)
+unfolding fieldOf
+bytes-field true final stream size = bytes-cons (high stream) (low stream ∷ []) (omega arith) (bytes-cons (low stream) [] (omega arith) no-bytes)
+bytes-field false true stream size = bytes-cons (high size) (low size ∷ []) (omega arith) (bytes-cons (low size) [] (omega arith) no-bytes)
+bytes-field false false stream size = no-bytes
+
+-- ---- A packet with these flags and data
+
+abbrev shape : Heading → (first final : Bool) → (size : ℕ) → List ℕ → List ℕ
+shape h first final size bytes =
+    (h .priority * 64 + 0b01 * 16 + 9)
+    ∷ high (h .destination) ∷ low (h .destination)
+    ∷ high (h .source) ∷ low (h .source)
+    ∷ h .cos
+    ∷ flagsOf first final (length bytes)
+    ∷ (fieldOf first final (h .stream) size ++ bytes ++ padOf (length bytes))
+
+abbrev segment : Heading → (first final : Bool) → (size : ℕ) → List ℕ → Segment
+segment h first final size bytes = cutSegment (flowOf h) first final (h .stream) size (length bytes)
+
+-- two segments are equal by their fields
+by-fields : (b b′ e e′ o o′ q q′ : Bool) (s s′ c c′ f f′ from r r′ : ℕ)
+    → b ≡ b′ → e ≡ e′ → s ≡ s′ → c ≡ c′ → f ≡ f′ → r ≡ r′ → o ≡ o′ → q ≡ q′
+    → _≡_ {A = Segment}
+      (record { begins = b; ends = e; flow = record { source = s; cos = c }; field = f; from = from; raw = r; odd = o; pad = q })
+      (record { begins = b′; ends = e′; flow = record { source = s′; cos = c′ }; field = f′; from = from; raw = r′; odd = o′; pad = q′ })
+by-fields b b′ e e′ o o′ q q′ s s′ c c′ f f′ from r r′ eb ee es ec ef er eo eq = rw (eb, ee, es, ec, ef, er, eo, eq)
+
+-- the data and the pad
+length-tail : (bytes : List ℕ) → length (bytes ++ padOf (length bytes)) ≡ length bytes + length bytes % 2
+length-tail bytes = length-append bytes (padOf (length bytes)) ∙ ap (λ (x : ℕ). length bytes + x) (length-pad (length bytes))
+
+module _ (h : Heading) (range : InRange h) (size : ℕ) (bytes : List ℕ) where
+  -- read, it is the segment
+  is-segment : (first final : Bool) → segmentOf (shape h first final size bytes) ≡ segment h first final size bytes
+  unfolding segmentAt fieldOf
+  is-segment true final =
+      let fl = flags-of true final (length bytes) in
+      let t = length-tail bytes in
+      with-field (shape h true final size bytes) (rw (fl .of-S))
+      ∙ by-fields _ _ _ _ _ _ _ _ _ _ _ _ _ _ _ _ _ (fl .of-S) (fl .of-E) (two-bytes (h .source) (range .source)) refl (two-bytes (h .stream) (range .stream)) (omega arith) (fl .of-O) (fl .of-P)
+  is-segment false true =
+      let fl = flags-of false true (length bytes) in
+      let t = length-tail bytes in
+      with-field (shape h false true size bytes) (rw (fl .of-S, fl .of-E))
+      ∙ by-fields _ _ _ _ _ _ _ _ _ _ _ _ _ _ _ _ _ (fl .of-S) (fl .of-E) (two-bytes (h .source) (range .source)) refl (two-bytes-mod size) (omega arith) (fl .of-O) (fl .of-P)
+  is-segment false false =
+      let fl = flags-of false false (length bytes) in
+      let t = length-tail bytes in
+      without-field (shape h false false size bytes) (fl .of-S) (fl .of-E)
+      ∙ by-fields _ _ _ _ _ _ _ _ _ _ _ _ _ _ _ _ _ (fl .of-S) (fl .of-E) (two-bytes (h .source) (range .source)) refl refl (omega arith) (fl .of-O) (fl .of-P)
+
+  -- rows 1 to 5 pass it
+  with-S-or-E : (first final : Bool) → 9 ≤ length (shape h first final size bytes) → (first || final) ≡ true
+      → parsedStream (shape h first final size bytes) ≡ Stream (segmentOf (shape h first final size bytes))
+  unfolding parsedStream parsedFielded
+  with-S-or-E true final long e =
+      let fl = flags-of true final (length bytes) in
+      rw (fl .of-xh, fl .of-S, le-ltb _ 9 long)
+  with-S-or-E false true long e =
+      let fl = flags-of false true (length bytes) in
+      rw (fl .of-xh, fl .of-S, fl .of-E, le-ltb _ 9 long)
+  with-S-or-E false false long e = absurd (let z : _≡_ {A = ℕ} 0 1 = cc in omega arith)
+
+  by-stream : (first final : Bool) → parsedStream (shape h first final size bytes) ≡ Stream (segmentOf (shape h first final size bytes))
+  unfolding parsedStream fieldOf
+  by-stream true final = with-S-or-E true final (omega arith) refl
+  by-stream false true = with-S-or-E false true (omega arith) refl
+  by-stream false false =
+      let fl = flags-of false false (length bytes) in
+      rw (fl .of-xh, fl .of-S, fl .of-E)
+
+  is-parsed : (first final : Bool) → parsed (h .destination) (shape h first final size bytes) ≡ Stream (segment h first final size bytes)
+  unfolding parsed parsedByType
+  is-parsed first final =
+      let f = first-byte (h .priority) (range .priority) in
+      let long : 7 ≤ length (shape h first final size bytes) = omega arith in
+      rw (
+        le-ltb (length (shape h first final size bytes)) 5 (omega arith),
+        eq-eqb (ttOf (shape h first final size bytes)) 1 (f .of-tt),
+        eq-eqb (destination (shape h first final size bytes)) (h .destination) (two-bytes (h .destination) (range .destination)),
+        eq-eqb (packetType (shape h first final size bytes)) 9 (f .of-type),
+        le-ltb (length (shape h first final size bytes)) 7 long,
+        by-stream first final,
+      ) (ap Stream (is-segment first final))
