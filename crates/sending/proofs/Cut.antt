@@ -7,20 +7,21 @@ use native.Mathlib.Omega.{arith}
 use lib.ListN.{length, take, drop, getD, length-append}
 use lib.Seq.{take-append-seam, getD-append-seam}
 use lib.Dec.{eqb, ltb}
-use borrow.Author.Tests.{eqb-true, eqb-false, eq-eqb, ne-eqb, le-ltb}
+use borrow.Author.Tests.{ltb-true, eqb-true, eqb-false, eq-eqb, ne-eqb, le-ltb}
 use Rattle.lists.specs.Bytes.{byte, word, high, low}
 use Rattle.wire.specs.Packet.{bit, packetType, destination, tt as ttOf}
 use Rattle.wire.specs.declared.Flow.{Flow}
 use Rattle.wire.specs.declared.Segment.{Segment}
 use Rattle.wire.specs.declared.Parsed.{Parsed}
 use Rattle.wire.specs.declared.Parsed.the-variants.{Stream}
-use Rattle.wire.specs.Type9.{isS, isE, xh, segmentAt, segmentOf, pduLength, dataLength}
+use Rattle.wire.specs.Type9.{badMTU, isS, isE, xh, segmentAt, segmentOf, pduLength, dataLength}
 use Rattle.wire.specs.Parsed.{parsed, parsedByType, parsedStream, parsedFielded}
 use Rattle.wire.proofs.Forms.{with-field, without-field}
 use Rattle.rules.specs.Segments.{malformed}
 use Rattle.streams.specs.Joining as joining
 use Rattle.segments.specs.declared.Heading.{Heading}
 use Rattle.segments.specs.Cutting.{segmentCount, dataOf, isFirst, isFinal, padOf, flagsOf, fieldOf, packetOf}
+use Rattle.segments.proofs.Sizes.{good-mtu, begins, length-data}
 use Rattle.flows.specs.ByFlow.{AreBytes}
 use Rattle.sending.specs.Segment.{cutSegment, flowOf, segmentFor, InRange, Cuttable, ReadsAs, SegmentsReadBack}
 
@@ -83,6 +84,16 @@ length-pad n = go (eqb (n % 2) 1) refl
     go true e = sym (eqb-true (n % 2) 1 e)
     go false e = let ne = eqb-false (n % 2) 1 e in omega arith
 
+pad-zero : (n : ℕ) → eqb (n % 2) 1 ≡ true → padOf n ≡ 0 ∷ []
+unfolding padOf
+pad-zero n e = rw e
+
+-- the byte at the end
+last-zero : (l : List ℕ) → byte (l ++ (0 ∷ [])) (length (l ++ (0 ∷ [])) - 1) ≡ 0
+last-zero l =
+    let e : length (l ++ (0 ∷ [])) - 1 ≡ length l = omega (arith, length-append l (0 ∷ [])) in
+    rw e (getD-append-seam l 0 [] 0)
+
 pdu-length-back : (size : ℕ) → 1 ≤ size → size ≤ 65536 → pduLength (size % 65536) ≡ size
 unfolding pduLength
 pdu-length-back size some most = go (eqb (size % 65536) 0) refl
@@ -99,6 +110,16 @@ no-bytes i = omega arith
 pub bytes-cons : (x : ℕ) (xs : List ℕ) → x < 256 → AreBytes xs → AreBytes (x ∷ xs)
 bytes-cons x xs h t zero = h
 bytes-cons x xs h t (suc i) = t i
+
+bytes-seven : (a b c d e f g : ℕ) (l : List ℕ) → a < 256 → b < 256 → c < 256 → d < 256 → e < 256 → f < 256 → g < 256 → AreBytes l → AreBytes (a ∷ b ∷ c ∷ d ∷ e ∷ f ∷ g ∷ l)
+bytes-seven a b c d e f g l ha hb hc hd he hf hg t =
+    bytes-cons a (b ∷ c ∷ d ∷ e ∷ f ∷ g ∷ l) ha
+    (bytes-cons b (c ∷ d ∷ e ∷ f ∷ g ∷ l) hb
+    (bytes-cons c (d ∷ e ∷ f ∷ g ∷ l) hc
+    (bytes-cons d (e ∷ f ∷ g ∷ l) hd
+    (bytes-cons e (f ∷ g ∷ l) he
+    (bytes-cons f (g ∷ l) hf
+    (bytes-cons g l hg t))))))
 
 bytes-append : (a b : List ℕ) → AreBytes a → AreBytes b → AreBytes (a ++ b)
 bytes-append [] b h t = t
@@ -158,6 +179,26 @@ by-fields b b′ e e′ o o′ q q′ s s′ c c′ f f′ from r r′ eb ee es 
 length-tail : (bytes : List ℕ) → length (bytes ++ padOf (length bytes)) ≡ length bytes + length bytes % 2
 length-tail bytes = length-append bytes (padOf (length bytes)) ∙ ap (λ (x : ℕ). length bytes + x) (length-pad (length bytes))
 
+-- the data without the pad
+pub cut-length : (flow : Flow) (first final : Bool) (stream size n : ℕ) → dataLength (cutSegment flow first final stream size n) ≡ n
+unfolding dataLength
+cut-length flow first final stream size n = go (eqb (n % 2) 1) refl
+  where
+    go : (b : Bool) → eqb (n % 2) 1 ≡ b → cond b (n + n % 2 - 1) (n + n % 2) ≡ n
+    go true e = let z = eqb-true (n % 2) 1 e in omega arith
+    go false e = let ne = eqb-false (n % 2) 1 e in omega arith
+
+-- row 6 passes it
+pub cut-well-formed : (flow : Flow) (first final : Bool) (stream size n : ℕ) → 0 < n → malformed (cutSegment flow first final stream size n) ≡ false
+unfolding malformed
+cut-well-formed flow first final stream size n some =
+    let half : (n + n % 2) / 2 ≡ (n + 1) / 2 = omega arith in
+    rw (ne-eqb (n + n % 2) 0 (λ e. omega arith), ne-eqb ((n + n % 2) % 2) 1 (λ e. omega arith), half) (go (eqb ((n + 1) / 2 % 2) 1))
+  where
+    go : (b : Bool) → cond b (not b) b ≡ false
+    go true = refl
+    go false = refl
+
 module _ (h : Heading) (range : InRange h) (size : ℕ) (bytes : List ℕ) where
   -- read, it is the segment
   is-segment : (first final : Bool) → segmentOf (shape h first final size bytes) ≡ segment h first final size bytes
@@ -211,3 +252,63 @@ module _ (h : Heading) (range : InRange h) (size : ℕ) (bytes : List ℕ) where
         le-ltb (length (shape h first final size bytes)) 7 long,
         by-stream first final,
       ) (ap Stream (is-segment first final))
+
+  -- its data
+  is-data : (first final : Bool) → joining.dataOf (shape h first final size bytes) (segment h first final size bytes) ≡ bytes
+  unfolding fieldOf
+  is-data first final =
+      ap (λ (n : ℕ). take n (drop (cond (first || final) 9 7) (shape h first final size bytes))) (cut-length (flowOf h) first final (h .stream) size (length bytes))
+      ∙ go first final
+    where
+      go : (first final : Bool) → take (length bytes) (drop (cond (first || final) 9 7) (shape h first final size bytes)) ≡ bytes
+      go true final = take-append-seam bytes (padOf (length bytes))
+      go false true = take-append-seam bytes (padOf (length bytes))
+      go false false = take-append-seam bytes (padOf (length bytes))
+
+  -- its last byte, where it has a pad
+  is-pad : (first final : Bool) → eqb (length bytes % 2) 1 ≡ true → byte (shape h first final size bytes) (length (shape h first final size bytes) - 1) ≡ 0
+  is-pad first final e =
+      subst (λ (pad : List ℕ). byte (front ++ bytes ++ pad) (length (front ++ bytes ++ pad) - 1) ≡ 0) (sym (pad-zero (length bytes) e)) (last-zero (front ++ bytes))
+    where
+      front : List ℕ
+      front =
+          (h .priority * 64 + 0b01 * 16 + 9)
+          ∷ high (h .destination) ∷ low (h .destination)
+          ∷ high (h .source) ∷ low (h .source)
+          ∷ h .cos
+          ∷ flagsOf first final (length bytes)
+          ∷ fieldOf first final (h .stream) size
+
+  -- every entry is a byte
+  is-bytes : (first final : Bool) → AreBytes bytes → AreBytes (shape h first final size bytes)
+  is-bytes first final all =
+      let f = first-byte (h .priority) (range .priority) in
+      let fl = flags-of first final (length bytes) in
+      let tail = bytes-append (fieldOf first final (h .stream) size ++ bytes) (padOf (length bytes)) (bytes-append (fieldOf first final (h .stream) size) bytes (bytes-field first final (h .stream) size) all) (bytes-pad (length bytes)) in
+      bytes-seven (h .priority * 64 + 16 + 9) (high (h .destination)) (low (h .destination)) (high (h .source)) (low (h .source)) (h .cos) (flagsOf first final (length bytes))
+      (fieldOf first final (h .stream) size ++ bytes ++ padOf (length bytes))
+      (f .is-byte) (omega arith) (omega arith) (omega arith) (omega arith) (range .cos) (ltb-true _ 256 (fl .is-byte)) tail
+
+-- a segment that the PDU has holds a byte
+pub some-data : (mtu : ℕ) (pdu : List ℕ) (k : ℕ) → badMTU mtu ≡ false → k < segmentCount mtu (length pdu) → 0 < length (dataOf mtu pdu k)
+some-data mtu pdu k allowed below =
+    let m = good-mtu mtu allowed in
+    let b : k * mtu < length pdu = begins mtu (length pdu) k (omega arith) below in
+    rw length-data (omega arith)
+
+pub segments-read-back : SegmentsReadBack
+unfolding packetOf
+segments-read-back h mtu pdu k c =
+    let bytes : List ℕ = dataOf mtu pdu k in
+    let fl = flags-of (isFirst k) (isFinal mtu pdu k) (length bytes) in
+    record {
+      read = is-parsed h (c .heading) (length pdu) bytes (isFirst k) (isFinal mtu pdu k);
+      priority = first-byte (h .priority) (c .heading .priority) .of-priority;
+      well-formed = cut-well-formed (flowOf h) (isFirst k) (isFinal mtu pdu k) (h .stream) (length pdu) (length bytes) (some-data mtu pdu k (c .allowed) (c .segment));
+      length-of-data = cut-length (flowOf h) (isFirst k) (isFinal mtu pdu k) (h .stream) (length pdu) (length bytes);
+      data-of = is-data h (c .heading) (length pdu) bytes (isFirst k) (isFinal mtu pdu k);
+      pdu-length = λ e e′. rw (e, e′) (pdu-length-back (length pdu) (c .some-byte) (c .size));
+      reserved = fl .reserved;
+      pad = is-pad h (c .heading) (length pdu) bytes (isFirst k) (isFinal mtu pdu k);
+      are-bytes = is-bytes h (c .heading) (length pdu) bytes (isFirst k) (isFinal mtu pdu k) (bytes-data mtu pdu k (c .bytes));
+    }
