@@ -94,7 +94,7 @@ last-zero l =
     let e : length (l ++ (0 ∷ [])) - 1 ≡ length l = omega (arith, length-append l (0 ∷ [])) in
     rw e (getD-append-seam l 0 [] 0)
 
-pdu-length-back : (size : ℕ) → 1 ≤ size → size ≤ 65536 → pduLength (size % 65536) ≡ size
+pub pdu-length-back : (size : ℕ) → 1 ≤ size → size ≤ 65536 → pduLength (size % 65536) ≡ size
 unfolding pduLength
 pdu-length-back size some most = go (eqb (size % 65536) 0) refl
   where
@@ -295,6 +295,11 @@ some-data mtu pdu k allowed below =
     let m = good-mtu mtu allowed in
     let b : k * mtu < length pdu = begins mtu (length pdu) k (omega arith) below in
     rw length-data (omega arith)
+
+-- the segment of a packet that the writer cuts
+pub segment-of-cut : (h : Heading) (mtu : ℕ) (pdu : List ℕ) (k : ℕ) → InRange h → segmentOf (packetOf h mtu pdu k) ≡ segmentFor h mtu pdu k
+unfolding packetOf
+segment-of-cut h mtu pdu k range = is-segment h range (length pdu) (dataOf mtu pdu k) (isFirst k) (isFinal mtu pdu k)
 
 pub segments-read-back : SegmentsReadBack
 unfolding packetOf
