@@ -2,11 +2,13 @@
 use Prim.Native.Nat.{ℕ, zero, suc, min, _+_, _-_, _*_, _/_, _%_, _≤_, _<_}
 use mathlib.Core.Path.{_≡_, refl, sym, ap, _∙_, subst}
 use mathlib.Core.List.{List, [], _∷_, _++_}
-use mathlib.Core.Bool.{Bool, true, false, cond, not, _||_}
+use mathlib.Core.Bool.{Bool, true, false, cond, not, _||_, false≢true}
 use mathlib.Core.Option.{Option, none, some}
 use native.Mathlib.Omega.{arith}
-use native.Mathlib.Nat.{div-add-mod', mod-lt}
-use lib.ListN.{length, take, drop}
+use native.Mathlib.Nat.{div-add-mod', mod-lt, zero-mul, suc-mul, zero-add}
+use native.Mathlib.Decide.{decLe, ℕ-discrete}
+use lib.ListN.{length, take, drop, length-take}
+use lib.Seq.{take-add, take-all, length-take-le}
 use lib.Dec.{eqb, ltb}
 use borrow.Author.Tests.{eq-eqb, ne-eqb, le-ltb, lt-ltb}
 use Rattle.wire.specs.declared.Flow.{Flow}
@@ -190,3 +192,94 @@ module _ (device mtu R : ℕ) (flow : Flow) (ranges : Ranges device mtu R flow) 
           let l = length-data mtu bytes k in
           let more : k * mtu + mtu < length bytes = omega arith in
           (more, omega arith)
+
+  size-most : length bytes ≤ 65536
+  size-most = omega (arith, fair .fits, ranges .allowed-R)
+
+  -- how much data: at most MTU at the last, MTU at every other
+  data-fits : (k : ℕ) (final : Bool) → k < packetCount mtu s → isFinal mtu bytes k ≡ final → (0 < length (dataOf mtu bytes k)) × (final ≡ true → length (dataOf mtu bytes k) ≤ mtu) × (final ≡ false → length (dataOf mtu bytes k) ≡ mtu)
+  data-fits k final below e = go (ℕ-discrete (suc k) (packetCount mtu s))
+    where
+      go : Dec (suc k ≡ packetCount mtu s) → (0 < length (dataOf mtu bytes k)) × (final ≡ true → length (dataOf mtu bytes k) ≤ mtu) × (final ≡ false → length (dataOf mtu bytes k) ≡ mtu)
+      go (yes l) = let z = last-size k l in (omega arith, λ t. omega arith, λ t. absurd (false≢true (sym t ∙ sym e ∙ final-is k l)))
+      go (no n) = let z = inner-size k (omega arith) in let pos = mtu-pos in (omega arith, λ t. omega arith, λ t. omega arith)
+
+  -- what came up to packet k, and its data behind it
+  pub data-behind : (k : ℕ) → take (k * mtu) bytes ++ dataOf mtu bytes k ≡ take (suc k * mtu) bytes
+  unfolding dataOf
+  data-behind k = sym (ap (λ (n : ℕ). take n bytes) (suc-mul k mtu) ∙ take-add (k * mtu) mtu bytes)
+
+  pub data-first : dataOf mtu bytes 0 ≡ take (1 * mtu) bytes
+  unfolding dataOf
+  data-first = rw (zero-mul mtu, suc-mul 0 mtu, zero-mul mtu) (simp zero-add)
+
+  pub all-taken : (k : ℕ) → suc k ≡ packetCount mtu s → take (suc k * mtu) bytes ≡ bytes
+  all-taken k e = let z = last-size k e in take-all (suc k * mtu) bytes (omega arith)
+
+  pub at-single : (o : Option PDU) → 1 ≡ packetCount mtu s → packetStep mtu R o (packet 0) ≡ outcome none (delivered (s .pdu)) (isOpen o)
+  at-single o e =
+      let f = data-fits 0 true (omega arith) (final-is 0 e) in
+      step-is 0 true true o (omega arith) first-is (final-is 0 e)
+      ∙ step-single mtu R flow (s .pdu .stream) (length bytes) (dataOf mtu bytes 0) (f .0) o (f .1 refl)
+      ∙ ap (λ (l : List ℕ). outcome none (delivered (pdu (s .pdu .stream) l)) (isOpen o)) (data-first ∙ all-taken 0 e)
+
+  pub at-start : (o : Option PDU) → 1 < packetCount mtu s → packetStep mtu R o (packet 0) ≡ outcome (some (pdu (s .pdu .stream) (take (1 * mtu) bytes))) held (isOpen o)
+  at-start o h =
+      let f = data-fits 0 false (omega arith) (inner-is 0 h) in
+      step-is 0 true false o (omega arith) first-is (inner-is 0 h)
+      ∙ step-start mtu R flow (s .pdu .stream) (length bytes) (dataOf mtu bytes 0) (f .0) o (f .2 refl)
+      ∙ ap (λ (l : List ℕ). outcome (some (pdu (s .pdu .stream) l)) held (isOpen o)) data-first
+
+  pub at-inner : (k : ℕ) (p : PDU) → suc (suc k) < packetCount mtu s → length (p .bytes) + mtu ≤ R
+      → packetStep mtu R (some p) (packet (suc k)) ≡ outcome (some (pdu (p .stream) (p .bytes ++ dataOf mtu bytes (suc k)))) held false
+  at-inner k p h room =
+      let f = data-fits (suc k) false (omega arith) (inner-is (suc k) h) in
+      let full = f .2 refl in
+      step-is (suc k) false false (some p) (omega arith) (later-is k) (inner-is (suc k) h)
+      ∙ step-continuation mtu R flow (s .pdu .stream) (length bytes) (dataOf mtu bytes (suc k)) (f .0) p full (omega arith)
+
+  pub at-last : (k : ℕ) (p : PDU) → suc (suc k) ≡ packetCount mtu s → length (p .bytes) ≡ suc k * mtu
+      → packetStep mtu R (some p) (packet (suc k)) ≡ outcome none (delivered (pdu (p .stream) (p .bytes ++ dataOf mtu bytes (suc k)))) false
+  at-last k p e l =
+      let f = data-fits (suc k) true (omega arith) (final-is (suc k) e) in
+      let z = last-size (suc k) e in
+      step-is (suc k) false true (some p) (omega arith) (later-is k) (final-is (suc k) e)
+      ∙ step-end mtu R flow (s .pdu .stream) (length bytes) (dataOf mtu bytes (suc k)) (f .0) (fair .some-byte) size-most p (f .1 refl) (omega (arith, fair .fits)) (omega arith)
+
+  pub at-last-wrong : (k : ℕ) (p : PDU) → suc (suc k) ≡ packetCount mtu s → length (p .bytes) + length (dataOf mtu bytes (suc k)) ≤ R → (length (p .bytes) ≡ suc k * mtu → ⊥)
+      → packetStep mtu R (some p) (packet (suc k)) ≡ outcome none (refused 11) true
+  at-last-wrong k p e room ne =
+      let f = data-fits (suc k) true (omega arith) (final-is (suc k) e) in
+      let z = last-size (suc k) e in
+      step-is (suc k) false true (some p) (omega arith) (later-is k) (final-is (suc k) e)
+      ∙ step-end-wrong mtu R flow (s .pdu .stream) (length bytes) (dataOf mtu bytes (suc k)) (f .0) (fair .some-byte) size-most p (f .1 refl) room (λ t. ne (omega arith))
+
+  pub at-closed : (k : ℕ) → suc k < packetCount mtu s → packetStep mtu R none (packet (suc k)) ≡ outcome none (refused 8) false
+  at-closed k h = go (isFinal mtu bytes (suc k)) refl
+    where
+      go : (final : Bool) → isFinal mtu bytes (suc k) ≡ final → packetStep mtu R none (packet (suc k)) ≡ outcome none (refused 8) false
+      go final e =
+          let f = data-fits (suc k) final h e in
+          step-is (suc k) false final none h (later-is k) e
+          ∙ step-closed mtu R flow (s .pdu .stream) (length bytes) (dataOf mtu bytes (suc k)) (f .0) final (f .1) (f .2)
+
+  pub at-over : (k : ℕ) (p : PDU) → suc k < packetCount mtu s → R < length (p .bytes) + length (dataOf mtu bytes (suc k))
+      → packetStep mtu R (some p) (packet (suc k)) ≡ outcome none (refused 9) true
+  at-over k p h over = go (isFinal mtu bytes (suc k)) refl
+    where
+      go : (final : Bool) → isFinal mtu bytes (suc k) ≡ final → packetStep mtu R (some p) (packet (suc k)) ≡ outcome none (refused 9) true
+      go final e =
+          let f = data-fits (suc k) final h e in
+          step-is (suc k) false final (some p) h (later-is k) e
+          ∙ step-over mtu R flow (s .pdu .stream) (length bytes) (dataOf mtu bytes (suc k)) (f .0) p final (f .1) (f .2) over
+
+  -- an end or single leaves the flow closed, whatever came before
+  pub last-closes : (k : ℕ) (o : Option PDU) → suc k ≡ packetCount mtu s → packetStep mtu R o (packet k) .next ≡ none
+  last-closes zero o e = ap (λ (x : Outcome). x .next) (at-single o e)
+  last-closes (suc k) none e = ap (λ (x : Outcome). x .next) (at-closed k (omega arith))
+  last-closes (suc k) (some p) e = go (decLe (length (p .bytes) + length (dataOf mtu bytes (suc k))) R) (ℕ-discrete (length (p .bytes)) (suc k * mtu))
+    where
+      go : Dec (length (p .bytes) + length (dataOf mtu bytes (suc k)) ≤ R) → Dec (length (p .bytes) ≡ suc k * mtu) → packetStep mtu R (some p) (packet (suc k)) .next ≡ none
+      go (no over) d = ap (λ (x : Outcome). x .next) (at-over k p (omega arith) (omega arith))
+      go (yes room) (yes l) = ap (λ (x : Outcome). x .next) (at-last k p e l)
+      go (yes room) (no ne) = ap (λ (x : Outcome). x .next) (at-last-wrong k p e room ne)
