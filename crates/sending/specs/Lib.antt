@@ -1,3 +1,4 @@
 pub mod Segment
 pub mod Sending
 pub mod OneFlow
+pub mod Statements
