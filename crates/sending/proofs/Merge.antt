@@ -22,10 +22,9 @@ use Rattle.wire.specs.Parsed.{parsed, parsedByType}
 use Rattle.flows.specs.OneFlow.{PDU, Told, held, delivered, refused, Outcome}
 use Rattle.flows.specs.Board.{Board, Delivery, delivery, deliveredBy, read, after, room, view}
 use Rattle.flows.specs.ByFlow.{among, AreBytes, Tells, OwnFlow, NoFlow, ByFlow}
-use Rattle.sending.specs.Sending.{Sent, Put, flowPuts, FlowSent, Turn, next, message, Sending, sentOn, flowsOf, Event, put, sent, headOf, advance, events, queues, left, tell, wholes, packets, whole, deliveries, Each, FairPDU, Apart, FairFlow, FairTurn, FairAnyLoss, Fair}
+use Rattle.sending.specs.Sending.{Sent, Put, flowPuts, FlowSent, Turn, next, message, Sending, sentOn, flowsOf, Event, put, sent, headOf, advance, events, queues, left, tell, wholes, packets, whole, deliveries, Each, FairPDU, Apart, FairFlow, FairTurn, FairAnyLoss, Fair, Ranges}
 use Rattle.sending.specs.OneFlow.{packetStep, deliveredPDU}
 use Rattle.sending.specs.Statements.{Begins, DeliveredIsWhole, DeliveredIsWholeAnyLoss, firstTurns, DeliveredAtEveryTurn, SamePacketsSameWhole}
-use Rattle.sending.proofs.Steps.{Ranges}
 use Rattle.sending.proofs.OneFlow.{Proper, afterPut, seenAt, Good, one-flow}
 
 -- ---- Flows and messages

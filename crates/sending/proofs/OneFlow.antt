@@ -19,15 +19,15 @@ use Rattle.wire.specs.Parsed.{parsed}
 use Rattle.segments.specs.Cutting.{segmentCount, dataOf, isFinal, packetOf}
 use Rattle.flows.specs.OneFlow.{PDU, pdu, Told, held, delivered, refused, Outcome, outcome, isOpen}
 use Rattle.flows.specs.ByFlow.{AreBytes}
-use Rattle.sending.specs.Sending.{Sent, has, isLost, packetCount, lossesFrom, losses, isWhole, Put, headingOf, putOf, putsFrom, flowPuts, Each, FairPDU, Apart}
+use Rattle.sending.specs.Sending.{Sent, has, isLost, packetCount, lossesFrom, losses, isWhole, Put, headingOf, putOf, putsFrom, flowPuts, Each, FairPDU, Apart, Ranges}
 use Rattle.sending.specs.OneFlow.{packetStep, deliveredPDU}
-use Rattle.sending.proofs.Steps.{Ranges, mtu-pos, packet-read, packet-bytes, packet-flow, final-is, inner-is, some-packet, last-size, inner-size, data-behind, all-taken, at-single, at-start, at-inner, at-last, at-last-wrong, at-closed}
+use Rattle.sending.proofs.Steps.{mtu-pos, packet-read, packet-bytes, packet-flow, final-is, inner-is, some-packet, last-size, inner-size, data-behind, all-taken, at-single, at-start, at-inner, at-last, at-last-wrong, at-closed}
 
--- a packet that is put on is read, by its flow
-pub record Proper (device : ℕ) (flow : Flow) (x : Put) : Type 0 where
-  pub reads : parsed device (x .packet) ≡ Stream (segmentOf (x .packet))
-  pub of-flow : segmentOf (x .packet) .flow ≡ flow
-  pub bytes : AreBytes (x .packet)
+-- a packet that is read, and is of that flow
+pub record Proper (device : ℕ) (flow : Flow) (p : List ℕ) : Type 0 where
+  pub reads : parsed device p ≡ Stream (segmentOf p)
+  pub of-flow : segmentOf p .flow ≡ flow
+  pub bytes : AreBytes p
 
 module _ (mtu R : ℕ) where
   -- what the flow's endpoint has after a packet that is put on, and what it delivers: nothing happens where it is lost
@@ -40,7 +40,16 @@ module _ (mtu R : ℕ) where
 -- at each packet the endpoint delivers the PDU that is whole with it, and else none
 abbrev pub Good : (device mtu R : ℕ) → Flow → Option PDU → List Put → Type 0
 Good device mtu R flow o [] = Unit {0}
-Good device mtu R flow o (x ∷ xs) = Proper device flow x × (seenAt mtu R o x ≡ x .whole) × Good device mtu R flow (afterPut mtu R o x) xs
+Good device mtu R flow o (x ∷ xs) = Proper device flow (x .packet) × (seenAt mtu R o x ≡ x .whole) × Good device mtu R flow (afterPut mtu R o x) xs
+
+-- packet k is
+pub proper-packet : (device mtu R : ℕ) (flow : Flow) → Ranges device mtu R flow → (s : Sent) → FairPDU R s → (k : ℕ) → k < packetCount mtu s
+    → Proper device flow (packetOf (headingOf device flow s k) mtu (s .pdu .bytes) k)
+proper-packet device mtu R flow ranges s fair k below = record {
+  reads = packet-read device mtu R flow ranges s fair k below;
+  of-flow = packet-flow device mtu R flow ranges s fair k;
+  bytes = packet-bytes device mtu R flow ranges s fair k below;
+}
 
 module _ (device mtu R : ℕ) (flow : Flow) (ranges : Ranges device mtu R flow) (s : Sent) (fair : FairPDU R s) (more : List Put) where
   abbrev Good′ : Option PDU → List Put → Type 0
@@ -52,13 +61,9 @@ module _ (device mtu R : ℕ) (flow : Flow) (ranges : Ranges device mtu R flow) 
   abbrev put : ℕ → Put
   put k = putOf device mtu flow s k
 
-  proper : (k : ℕ) → k < packetCount mtu s → Proper device flow (put k)
+  proper : (k : ℕ) → k < packetCount mtu s → Proper device flow (put k .packet)
   unfolding putOf
-  proper k below = record {
-    reads = packet-read device mtu R flow ranges s fair k below;
-    of-flow = packet-flow device mtu R flow ranges s fair k;
-    bytes = packet-bytes device mtu R flow ranges s fair k below;
-  }
+  proper k below = proper-packet device mtu R flow ranges s fair k below
 
   -- packet k is lost, or it arrives
   put-lost : (k : ℕ) (o : Option PDU) (xs : List Put) → k < packetCount mtu s → isLost s k ≡ true → put k .whole ≡ none → Good′ o xs → Good′ o (put k ∷ xs)

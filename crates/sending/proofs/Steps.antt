@@ -24,7 +24,7 @@ use Rattle.segments.proofs.Sizes.{good-mtu, length-data}
 use Rattle.flows.specs.ByFlow.{AreBytes}
 use Rattle.flows.specs.OneFlow.{PDU, pdu, Told, held, delivered, refused, Outcome, outcome, isOpen, flowStep}
 use Rattle.sending.specs.Segment.{cutSegment, segmentFor, InRange, Cuttable, ReadsAs}
-use Rattle.sending.specs.Sending.{Sent, packetCount, headingOf, FairPDU}
+use Rattle.sending.specs.Sending.{Sent, packetCount, headingOf, FairPDU, Ranges}
 use Rattle.sending.specs.OneFlow.{packetStep}
 use Rattle.sending.proofs.Cut.{cut-length, cut-well-formed, pdu-length-back, segment-of-cut, segments-read-back}
 
@@ -90,14 +90,6 @@ module _ (mtu R : ℕ) (flow : Flow) (stream size : ℕ) (d : List ℕ) (some-by
         )
 
 -- ---- Packet k of a PDU
-
--- a number that all PDUs of a flow share is in its range
-pub record Ranges (device mtu R : ℕ) (flow : Flow) : Type 0 where
-  pub device-ID : device < 65536
-  pub allowed-MTU : badMTU mtu ≡ false
-  pub allowed-R : R ≤ 65536
-  pub source : flow .source < 65536
-  pub cos : flow .cos < 256
 
 -- the count is the size over the MTU, rounded up
 count-bounds : (mtu size : ℕ) → 0 < mtu → (segmentCount mtu size * mtu < size + mtu) × (size ≤ segmentCount mtu size * mtu)

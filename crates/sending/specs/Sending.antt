@@ -165,6 +165,14 @@ abbrev pub Each : {A : Type 0} → (A → Type 0) → List A → Type 0
 Each P [] = Unit {0}
 Each P (x ∷ xs) = P x × Each P xs
 
+-- what all PDUs of a flow share is in its range
+pub record Ranges (device mtu R : ℕ) (flow : Flow) : Type 0 where
+  pub device-ID : device < 65536
+  pub allowed-MTU : badMTU mtu ≡ false
+  pub allowed-R : R ≤ 65536
+  pub source : flow .source < 65536
+  pub cos : flow .cos < 256
+
 -- a PDU of 1 to R bytes
 pub record FairPDU (R : ℕ) (s : Sent) : Type 0 where
   pub stream : s .pdu .stream < 65536
