@@ -85,7 +85,7 @@ module _ (device mtu R : ℕ) (flow : Flow) (ranges : Ranges device mtu R flow) 
   unfolding putOf
   whole-last k e w = rw (final-is device mtu R flow ranges s fair k e, w)
 
-  whole-lossy : (k : ℕ) → isWhole mtu s ≡ false → put k .whole ≡ none
+  pub whole-lossy : (k : ℕ) → isWhole mtu s ≡ false → put k .whole ≡ none
   unfolding putOf
   whole-lossy k w = rw w (go (isFinal mtu (s .pdu .bytes) k))
     where

@@ -2,3 +2,4 @@ pub mod Segment
 pub mod Sending
 pub mod OneFlow
 pub mod Statements
+pub mod Joint
