@@ -9,7 +9,7 @@ use mathlib.Core.Bool.{Bool, true, false, cond, _&&_, false≢true}
 use mathlib.Core.Option.{Option, none, some}
 use native.Mathlib.Omega.{arith}
 use native.Mathlib.Decide.{decLe, ℕ-discrete}
-use native.Mathlib.Nat.{suc-mul, zero-mul, zero-add}
+use native.Mathlib.Nat.{suc-mul, one-mul}
 use lib.ListN.{length, take, drop, length-append, length-drop, take-append-drop}
 use lib.Seq.{length-take-le, take-all, drop-drop}
 use lib.Dec.{eqb, leb}
@@ -292,3 +292,85 @@ module _ (device mtu R : ℕ) (flow : Flow) (ranges : Ranges device mtu R flow) 
       go (no over) rest =
           gives-seen (suc k) (some p) none (refused 9) true (puts (suc (suc k)) (suc n)) (all-seen (suc k) (suc n) l .0) (at-over device mtu R flow ranges s fair k p (omega arith) (omega arith))
           ∙ gives-closed (suc n) (suc k) (omega arith)
+
+  -- after a flow left open with so many bytes, where its start is lost
+  gives-behind : (p : PDU) → losses mtu s ≡ 1 → isLost s 0 ≡ true → (n : ℕ) → suc (suc n) ≡ packetCount mtu s
+      → ((length (p .bytes) ≡ mtu → gives mtu R (some p) (puts 0 (packetCount mtu s)) ≡ pdu (p .stream) (p .bytes ++ drop mtu bytes) ∷ [])
+      × (mtu < length (p .bytes) → gives mtu R (some p) (puts 0 (packetCount mtu s)) ≡ []))
+  gives-behind p one lost n e =
+      let others : lossesFrom (s .lost) 1 (suc n) ≡ 0 = count-lost 0 (suc n) 0 lost (subst (λ (c : ℕ). lossesFrom (s .lost) 0 c ≡ 1) (sym e) one) in
+      let once : 1 * mtu ≡ mtu = one-mul mtu in
+      (λ full. subst (λ (c : ℕ). gives mtu R (some p) (puts 0 c) ≡ pdu (p .stream) (p .bytes ++ drop mtu bytes) ∷ []) e
+      (gives-lost 0 (some p) (puts 1 (suc n)) lost ∙ gives-joined n 0 p (omega arith) others (full ∙ sym once)
+      ∙ ap (λ (j : ℕ). pdu (p .stream) (p .bytes ++ drop j bytes) ∷ []) once),
+      λ long. subst (λ (c : ℕ). gives mtu R (some p) (puts 0 c) ≡ []) e
+      (gives-lost 0 (some p) (puts 1 (suc n)) lost ∙ gives-too-long n 0 p (omega arith) others (omega arith)))
+
+  gives-after : (p : PDU) → losses mtu s ≡ 1 → (first : Bool)
+      → (first ≡ true → length (p .bytes) ≡ mtu) → (first ≡ false → mtu < length (p .bytes))
+      → gives mtu R (some p) (puts 0 (packetCount mtu s)) ≡ cond (first && (leb 2 (packetCount mtu s) && isLost s 0)) (pdu (p .stream) (p .bytes ++ drop mtu bytes) ∷ []) []
+  gives-after p one first full long = go (isLost s 0) refl
+    where
+      off : (a b : Bool) → cond (a && (b && false)) (pdu (p .stream) (p .bytes ++ drop mtu bytes) ∷ []) [] ≡ []
+      off true true = refl
+      off true false = refl
+      off false b = refl
+
+      off′ : (a : Bool) → cond (a && false) (pdu (p .stream) (p .bytes ++ drop mtu bytes) ∷ []) [] ≡ []
+      off′ true = refl
+      off′ false = refl
+
+      several : (f : Bool) → (f ≡ true → length (p .bytes) ≡ mtu) → (f ≡ false → mtu < length (p .bytes)) → isLost s 0 ≡ true → (n : ℕ) → suc (suc n) ≡ packetCount mtu s
+          → gives mtu R (some p) (puts 0 (packetCount mtu s)) ≡ cond (f && true) (pdu (p .stream) (p .bytes ++ drop mtu bytes) ∷ []) []
+      several true full long lost n e = gives-behind p one lost n e .0 (full refl)
+      several false full long lost n e = gives-behind p one lost n e .1 (long refl)
+
+      by-count : (c : ℕ) → c ≡ packetCount mtu s → isLost s 0 ≡ true
+          → gives mtu R (some p) (puts 0 (packetCount mtu s)) ≡ cond (first && (leb 2 (packetCount mtu s) && true)) (pdu (p .stream) (p .bytes ++ drop mtu bytes) ∷ []) []
+      by-count zero e lost = absurd (omega (arith, some-packet device mtu R flow ranges s fair))
+      by-count (suc zero) e lost =
+          subst (λ (c : ℕ). gives mtu R (some p) (puts 0 c) ≡ cond (first && (leb 2 c && true)) (pdu (p .stream) (p .bytes ++ drop mtu bytes) ∷ []) []) e
+          (gives-lost 0 (some p) [] lost ∙ sym (off′ first))
+      by-count (suc (suc n)) e lost = rw (le-leb 2 (packetCount mtu s) (omega arith)) (several first full long lost n e)
+
+      go : (t : Bool) → isLost s 0 ≡ t
+          → gives mtu R (some p) (puts 0 (packetCount mtu s)) ≡ cond (first && (leb 2 (packetCount mtu s) && t)) (pdu (p .stream) (p .bytes ++ drop mtu bytes) ∷ []) []
+      go true t = by-count (packetCount mtu s) refl t
+      go false t = gives-nothing one (some p) (inr t) ∙ sym (off first (leb 2 (packetCount mtu s)))
+
+-- ---- The two together
+
+pub joint-exactly : JointExactly
+unfolding isJoint
+joint-exactly device mtu R flow a b pair =
+    gives-append mtu R putsA (putsB ++ []) none
+    ∙ ap (λ (x : List PDU). x ++ gives mtu R (leaves mtu R none putsA) (putsB ++ [])) (gives-nothing device mtu R flow (pair .ranges) a (pair .first-fair) (pair .first-loses) none (inl refl))
+    ∙ ap (gives mtu R (leaves mtu R none putsA)) (nil-right device mtu R flow (pair .ranges) b (pair .second-fair) putsB)
+    ∙ go (first-leaves device mtu R flow (pair .ranges) a (pair .first-fair) (pair .first-loses))
+  where
+    putsA : List Put
+    putsA = putsFrom device mtu flow a 0 (packetCount mtu a)
+
+    putsB : List Put
+    putsB = putsFrom device mtu flow b 0 (packetCount mtu b)
+
+    opens : (l : ℕ) → suc (suc l) ≡ packetCount mtu a → isLost a (suc l) ≡ true
+        → gives mtu R (some (pdu (a .pdu .stream) (take (suc l * mtu) (a .pdu .bytes)))) putsB ≡ cond (isJoint mtu a b) (jointPDU mtu a b ∷ []) []
+    opens zero e lost =
+        let size = inner-size device mtu R flow (pair .ranges) a (pair .first-fair) 0 (omega arith) in
+        let once : 1 * mtu ≡ mtu = one-mul mtu in
+        rw (eq-eqb (packetCount mtu a) 2 (sym e), lost, once)
+        (gives-after device mtu R flow (pair .ranges) b (pair .second-fair) (pdu (a .pdu .stream) (take mtu (a .pdu .bytes))) (pair .second-loses) true
+        (λ t. length-take-le mtu (a .pdu .bytes) (omega arith)) (λ t. absurd (false≢true (sym t))))
+    opens (suc l) e lost =
+        let size = inner-size device mtu R flow (pair .ranges) a (pair .first-fair) (suc l) (omega arith) in
+        let pos = mtu-pos device mtu R flow (pair .ranges) a (pair .first-fair) in
+        let so-far : length (take (suc (suc l) * mtu) (a .pdu .bytes)) ≡ suc (suc l) * mtu = length-take-le (suc (suc l) * mtu) (a .pdu .bytes) (omega arith) in
+        rw (ne-eqb (packetCount mtu a) 2 (λ t. omega arith))
+        (gives-after device mtu R flow (pair .ranges) b (pair .second-fair) (pdu (a .pdu .stream) (take (suc (suc l) * mtu) (a .pdu .bytes))) (pair .second-loses) false
+        (λ t. absurd (false≢true t)) (λ t. omega arith))
+
+    go : FirstLeaves device mtu R flow (pair .ranges) a (pair .first-fair) → gives mtu R (leaves mtu R none putsA) putsB ≡ cond (isJoint mtu a b) (jointPDU mtu a b ∷ []) []
+    go (closed e no-joint) =
+        rw (e, no-joint) (gives-nothing device mtu R flow (pair .ranges) b (pair .second-fair) (pair .second-loses) none (inl refl))
+    go (opened l e lost open-is) = rw open-is (opens l e lost)
