@@ -17,11 +17,13 @@ use borrow.Author.Tests.{eqb-true, eqb-false, eq-eqb, ne-eqb, leb-true, le-leb, 
 use Rattle.wire.specs.declared.Flow.{Flow}
 use Rattle.segments.specs.Cutting.{dataOf, packetOf}
 use Rattle.flows.specs.OneFlow.{PDU, pdu, Told, held, delivered, refused, Outcome, outcome, isOpen}
-use Rattle.sending.specs.Sending.{Sent, has, isLost, packetCount, lossesFrom, losses, isWhole, Put, headingOf, putOf, putsFrom, flowPuts, FairPDU, Ranges}
+use Rattle.flows.specs.Board.{Board, Delivery, delivery}
+use Rattle.sending.specs.Sending.{Each, Sent, has, isLost, packetCount, lossesFrom, losses, isWhole, Put, headingOf, putOf, putsFrom, flowPuts, FairPDU, Ranges}
 use Rattle.sending.specs.OneFlow.{packetStep, deliveredPDU, also, flowDeliveries, arriving}
-use Rattle.sending.specs.Joint.{isJoint, jointPDU, pairPackets, Pair, JointExactly, JointOnly, JointLength}
+use Rattle.sending.specs.Joint.{isJoint, jointPDU, pairPackets, Pair, JointExactly, JointOnly, JointLength, JointDelivered}
 use Rattle.sending.proofs.Steps.{mtu-pos, some-packet, last-size, inner-size, data-behind, at-single, at-start, at-inner, at-last, at-last-wrong, at-closed, at-over, last-closes}
-use Rattle.sending.proofs.OneFlow.{afterPut, seenAt, Good, short-in, whole-lossy}
+use Rattle.sending.proofs.OneFlow.{Proper, proper-packet, afterPut, Good, short-in, whole-lossy}
+use Rattle.sending.proofs.Calls.{among-itself, flow-alone}
 
 -- ---- Runs over packets that are put on
 
@@ -374,3 +376,64 @@ joint-exactly device mtu R flow a b pair =
     go (closed e no-joint) =
         rw (e, no-joint) (gives-nothing device mtu R flow (pair .ranges) b (pair .second-fair) (pair .second-loses) none (inl refl))
     go (opened l e lost open-is) = rw open-is (opens l e lost)
+
+pub joint-only : JointOnly
+joint-only device mtu R flow a b pair = go (isJoint mtu a b) (joint-exactly device mtu R flow a b pair)
+  where
+    some-list : (x : PDU) (xs : List PDU) → x ∷ xs ≡ [] → ⊥
+    some-list x xs e = let z : _≡_ {A = ℕ} 0 1 = cc in omega arith
+
+    go : (t : Bool) → flowDeliveries mtu R none (pairPackets device mtu flow a b) ≡ cond t (jointPDU mtu a b ∷ []) []
+        → (flowDeliveries mtu R none (pairPackets device mtu flow a b) ≡ [] → ⊥) ↔ (t ≡ true)
+    go true e = (λ h. refl, λ h n. some-list (jointPDU mtu a b) [] (sym e ∙ n))
+    go false e = (λ h. absurd (h e), λ h. absurd (false≢true h))
+
+pub joint-length : JointLength
+unfolding isJoint
+joint-length device mtu R flow a b pair e = go (eqb (packetCount mtu a) 2) (isLost a 1) (leb 2 (packetCount mtu b)) (isLost b 0) refl refl e
+  where
+    both : eqb (packetCount mtu a) 2 ≡ true → leb 2 (packetCount mtu b) ≡ true → length (jointPDU mtu a b .bytes) ≡ length (b .pdu .bytes)
+    both p q =
+        let two = eqb-true (packetCount mtu a) 2 p in
+        let more = leb-true 2 (packetCount mtu b) q in
+        let sa = inner-size device mtu R flow (pair .ranges) a (pair .first-fair) 0 (omega arith) in
+        let sb = inner-size device mtu R flow (pair .ranges) b (pair .second-fair) 0 (omega arith) in
+        let front : length (take mtu (a .pdu .bytes)) ≡ mtu = length-take-le mtu (a .pdu .bytes) (omega arith) in
+        let back = length-drop mtu (b .pdu .bytes) in
+        length-append (take mtu (a .pdu .bytes)) (drop mtu (b .pdu .bytes)) ∙ omega arith
+
+    go : (p x q y : Bool) → eqb (packetCount mtu a) 2 ≡ p → leb 2 (packetCount mtu b) ≡ q → ((p && x) && (q && y)) ≡ true → length (jointPDU mtu a b .bytes) ≡ length (b .pdu .bytes)
+    go true true true y ep eq e = both ep eq
+    go true true false y ep eq e = absurd (false≢true e)
+    go true false q y ep eq e = absurd (false≢true e)
+    go false x q y ep eq e = absurd (false≢true e)
+
+-- ---- The endpoint
+
+-- each packet of a flow that arrives is of that flow
+proper-puts : (device mtu R : ℕ) (flow : Flow) (ranges : Ranges device mtu R flow) (s : Sent) (fair : FairPDU R s) (more : List Put) (n k : ℕ) → k + n ≡ packetCount mtu s
+    → Each (Proper device flow) (arriving more) → Each (Proper device flow) (arriving (putsFrom device mtu flow s k n ++ more))
+proper-puts device mtu R flow ranges s fair more zero k e rest = rest
+proper-puts device mtu R flow ranges s fair more (suc n) k e rest =
+    go (putOf device mtu flow s k .lost) (proper-put (omega arith)) (proper-puts device mtu R flow ranges s fair more n (suc k) (omega arith) rest)
+  where
+    go : (t : Bool) → Proper device flow (putOf device mtu flow s k .packet) → Each (Proper device flow) (arriving (putsFrom device mtu flow s (suc k) n ++ more))
+        → Each (Proper device flow) (cond t (arriving (putsFrom device mtu flow s (suc k) n ++ more)) (putOf device mtu flow s k .packet ∷ arriving (putsFrom device mtu flow s (suc k) n ++ more)))
+    go true p others = others
+    go false p others = (p, others)
+
+    proper-put : k < packetCount mtu s → Proper device flow (putOf device mtu flow s k .packet)
+    proper-put below = unfold putOf in proper-packet device mtu R flow ranges s fair k below
+
+pub joint-delivered : JointDelivered
+joint-delivered device mtu R flow a b board pair begins =
+    flow-alone device mtu R (flow ∷ []) (begins .Ok) (begins .law) (begins .own-R) flow (among-itself flow) (pairPackets device mtu flow a b) board (begins .ok)
+    (proper-puts device mtu R flow (pair .ranges) a (pair .first-fair) (flowPuts device mtu flow (b ∷ [])) (packetCount mtu a) 0 (omega arith)
+    (proper-puts device mtu R flow (pair .ranges) b (pair .second-fair) [] (packetCount mtu b) 0 (omega arith) tt))
+    ∙ ap (λ (o : Option PDU). map (delivery flow) (flowDeliveries mtu R o (pairPackets device mtu flow a b))) (begins .closed flow)
+    ∙ ap (map (delivery flow)) (joint-exactly device mtu R flow a b pair)
+    ∙ go (isJoint mtu a b)
+  where
+    go : (t : Bool) → map (delivery flow) (cond t (jointPDU mtu a b ∷ []) []) ≡ cond t (delivery flow (jointPDU mtu a b) ∷ []) []
+    go true = refl
+    go false = refl

@@ -9,23 +9,22 @@ use mathlib.Core.Option.{Option, none, some}
 use lib.ListN.{length, take}
 use lib.Dec.{eqb, ltb}
 use borrow.Author.Tests.{eqb-true}
-use Rattle.answers.specs.Answers as answers
 use Rattle.wire.specs.Packet.{packetType, destination, tt as ttOf}
 use Rattle.wire.specs.declared.Flow.{Flow}
-use Rattle.wire.specs.declared.Segment.{Segment}
 use Rattle.wire.specs.declared.MessageSegment.{MessageSegment}
 use Rattle.wire.specs.declared.Parsed.{Parsed}
-use Rattle.wire.specs.declared.Parsed.the-variants.{Refused, Stream, Message}
-use Rattle.wire.specs.Type9.{badMTU, sameFlow, segmentOf}
+use Rattle.wire.specs.declared.Parsed.the-variants.{Refused, Message}
+use Rattle.wire.specs.Type9.{badMTU, sameFlow}
 use Rattle.wire.specs.Type11.{messageOf}
 use Rattle.wire.specs.Parsed.{parsed, parsedByType}
-use Rattle.flows.specs.OneFlow.{PDU, Told, held, delivered, refused, Outcome}
-use Rattle.flows.specs.Board.{Board, Delivery, delivery, deliveredBy, read, after, room, view}
-use Rattle.flows.specs.ByFlow.{among, AreBytes, Tells, OwnFlow, NoFlow, ByFlow}
+use Rattle.flows.specs.OneFlow.{PDU}
+use Rattle.flows.specs.Board.{Board, Delivery, deliveredBy, read, after, room, view}
+use Rattle.flows.specs.ByFlow.{among, AreBytes, NoFlow, ByFlow}
 use Rattle.sending.specs.Sending.{Sent, Put, flowPuts, FlowSent, Turn, next, message, Sending, sentOn, flowsOf, Event, put, sent, headOf, advance, events, queues, left, tell, wholes, packets, whole, deliveries, Each, FairPDU, Apart, FairFlow, FairTurn, FairAnyLoss, Fair, Ranges}
 use Rattle.sending.specs.OneFlow.{packetStep, deliveredPDU}
 use Rattle.sending.specs.Statements.{Begins, DeliveredIsWhole, DeliveredIsWholeAnyLoss, firstTurns, DeliveredAtEveryTurn, SamePacketsSameWhole}
-use Rattle.sending.proofs.OneFlow.{Proper, afterPut, seenAt, Good, one-flow}
+use Rattle.sending.proofs.OneFlow.{afterPut, Good, one-flow}
+use Rattle.sending.proofs.Calls.{Own, by-own}
 
 -- ---- Flows and messages
 
@@ -56,27 +55,12 @@ type-11 device p e = rw e (go (ltb (length p) 5) (eqb (ttOf p) 1) (eqb (destinat
     go false true false d = inr (3, refl)
     go false false c d = inr (2, refl)
 
--- what an answer delivers
-tells-delivers : (R : ℕ) (memory : List ℕ) (flow : Flow) (says : answers.Said) (told : Told) (ds : List Delivery) → Tells R memory flow says told
-    → deliveredBy R memory says ++ ds ≡ tell flow (deliveredPDU told) ds
-tells-delivers R memory flow says held ds e = rw e
-tells-delivers R memory flow says (delivered p) ds e = rw e
-tells-delivers R memory flow says (refused number) ds e = rw e
-
 module _ (device mtu R : ℕ) (flows : List Flow) (Ok : Board → Type 0) (law : ByFlow device mtu R flows Ok) (own-R : (b : Board) → Ok b → room b ≡ R) where
   AllGood : Board → (Flow → List Put) → Type 0
   AllGood b q = (flow : Flow) → Good device mtu R flow (view b flow) (q flow)
 
   Listed : (Flow → List Put) → Type 0
   Listed q = (flow : Flow) → among flow flows ≡ false → q flow ≡ []
-
-  -- a call with a packet of a flow: what is delivered in front of the rest
-  delivers-own : (b : Board) (p : List ℕ) (flow : Flow) (ds : List Delivery) → Ok (after b p)
-      → Tells R (after b p .streamMemory) flow (read b p .says) (packetStep mtu R (view b flow) p .told)
-      → deliveredBy (room (after b p)) (after b p .streamMemory) (read b p .says) ++ ds ≡ tell flow (deliveredPDU (packetStep mtu R (view b flow) p .told)) ds
-  delivers-own b p flow ds ok t =
-      ap (λ (r : ℕ). deliveredBy r (after b p .streamMemory) (read b p .says) ++ ds) (own-R (after b p) ok)
-      ∙ tells-delivers R (after b p .streamMemory) flow (read b p .says) (packetStep mtu R (view b flow) p .told) ds t
 
   -- a packet is taken from a flow's queue
   moved : (b c : Board) (q : Flow → List Put) (flow : Flow) (x : Put) (xs : List Put) → q flow ≡ x ∷ xs → AllGood b q
@@ -122,18 +106,12 @@ module _ (device mtu R : ℕ) (flows : List Flow) (Ok : Board → Type 0) (law :
       arrives x xs e lost known =
           let p : List ℕ = x .packet in
           let g : Good device mtu R flow (view b flow) (x ∷ xs) = subst (Good device mtu R flow (view b flow)) e (good flow) in
-          let f : segmentOf p .flow ≡ flow = g .0 .of-flow in
-          let own : OwnFlow Ok mtu R b p (segmentOf p) = law .of-flow b p (segmentOf p) ok (g .0 .bytes) (g .0 .reads) (ap (λ (y : Flow). among y flows) f ∙ known) in
-          let view-own : view (after b p) flow ≡ packetStep mtu R (view b flow) p .next = subst (λ (y : Flow). view (after b p) y ≡ packetStep mtu R (view b y) p .next) f (own .own) in
-          let tells : Tells R (after b p .streamMemory) flow (read b p .says) (packetStep mtu R (view b flow) p .told) =
-          subst (λ (y : Flow). Tells R (after b p .streamMemory) y (read b p .says) (packetStep mtu R (view b y) p .told)) f (own .tells) in
+          let o : Own Ok mtu R flow b p = by-own device mtu R flows Ok law own-R flow known b p ok (g .0) in
           let seen : deliveredPDU (packetStep mtu R (view b flow) p .told) ≡ x .whole = sym (ap (λ (t : Bool). cond t none (deliveredPDU (packetStep mtu R (view b flow) p .told))) lost) ∙ g .1 in
-          let after-own : view (after b p) flow ≡ afterPut mtu R (view b flow) x = view-own ∙ sym (ap (λ (t : Bool). cond t (view b flow) (packetStep mtu R (view b flow) p .next)) lost) in
-          let ih : deliveries (after b p) (left es) ≡ wholes es =
-          rest (after b p) (own .ok) (moved b (after b p) q flow x xs e good after-own (λ other ne. own .others other (ap (sameFlow other) f ∙ ne))) in
-          delivers-own b p flow (deliveries (after b p) (left es)) (own .ok) tells
+          let left-with : view (after b p) flow ≡ afterPut mtu R (view b flow) x = o .own ∙ sym (ap (λ (t : Bool). cond t (view b flow) (packetStep mtu R (view b flow) p .next)) lost) in
+          o .delivers (deliveries (after b p) (left es))
           ∙ ap (λ (y : Option PDU). tell flow y (deliveries (after b p) (left es))) seen
-          ∙ ap (tell flow (x .whole)) ih
+          ∙ ap (tell flow (x .whole)) (rest (after b p) (o .ok) (moved b (after b p) q flow x xs e good left-with (o .others)))
 
       at : (x : Put) (xs : List Put) → q flow ≡ x ∷ xs → (t : Bool) → x .lost ≡ t → (k : Bool) → among flow flows ≡ k
           → deliveries b (cond t (left es) (x .packet ∷ left es)) ≡ tell flow (x .whole) (wholes es)

@@ -20,33 +20,8 @@ use Rattle.sending.specs.Sending.{Sent, packetCount, FairPDU, Ranges}
 use Rattle.sending.specs.OneFlow.{packetStep}
 use Rattle.sending.specs.Statements.{Begins, packetAt, boardAt, HandsBack, Measured, ReadsBack, ReadBack}
 use Rattle.sending.proofs.Steps.{last-size, inner-size, data-behind, all-taken, at-single, at-start, at-inner, at-last}
-use Rattle.sending.proofs.OneFlow.{Proper, proper-packet}
-
--- a flow is itself, so it is among itself
-same-refl : (flow : Flow) → sameFlow flow flow ≡ true
-unfolding sameFlow
-same-refl flow = rw (eq-eqb (flow .source) (flow .source) refl, eq-eqb (flow .cos) (flow .cos) refl)
-
-among-itself : (flow : Flow) → among flow (flow ∷ []) ≡ true
-among-itself flow = rw (same-refl flow)
-
--- ---- A call with a packet of a flow, by the one-flow endpoint
-
-record Own (Ok : Board → Type 0) (mtu R : ℕ) (flow : Flow) (b : Board) (p : List ℕ) : Type 0 where
-  pub ok : Ok (after b p)
-  pub own : view (after b p) flow ≡ packetStep mtu R (view b flow) p .next
-  pub tells : Tells R (after b p .streamMemory) flow (read b p .says) (packetStep mtu R (view b flow) p .told)
-
-by-own : (device mtu R : ℕ) (flows : List Flow) (Ok : Board → Type 0) → ByFlow device mtu R flows Ok → (flow : Flow) → among flow flows ≡ true
-    → (b : Board) (p : List ℕ) → Ok b → Proper device flow p → Own Ok mtu R flow b p
-by-own device mtu R flows Ok law flow known b p ok proper =
-    let f : segmentOf p .flow ≡ flow = proper .of-flow in
-    let o : OwnFlow Ok mtu R b p (segmentOf p) = law .of-flow b p (segmentOf p) ok (proper .bytes) (proper .reads) (ap (λ (y : Flow). among y flows) f ∙ known) in
-    record {
-      ok = o .ok;
-      own = subst (λ (y : Flow). view (after b p) y ≡ packetStep mtu R (view b y) p .next) f (o .own);
-      tells = subst (λ (y : Flow). Tells R (after b p .streamMemory) y (read b p .says) (packetStep mtu R (view b y) p .told)) f (o .tells);
-    }
+use Rattle.sending.proofs.OneFlow.{proper-packet}
+use Rattle.sending.proofs.Calls.{Own, by-own, among-itself}
 
 -- ---- An answer that delivers a PDU
 
@@ -133,7 +108,7 @@ module _ (device mtu R : ℕ) (flow : Flow) (s : Sent) (b : Board) (ranges : Ran
 
   call : (k : ℕ) → k < packetCount mtu s → Before k → Own (begins .Ok) mtu R flow (boardAt device mtu flow s b k) (packetAt device mtu flow s k)
   call k below at =
-      by-own device mtu R (flow ∷ []) (begins .Ok) (begins .law) flow (among-itself flow) (boardAt device mtu flow s b k) (packetAt device mtu flow s k) (at .ok)
+      by-own device mtu R (flow ∷ []) (begins .Ok) (begins .law) (begins .own-R) flow (among-itself flow) (boardAt device mtu flow s b k) (packetAt device mtu flow s k) (at .ok)
       (proper-packet device mtu R flow ranges s fair k below)
 
   reached : (k : ℕ) → k < packetCount mtu s → Before k
