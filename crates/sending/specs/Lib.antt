@@ -3,3 +3,4 @@ pub mod Sending
 pub mod OneFlow
 pub mod Statements
 pub mod Joint
+pub mod Mixture
