@@ -18,10 +18,11 @@ use Rattle.flows.specs.Board.{Board, Delivery, delivery, deliveredBy, read, aft
 use Rattle.flows.specs.ByFlow.{among, Tells, OwnFlow, ByFlow}
 use Rattle.sending.specs.Sending.{Sent, packetCount, FairPDU, Ranges}
 use Rattle.sending.specs.OneFlow.{packetStep}
-use Rattle.sending.specs.Statements.{Begins, packetAt, boardAt, HandsBack, Measured, ReadsBack, ReadBack}
+use Rattle.sending.specs.Statements.{Begins, packetAt, boardAt, HandsBack, ReadsBack, ReadBack}
 use Rattle.sending.proofs.Steps.{last-size, inner-size, data-behind, all-taken, at-single, at-start, at-inner, at-last}
 use Rattle.sending.proofs.OneFlow.{proper-packet}
 use Rattle.sending.proofs.Calls.{Own, by-own, among-itself}
+use Rattle.sending.proofs.Measured.{length-is-measured}
 
 -- ---- An answer that delivers a PDU
 
@@ -128,15 +129,17 @@ module _ (device mtu R : ℕ) (flow : Flow) (s : Sent) (b : Board) (ranges : Ran
       subst (Tells R (boardAt device mtu flow s b (suc k) .streamMemory) flow (read (boardAt device mtu flow s b k) (packetAt device mtu flow s k) .says))
       (ap (λ (o : Option PDU). packetStep mtu R o (packetAt device mtu flow s k) .told) (at .has) ∙ e) (call k below at .tells)
 
-  reads-back : Measured R (begins .Ok) → ReadsBack device mtu R flow s b
-  reads-back measured = record {
+  reads-back : ReadsBack device mtu R flow s b
+  reads-back = record {
     each = λ k h. tells-at k held (omega arith) (ap (λ (x : Outcome). x .told) (step-inner k h .1));
     last = λ k e.
         hands-back R flow (s .pdu) (boardAt device mtu flow s b (suc k)) _
-        (λ context source cos stream size. measured (boardAt device mtu flow s b k) (packetAt device mtu flow s k) context source cos stream size (reached k (omega arith) .ok))
+        (λ context source cos stream size e′.
+            ap (λ (r : ℕ). length (inRoom r (boardAt device mtu flow s b (suc k) .streamMemory) context size)) (sym (begins .own-R (boardAt device mtu flow s b k) (reached k (omega arith) .ok)))
+            ∙ length-is-measured (boardAt device mtu flow s b k) (packetAt device mtu flow s k) context source cos stream size e′)
         (tells-at k (delivered (s .pdu)) (omega arith) (step-last k e));
   }
 
 -- DEMAND 2.
 pub read-back : ReadBack
-read-back device mtu R flow s b ranges fair begins measured = reads-back device mtu R flow s b ranges fair begins measured
+read-back device mtu R flow s b ranges fair begins = reads-back device mtu R flow s b ranges fair begins

@@ -70,11 +70,11 @@ pub record HandsBack (R : ℕ) (flow : Flow) (p : PDU) (b : Board) (says : Said)
   pub answer : says ≡ delivered context (flow .source) (flow .cos) (p .stream) (length (p .bytes))
   pub holds : inRoom R (b .streamMemory) context (length (p .bytes)) ≡ p .bytes
 
--- the length in an answer is that of the bytes that lie in its room: it reaches past no memory
-abbrev pub Measured : ℕ → (Board → Type 0) → Type 0
-Measured R Ok =
-    (b : Board) (p : List ℕ) (context source cos stream size : ℕ) → Ok b → read b p .says ≡ delivered context source cos stream size
-    → length (inRoom R (after b p .streamMemory) context size) ≡ size
+-- the length in an answer is that of the bytes that lie in its room: it reaches past no memory, whatever the board
+abbrev pub LengthIsMeasured : Type 0
+LengthIsMeasured =
+    (b : Board) (p : List ℕ) (context source cos stream size : ℕ) → read b p .says ≡ delivered context source cos stream size
+    → length (inRoom (room b) (after b p .streamMemory) context size) ≡ size
 
 -- one PDU alone: every packet but the last is held, and the last delivers the PDU
 pub record ReadsBack (device mtu R : ℕ) (flow : Flow) (s : Sent) (b : Board) : Type 0 where
@@ -83,5 +83,5 @@ pub record ReadsBack (device mtu R : ℕ) (flow : Flow) (s : Sent) (b : Board) :
 
 abbrev pub ReadBack : Type 1
 ReadBack =
-    (device mtu R : ℕ) (flow : Flow) (s : Sent) (b : Board) → Ranges device mtu R flow → FairPDU R s → (begins : Begins device mtu R (flow ∷ []) b) → Measured R (begins .Ok)
+    (device mtu R : ℕ) (flow : Flow) (s : Sent) (b : Board) → Ranges device mtu R flow → FairPDU R s → Begins device mtu R (flow ∷ []) b
     → ReadsBack device mtu R flow s b
