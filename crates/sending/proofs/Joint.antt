@@ -23,6 +23,7 @@ use Rattle.sending.specs.OneFlow.{packetStep, deliveredPDU, also, flowDe
 use Rattle.sending.specs.Joint.{isJoint, jointPDU, pairPackets, Pair, JointExactly, JointOnly, JointLength, JointDelivered}
 use Rattle.sending.proofs.Steps.{mtu-pos, some-packet, last-size, inner-size, data-behind, at-single, at-start, at-inner, at-last, at-last-wrong, at-closed, at-over, last-closes}
 use Rattle.sending.proofs.OneFlow.{Proper, proper-packet, afterPut, Good, short-in, whole-lossy}
+use Rattle.sending.proofs.Rooms.{carried}
 use Rattle.sending.proofs.Calls.{among-itself, flow-alone}
 
 -- ---- Runs over packets that are put on
@@ -427,7 +428,8 @@ proper-puts device mtu R flow ranges s fair more (suc n) k e rest =
 
 pub joint-delivered : JointDelivered
 joint-delivered device mtu R flow a b board pair begins =
-    flow-alone device mtu R (flow ∷ []) (begins .Ok) (begins .law) (begins .own-R) flow (among-itself flow) (pairPackets device mtu flow a b) board (begins .ok)
+    let c = carried device mtu R (flow ∷ []) board begins in
+    flow-alone device mtu R (flow ∷ []) (c .Ok) (c .law) (c .own-R) flow (among-itself flow) (pairPackets device mtu flow a b) board (c .ok)
     (proper-puts device mtu R flow (pair .ranges) a (pair .first-fair) (flowPuts device mtu flow (b ∷ [])) (packetCount mtu a) 0 (omega arith)
     (proper-puts device mtu R flow (pair .ranges) b (pair .second-fair) [] (packetCount mtu b) 0 (omega arith) tt))
     ∙ ap (λ (o : Option PDU). map (delivery flow) (flowDeliveries mtu R o (pairPackets device mtu flow a b))) (begins .closed flow)

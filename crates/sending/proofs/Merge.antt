@@ -24,6 +24,7 @@ use Rattle.sending.specs.Sending.{Sent, Put, flowPuts, FlowSent, Turn, n
 use Rattle.sending.specs.OneFlow.{packetStep, deliveredPDU}
 use Rattle.sending.specs.Statements.{Begins, DeliveredIsWhole, DeliveredIsWholeAnyLoss, firstTurns, DeliveredAtEveryTurn, SamePacketsSameWhole}
 use Rattle.sending.proofs.OneFlow.{afterPut, Good, one-flow}
+use Rattle.sending.proofs.Rooms.{carried}
 use Rattle.sending.proofs.Calls.{Own, by-own}
 
 -- ---- Flows and messages
@@ -184,7 +185,8 @@ start-listed device mtu (x ∷ xs) flow none-of = go (sameFlow flow (x .flow)) n
 -- DEMAND 3, and more: however many packets of a PDU are lost.
 pub delivered-is-whole-any-loss : DeliveredIsWholeAnyLoss
 delivered-is-whole-any-loss device mtu R s b fair begins =
-    merge device mtu R (flowsOf s) (begins .Ok) (begins .law) (begins .own-R) (s .turns) (queues device mtu s) b (begins .ok)
+    let c = carried device mtu R (flowsOf s) b begins in
+    merge device mtu R (flowsOf s) (c .Ok) (c .law) (c .own-R) (s .turns) (queues device mtu s) b (c .ok)
     (unfold AllGood in (λ flow. subst (λ (o : Option PDU). Good device mtu R flow o (queues device mtu s flow)) (sym (begins .closed flow))
     (start-good device mtu R (fair .device-ID) (fair .allowed-MTU) (fair .allowed-R) (s .flows) (fair .flows) flow)))
     (unfold Listed in (start-listed device mtu (s .flows)))

@@ -18,9 +18,10 @@ use Rattle.flows.specs.Board.{Board, Delivery, delivery, deliveredBy, read, aft
 use Rattle.flows.specs.ByFlow.{among, Tells, OwnFlow, ByFlow}
 use Rattle.sending.specs.Sending.{Sent, packetCount, FairPDU, Ranges}
 use Rattle.sending.specs.OneFlow.{packetStep}
-use Rattle.sending.specs.Statements.{Begins, packetAt, boardAt, HandsBack, ReadsBack, ReadBack}
+use Rattle.sending.specs.Statements.{packetAt, boardAt, HandsBack, ReadsBack, ReadBack}
 use Rattle.sending.proofs.Steps.{last-size, inner-size, data-behind, all-taken, at-single, at-start, at-inner, at-last}
 use Rattle.sending.proofs.OneFlow.{proper-packet}
+use Rattle.sending.proofs.Rooms.{Carried, carried}
 use Rattle.sending.proofs.Calls.{Own, by-own, among-itself}
 use Rattle.sending.proofs.Measured.{length-is-measured}
 
@@ -75,7 +76,7 @@ hands-back R flow p b says measured e =
 
 -- ---- The PDU's packets, one after the other
 
-module _ (device mtu R : ℕ) (flow : Flow) (s : Sent) (b : Board) (ranges : Ranges device mtu R flow) (fair : FairPDU R s) (begins : Begins device mtu R (flow ∷ []) b) where
+module _ (device mtu R : ℕ) (flow : Flow) (s : Sent) (b : Board) (ranges : Ranges device mtu R flow) (fair : FairPDU R s) (begins : Carried device mtu R (flow ∷ []) b) where
   abbrev bytes : List ℕ
   bytes = s .pdu .bytes
 
@@ -142,4 +143,4 @@ module _ (device mtu R : ℕ) (flow : Flow) (s : Sent) (b : Board) (ranges : Ran
 
 -- DEMAND 2.
 pub read-back : ReadBack
-read-back device mtu R flow s b ranges fair begins = reads-back device mtu R flow s b ranges fair begins
+read-back device mtu R flow s b ranges fair begins = reads-back device mtu R flow s b ranges fair (carried device mtu R (flow ∷ []) b begins)

@@ -17,8 +17,8 @@ use Rattle.sending.specs.Sending.{Sent, packetCount, headingOf, FairPDU,
 pub record Begins (device mtu R : ℕ) (flows : List Flow) (b : Board) : Type 1 where
   pub Ok : Board → Type 0
   pub law : ByFlow device mtu R flows Ok
-  pub own-R : (c : Board) → Ok c → room c ≡ R
   pub ok : Ok b
+  pub own-R : room b ≡ R
   pub closed : (flow : Flow) → view b flow ≡ none
 
 -- ---- Demand 3
