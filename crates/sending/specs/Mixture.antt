@@ -5,8 +5,8 @@ use mathlib.Core.List.{List, [], _∷_, _++_}
 use lib.ListN.{replicate}
 use Rattle.wire.specs.declared.Flow.{Flow}
 use Rattle.flows.specs.OneFlow.{pdu}
-use Rattle.flows.specs.Board.{Delivery, delivery}
-use Rattle.sending.specs.Sending.{Sent, FlowSent, Turn, next, message, Sending, losses, packets, whole, Fair}
+use Rattle.flows.specs.Board.{Delivery, delivery, freshBoard}
+use Rattle.sending.specs.Sending.{Sent, FlowSent, Turn, next, message, Sending, losses, packets, whole, deliveries, Fair}
 
 abbrev pub five : Flow
 five = record { source = 5; cos = 1 }
@@ -55,3 +55,7 @@ pub record MixtureIsFair : Type 0 where
       ∷ (0x19 ∷ 0x00 ∷ 0x01 ∷ 0x00 ∷ 0x05 ∷ 0x01 ∷ 0x40 ∷ 0x00 ∷ 0x28 ∷ replicate 8 9)
       ∷ []
   pub complete : whole 1 32 mixture ≡ delivery six (pdu 3 (replicate 33 3)) ∷ delivery five (pdu 2 (replicate 40 9)) ∷ []
+
+-- and the endpoint, read packet by packet from a board that was just set up, delivers them
+abbrev pub MixtureDelivered : Type 0
+MixtureDelivered = deliveries (freshBoard 1 32 64 (replicate 1024 0) (replicate 32768 0) (replicate 7 0)) (packets 1 32 mixture) ≡ whole 1 32 mixture
