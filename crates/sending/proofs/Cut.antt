@@ -4,17 +4,16 @@ use mathlib.Core.Path.{_≡_, refl, sym, ap, _∙_, subst}
 use mathlib.Core.List.{List, [], _∷_, _++_}
 use mathlib.Core.Bool.{Bool, true, false, cond, not, _||_}
 use native.Mathlib.Omega.{arith}
-use lib.ListN.{length, take, drop, getD, length-append}
+use lib.ListN.{length, take, drop, length-append}
 use lib.Seq.{take-append-seam, getD-append-seam}
 use lib.Dec.{eqb, ltb}
 use borrow.Author.Tests.{ltb-true, eqb-true, eqb-false, eq-eqb, ne-eqb, le-ltb}
-use Rattle.lists.specs.Bytes.{byte, word, high, low}
+use Rattle.lists.specs.Bytes.{byte, high, low}
 use Rattle.wire.specs.Packet.{bit, packetType, destination, tt as ttOf}
 use Rattle.wire.specs.declared.Flow.{Flow}
 use Rattle.wire.specs.declared.Segment.{Segment}
-use Rattle.wire.specs.declared.Parsed.{Parsed}
 use Rattle.wire.specs.declared.Parsed.the-variants.{Stream}
-use Rattle.wire.specs.Type9.{badMTU, isS, isE, xh, segmentAt, segmentOf, pduLength, dataLength}
+use Rattle.wire.specs.Type9.{badMTU, xh, segmentAt, segmentOf, pduLength, dataLength}
 use Rattle.wire.specs.Parsed.{parsed, parsedByType, parsedStream, parsedFielded}
 use Rattle.wire.proofs.Forms.{with-field, without-field}
 use Rattle.rules.specs.Segments.{malformed}
@@ -23,7 +22,7 @@ use Rattle.segments.specs.declared.Heading.{Heading}
 use Rattle.segments.specs.Cutting.{segmentCount, dataOf, isFirst, isFinal, padOf, flagsOf, fieldOf, packetOf}
 use Rattle.segments.proofs.Sizes.{good-mtu, begins, length-data}
 use Rattle.flows.specs.ByFlow.{AreBytes}
-use Rattle.sending.specs.Segment.{cutSegment, flowOf, segmentFor, InRange, Cuttable, ReadsAs, SegmentsReadBack}
+use Rattle.sending.specs.Segment.{cutSegment, flowOf, segmentFor, InRange, SegmentsReadBack}
 
 -- ---- Numbers
 
@@ -44,7 +43,40 @@ two-bytes n h = omega arith
 two-bytes-mod : (n : ℕ) → high n * 256 + low n ≡ n % 65536
 two-bytes-mod n = omega arith
 
--- byte 6
+-- what byte 6 says: S, E, the reserved bits, xh, O, P, and whether it is a byte
+record Bits : Type 0 where
+  S : Bool
+  E : Bool
+  reserved : ℕ
+  xh : Bool
+  O : Bool
+  P : Bool
+  byte : Bool
+
+abbrev bitsOf : ℕ → Bits
+bitsOf x = record { S = bit x 128; E = bit x 64; reserved = x / 8 % 8; xh = bit x 4; O = bit x 2; P = bit x 1; byte = ltb x 256 }
+
+abbrev bits : (first final odd pad : Bool) → Bits
+bits first final odd pad = record { S = first; E = final; reserved = 0; xh = false; O = odd; P = pad; byte = true }
+
+all-bits : (first final odd pad : Bool) → bitsOf (cond first 128 0 + cond final 64 0 + cond odd 2 0 + cond pad 1 0) ≡ bits first final odd pad
+all-bits true true true true = refl
+all-bits true true true false = refl
+all-bits true true false true = refl
+all-bits true true false false = refl
+all-bits true false true true = refl
+all-bits true false true false = refl
+all-bits true false false true = refl
+all-bits true false false false = refl
+all-bits false true true true = refl
+all-bits false true true false = refl
+all-bits false true false true = refl
+all-bits false true false false = refl
+all-bits false false true true = refl
+all-bits false false true false = refl
+all-bits false false false true = refl
+all-bits false false false false = refl
+
 record Flags (first final odd pad : Bool) (x : ℕ) : Type 0 where
   of-S : bit x 128 ≡ first
   of-E : bit x 64 ≡ final
@@ -54,27 +86,19 @@ record Flags (first final odd pad : Bool) (x : ℕ) : Type 0 where
   reserved : x / 8 % 8 ≡ 0
   is-byte : ltb x 256 ≡ true
 
-all-flags : (first final odd pad : Bool) → Flags first final odd pad (cond first 128 0 + cond final 64 0 + cond odd 2 0 + cond pad 1 0)
-all-flags true true true true = record { of-S = refl; of-E = refl; of-xh = refl; of-O = refl; of-P = refl; reserved = refl; is-byte = refl }
-all-flags true true true false = record { of-S = refl; of-E = refl; of-xh = refl; of-O = refl; of-P = refl; reserved = refl; is-byte = refl }
-all-flags true true false true = record { of-S = refl; of-E = refl; of-xh = refl; of-O = refl; of-P = refl; reserved = refl; is-byte = refl }
-all-flags true true false false = record { of-S = refl; of-E = refl; of-xh = refl; of-O = refl; of-P = refl; reserved = refl; is-byte = refl }
-all-flags true false true true = record { of-S = refl; of-E = refl; of-xh = refl; of-O = refl; of-P = refl; reserved = refl; is-byte = refl }
-all-flags true false true false = record { of-S = refl; of-E = refl; of-xh = refl; of-O = refl; of-P = refl; reserved = refl; is-byte = refl }
-all-flags true false false true = record { of-S = refl; of-E = refl; of-xh = refl; of-O = refl; of-P = refl; reserved = refl; is-byte = refl }
-all-flags true false false false = record { of-S = refl; of-E = refl; of-xh = refl; of-O = refl; of-P = refl; reserved = refl; is-byte = refl }
-all-flags false true true true = record { of-S = refl; of-E = refl; of-xh = refl; of-O = refl; of-P = refl; reserved = refl; is-byte = refl }
-all-flags false true true false = record { of-S = refl; of-E = refl; of-xh = refl; of-O = refl; of-P = refl; reserved = refl; is-byte = refl }
-all-flags false true false true = record { of-S = refl; of-E = refl; of-xh = refl; of-O = refl; of-P = refl; reserved = refl; is-byte = refl }
-all-flags false true false false = record { of-S = refl; of-E = refl; of-xh = refl; of-O = refl; of-P = refl; reserved = refl; is-byte = refl }
-all-flags false false true true = record { of-S = refl; of-E = refl; of-xh = refl; of-O = refl; of-P = refl; reserved = refl; is-byte = refl }
-all-flags false false true false = record { of-S = refl; of-E = refl; of-xh = refl; of-O = refl; of-P = refl; reserved = refl; is-byte = refl }
-all-flags false false false true = record { of-S = refl; of-E = refl; of-xh = refl; of-O = refl; of-P = refl; reserved = refl; is-byte = refl }
-all-flags false false false false = record { of-S = refl; of-E = refl; of-xh = refl; of-O = refl; of-P = refl; reserved = refl; is-byte = refl }
-
 flags-of : (first final : Bool) (n : ℕ) → Flags first final (eqb ((n + 1) / 2 % 2) 1) (eqb (n % 2) 1) (flagsOf first final n)
 unfolding flagsOf
-flags-of first final n = all-flags first final (eqb ((n + 1) / 2 % 2) 1) (eqb (n % 2) 1)
+flags-of first final n =
+    let e = all-bits first final (eqb ((n + 1) / 2 % 2) 1) (eqb (n % 2) 1) in
+    record {
+      of-S = ap (λ (b : Bits). b .S) e;
+      of-E = ap (λ (b : Bits). b .E) e;
+      of-xh = ap (λ (b : Bits). b .xh) e;
+      of-O = ap (λ (b : Bits). b .O) e;
+      of-P = ap (λ (b : Bits). b .P) e;
+      reserved = ap (λ (b : Bits). b .reserved) e;
+      is-byte = ap (λ (b : Bits). b .byte) e;
+    }
 
 length-pad : (n : ℕ) → length (padOf n) ≡ n % 2
 unfolding padOf
@@ -171,8 +195,8 @@ segment h first final size bytes = cutSegment (flowOf h) first final (h .stream)
 by-fields : (b b′ e e′ o o′ q q′ : Bool) (s s′ c c′ f f′ from r r′ : ℕ)
     → b ≡ b′ → e ≡ e′ → s ≡ s′ → c ≡ c′ → f ≡ f′ → r ≡ r′ → o ≡ o′ → q ≡ q′
     → _≡_ {A = Segment}
-      (record { begins = b; ends = e; flow = record { source = s; cos = c }; field = f; from = from; raw = r; odd = o; pad = q })
-      (record { begins = b′; ends = e′; flow = record { source = s′; cos = c′ }; field = f′; from = from; raw = r′; odd = o′; pad = q′ })
+    (record { begins = b; ends = e; flow = record { source = s; cos = c }; field = f; from = from; raw = r; odd = o; pad = q })
+    (record { begins = b′; ends = e′; flow = record { source = s′; cos = c′ }; field = f′; from = from; raw = r′; odd = o′; pad = q′ })
 by-fields b b′ e e′ o o′ q q′ s s′ c c′ f f′ from r r′ eb ee es ec ef er eo eq = rw (eb, ee, es, ec, ef, er, eo, eq)
 
 -- the data and the pad

@@ -13,15 +13,15 @@ use native.Mathlib.Nat.{suc-mul, one-mul}
 use lib.ListN.{length, take, drop, length-append, length-drop, take-append-drop}
 use lib.Seq.{length-take-le, take-all, drop-drop}
 use lib.Dec.{eqb, leb}
-use borrow.Author.Tests.{eqb-true, eqb-false, eq-eqb, ne-eqb, leb-true, le-leb, lt-leb}
+use borrow.Author.Tests.{eqb-true, eq-eqb, ne-eqb, leb-true, le-leb}
 use Rattle.wire.specs.declared.Flow.{Flow}
 use Rattle.segments.specs.Cutting.{dataOf, packetOf}
-use Rattle.flows.specs.OneFlow.{PDU, pdu, Told, held, delivered, refused, Outcome, outcome, isOpen}
-use Rattle.flows.specs.Board.{Board, Delivery, delivery}
+use Rattle.flows.specs.OneFlow.{PDU, pdu, Told, held, delivered, refused, Outcome, outcome}
+use Rattle.flows.specs.Board.{delivery}
 use Rattle.sending.specs.Sending.{Each, Sent, has, isLost, packetCount, lossesFrom, losses, isWhole, Put, headingOf, putOf, putsFrom, flowPuts, FairPDU, Ranges}
 use Rattle.sending.specs.OneFlow.{packetStep, deliveredPDU, also, flowDeliveries, arriving}
-use Rattle.sending.specs.Joint.{isJoint, jointPDU, pairPackets, Pair, JointExactly, JointOnly, JointLength, JointDelivered}
-use Rattle.sending.proofs.Steps.{mtu-pos, some-packet, last-size, inner-size, data-behind, at-single, at-start, at-inner, at-last, at-last-wrong, at-closed, at-over, last-closes}
+use Rattle.sending.specs.Joint.{isJoint, jointPDU, pairPackets, JointExactly, JointOnly, JointLength, JointDelivered}
+use Rattle.sending.proofs.Steps.{mtu-pos, some-packet, last-size, inner-size, data-behind, at-start, at-inner, at-last, at-last-wrong, at-closed, at-over, last-closes}
 use Rattle.sending.proofs.OneFlow.{Proper, proper-packet, afterPut, Good, short-in, whole-lossy}
 use Rattle.sending.proofs.Rooms.{carried}
 use Rattle.sending.proofs.Calls.{among-itself, flow-alone}
@@ -302,12 +302,13 @@ module _ (device mtu R : ℕ) (flow : Flow) (ranges : Ranges device mtu R flow) 
       × (mtu < length (p .bytes) → gives mtu R (some p) (puts 0 (packetCount mtu s)) ≡ []))
   gives-behind p one lost n e =
       let others : lossesFrom (s .lost) 1 (suc n) ≡ 0 = count-lost 0 (suc n) 0 lost (subst (λ (c : ℕ). lossesFrom (s .lost) 0 c ≡ 1) (sym e) one) in
-      let once : 1 * mtu ≡ mtu = one-mul mtu in
-      (λ full. subst (λ (c : ℕ). gives mtu R (some p) (puts 0 c) ≡ pdu (p .stream) (p .bytes ++ drop mtu bytes) ∷ []) e
-      (gives-lost 0 (some p) (puts 1 (suc n)) lost ∙ gives-joined n 0 p (omega arith) others (full ∙ sym once)
-      ∙ ap (λ (j : ℕ). pdu (p .stream) (p .bytes ++ drop j bytes) ∷ []) once),
-      λ long. subst (λ (c : ℕ). gives mtu R (some p) (puts 0 c) ≡ []) e
-      (gives-lost 0 (some p) (puts 1 (suc n)) lost ∙ gives-too-long n 0 p (omega arith) others (omega arith)))
+      let once : 1 * mtu ≡ mtu = one-mul mtu in (
+        λ full. subst (λ (c : ℕ). gives mtu R (some p) (puts 0 c) ≡ pdu (p .stream) (p .bytes ++ drop mtu bytes) ∷ []) e
+            (gives-lost 0 (some p) (puts 1 (suc n)) lost ∙ gives-joined n 0 p (omega arith) others (full ∙ sym once)
+            ∙ ap (λ (j : ℕ). pdu (p .stream) (p .bytes ++ drop j bytes) ∷ []) once),
+        λ long. subst (λ (c : ℕ). gives mtu R (some p) (puts 0 c) ≡ []) e
+            (gives-lost 0 (some p) (puts 1 (suc n)) lost ∙ gives-too-long n 0 p (omega arith) others (omega arith)),
+      )
 
   gives-after : (p : PDU) → losses mtu s ≡ 1 → (first : Bool)
       → (first ≡ true → length (p .bytes) ≡ mtu) → (first ≡ false → mtu < length (p .bytes))

@@ -1,11 +1,11 @@
 -- The length in an answer is that of the bytes that lie in its room: rows 8 and 10 leave a context below 16, row 9 a total of at most R,
 -- and row 12 a memory of 16 R bytes, so no room reaches past the memory. This holds of every board, whatever its state.
-use Prim.Native.Nat.{ℕ, zero, suc, min, _+_, _-_, _*_, _≤_, _<_}
-use mathlib.Core.Path.{_≡_, refl, sym, ap, _∙_, subst}
-use mathlib.Core.List.{List, [], _∷_, _++_}
+use Prim.Native.Nat.{ℕ, _+_, _-_, _*_, _≤_, _<_}
+use mathlib.Core.Path.{_≡_, refl, sym, subst}
+use mathlib.Core.List.{List}
 use mathlib.Core.Bool.{Bool, true, false, cond, not, _||_, _&&_, false≢true}
 use native.Mathlib.Omega.{arith}
-use native.Mathlib.Nat.{mul-le-mul-right, suc-mul}
+use native.Mathlib.Nat.{mul-le-mul-right}
 use lib.ListN.{length, take, drop, length-append, length-take, length-drop}
 use lib.Dec.{eqb, ltb}
 use borrow.Author.Tests.{eqb-true, ltb-true, ltb-false, not-false}
@@ -22,9 +22,9 @@ use Rattle.contexts.specs.State.{State, freeStream, freeMessage, messageIn}
 use Rattle.streams.specs.Rows.{foundFor, flowOpen, heldBefore, total, notOpen, passesRoom, noneFree}
 use Rattle.streams.specs.Joining as stream
 use Rattle.messages.specs.Joining as message
-use Rattle.reading.specs.Table.{Lent, stateIn, segmentIn, messageSegmentIn, isState, is9, is11, wrongMemory, wrongSizes, table}
-use Rattle.reading.specs.Read.{Left, lent, ofStream, ofMessage, leaving, outcome, reading}
-use Rattle.flows.specs.Board.{Board, read, after, room, inRoom}
+use Rattle.reading.specs.Table.{Lent, stateIn, segmentIn, messageSegmentIn, isState, is9, wrongMemory, wrongSizes, table}
+use Rattle.reading.specs.Read.{lent, ofStream, ofMessage, leaving, outcome, reading}
+use Rattle.flows.specs.Board.{room, inRoom}
 use Rattle.sending.specs.Statements.{LengthIsMeasured}
 
 -- the answer is no delivery

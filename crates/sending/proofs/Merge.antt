@@ -5,14 +5,13 @@ use mathlib.Core.Path.{_≡_, refl, sym, ap, _∙_, subst}
 use mathlib.Core.Logic.{_⊎_, inl, inr}
 use mathlib.Core.List.{List, [], _∷_, _++_, map, tail}
 use mathlib.Core.Bool.{Bool, true, false, cond, _||_, _&&_, false≢true}
-use mathlib.Core.Option.{Option, none, some}
+use mathlib.Core.Option.{Option, none}
 use lib.ListN.{length, take}
 use lib.Dec.{eqb, ltb}
 use borrow.Author.Tests.{eqb-true}
 use Rattle.wire.specs.Packet.{packetType, destination, tt as ttOf}
 use Rattle.wire.specs.declared.Flow.{Flow}
 use Rattle.wire.specs.declared.MessageSegment.{MessageSegment}
-use Rattle.wire.specs.declared.Parsed.{Parsed}
 use Rattle.wire.specs.declared.Parsed.the-variants.{Refused, Message}
 use Rattle.wire.specs.Type9.{badMTU, sameFlow}
 use Rattle.wire.specs.Type11.{messageOf}
@@ -20,9 +19,9 @@ use Rattle.wire.specs.Parsed.{parsed, parsedByType}
 use Rattle.flows.specs.OneFlow.{PDU}
 use Rattle.flows.specs.Board.{Board, Delivery, deliveredBy, read, after, room, view}
 use Rattle.flows.specs.ByFlow.{among, AreBytes, NoFlow, ByFlow}
-use Rattle.sending.specs.Sending.{Sent, Put, flowPuts, FlowSent, Turn, next, message, Sending, sentOn, flowsOf, Event, put, sent, headOf, advance, events, queues, left, tell, wholes, packets, whole, deliveries, Each, FairPDU, Apart, FairFlow, FairTurn, FairAnyLoss, Fair, Ranges}
+use Rattle.sending.specs.Sending.{Put, flowPuts, FlowSent, Turn, next, message, sentOn, flowsOf, Event, sent, headOf, advance, events, queues, left, tell, wholes, whole, deliveries, Each, FairFlow, FairTurn}
 use Rattle.sending.specs.OneFlow.{packetStep, deliveredPDU}
-use Rattle.sending.specs.Statements.{Begins, DeliveredIsWhole, DeliveredIsWholeAnyLoss, firstTurns, DeliveredAtEveryTurn, SamePacketsSameWhole}
+use Rattle.sending.specs.Statements.{DeliveredIsWhole, DeliveredIsWholeAnyLoss, firstTurns, DeliveredAtEveryTurn, SamePacketsSameWhole}
 use Rattle.sending.proofs.OneFlow.{afterPut, Good, one-flow}
 use Rattle.sending.proofs.Rooms.{carried}
 use Rattle.sending.proofs.Calls.{Own, by-own}

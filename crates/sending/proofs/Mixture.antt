@@ -10,7 +10,7 @@ use borrow.Author.Tests.{ltb-true}
 use Rattle.wire.specs.Type9.{badMTU, sameFlow}
 use Rattle.segments.specs.Cutting.{segmentCount, dataOf, isFirst, isFinal, padOf, flagsOf, fieldOf, packetOf}
 use Rattle.flows.specs.ByFlow.{AreBytes}
-use Rattle.sending.specs.Sending.{Sent, putOf, FairPDU, Fair}
+use Rattle.sending.specs.Sending.{putOf, FairPDU, Fair}
 use Rattle.sending.specs.Mixture.{lossy, sound, odd, letterOne, reservedSize, mixture, MixtureIsFair}
 
 -- whether every number of a list is below a bound

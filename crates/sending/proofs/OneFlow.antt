@@ -1,23 +1,21 @@
 -- One flow: from closed, at each packet the endpoint delivers exactly the PDU that is whole with it.
 -- A PDU that lost something is not delivered if the flow was closed before it; one that lost nothing is delivered whatever came before.
 use Prim.Native.Nat.{ℕ, zero, suc, _+_, _-_, _*_, _≤_, _<_}
-use mathlib.Core.Path.{_≡_, refl, sym, ap, _∙_, subst}
+use mathlib.Core.Path.{_≡_, refl, sym, ap, _∙_}
 use mathlib.Core.Logic.{_⊎_, inl, inr}
 use mathlib.Core.List.{List, [], _∷_, _++_}
-use mathlib.Core.Bool.{Bool, true, false, cond, _||_, _&&_, false≢true}
+use mathlib.Core.Bool.{Bool, true, false, cond, _&&_, false≢true}
 use mathlib.Core.Option.{Option, none, some}
 use native.Mathlib.Omega.{arith}
-use lib.ListN.{length, take, drop, length-append}
+use lib.ListN.{length, take, length-append}
 use lib.Seq.{length-take-le}
-use lib.Dec.{eqb}
 use borrow.Author.Tests.{eqb-true, eqb-false}
 use Rattle.wire.specs.declared.Flow.{Flow}
-use Rattle.wire.specs.declared.Parsed.{Parsed}
 use Rattle.wire.specs.declared.Parsed.the-variants.{Stream}
 use Rattle.wire.specs.Type9.{segmentOf}
 use Rattle.wire.specs.Parsed.{parsed}
-use Rattle.segments.specs.Cutting.{segmentCount, dataOf, isFinal, packetOf}
-use Rattle.flows.specs.OneFlow.{PDU, pdu, Told, held, delivered, refused, Outcome, outcome, isOpen}
+use Rattle.segments.specs.Cutting.{dataOf, isFinal, packetOf}
+use Rattle.flows.specs.OneFlow.{PDU, pdu, Told, held, delivered, refused, outcome, isOpen}
 use Rattle.flows.specs.ByFlow.{AreBytes}
 use Rattle.sending.specs.Sending.{Sent, has, isLost, packetCount, lossesFrom, losses, isWhole, Put, headingOf, putOf, putsFrom, flowPuts, Each, FairPDU, Apart, Ranges}
 use Rattle.sending.specs.OneFlow.{packetStep, deliveredPDU}

@@ -1,25 +1,21 @@
 -- One PDU alone, read back: before packet k the flow has the first k MTU bytes.
-use Prim.Native.Nat.{ℕ, zero, suc, _+_, _*_, _≤_, _<_}
-use mathlib.Core.Path.{_≡_, refl, sym, ap, _∙_, subst}
-use mathlib.Core.List.{List, [], _∷_, _++_}
-use mathlib.Core.Bool.{Bool, true, false, cond, _||_, _&&_}
+use Prim.Native.Nat.{ℕ, zero, suc, _*_, _<_}
+use mathlib.Core.Path.{_≡_, sym, ap, _∙_, subst}
+use mathlib.Core.List.{List, [], _∷_}
+use mathlib.Core.Bool.{Bool, false}
 use mathlib.Core.Option.{Option, none, some}
 use native.Mathlib.Omega.{arith}
 use lib.ListN.{length, take}
 use lib.Seq.{length-take-le}
-use lib.Dec.{eqb}
-use borrow.Author.Tests.{eq-eqb}
 use Rattle.answers.specs.Answers as answers
 use Rattle.wire.specs.declared.Flow.{Flow}
-use Rattle.wire.specs.Type9.{sameFlow, segmentOf}
-use Rattle.segments.specs.Cutting.{dataOf}
 use Rattle.flows.specs.OneFlow.{PDU, pdu, Told, held, delivered, refused, Outcome, outcome}
-use Rattle.flows.specs.Board.{Board, Delivery, delivery, deliveredBy, read, after, inRoom, view}
-use Rattle.flows.specs.ByFlow.{among, Tells, OwnFlow, ByFlow}
+use Rattle.flows.specs.Board.{Board, Delivery, delivery, deliveredBy, read, inRoom, view}
+use Rattle.flows.specs.ByFlow.{Tells}
 use Rattle.sending.specs.Sending.{Sent, packetCount, FairPDU, Ranges}
 use Rattle.sending.specs.OneFlow.{packetStep}
 use Rattle.sending.specs.Statements.{packetAt, boardAt, HandsBack, ReadsBack, ReadBack}
-use Rattle.sending.proofs.Steps.{last-size, inner-size, data-behind, all-taken, at-single, at-start, at-inner, at-last}
+use Rattle.sending.proofs.Steps.{inner-size, data-behind, all-taken, at-single, at-start, at-inner, at-last}
 use Rattle.sending.proofs.OneFlow.{proper-packet}
 use Rattle.sending.proofs.Rooms.{Carried, carried}
 use Rattle.sending.proofs.Calls.{Own, by-own, among-itself}
@@ -93,9 +89,11 @@ module _ (device mtu R : ℕ) (flow : Flow) (s : Sent) (b : Board) (ranges : Ran
   step-inner zero h = (false, at-start device mtu R flow ranges s fair none h)
   step-inner (suc k) h =
       let l = so-far k (omega arith) in
-      let z = inner-size device mtu R flow ranges s fair (suc k) h in
-      (false, at-inner device mtu R flow ranges s fair k (pdu (s .pdu .stream) (take (suc k * mtu) bytes)) h (omega (arith, fair .fits))
-      ∙ ap (λ (x : List ℕ). outcome (some (pdu (s .pdu .stream) x)) held false) (data-behind device mtu R flow ranges s fair (suc k)))
+      let z = inner-size device mtu R flow ranges s fair (suc k) h in (
+        false,
+        at-inner device mtu R flow ranges s fair k (pdu (s .pdu .stream) (take (suc k * mtu) bytes)) h (omega (arith, fair .fits))
+            ∙ ap (λ (x : List ℕ). outcome (some (pdu (s .pdu .stream) x)) held false) (data-behind device mtu R flow ranges s fair (suc k)),
+      )
 
   step-last : (k : ℕ) → suc k ≡ packetCount mtu s → packetStep mtu R (before k) (packetAt device mtu flow s k) .told ≡ delivered (s .pdu)
   step-last zero e = ap (λ (x : Outcome). x .told) (at-single device mtu R flow ranges s fair none e)
@@ -136,8 +134,8 @@ module _ (device mtu R : ℕ) (flow : Flow) (s : Sent) (b : Board) (ranges : Ran
     last = λ k e.
         hands-back R flow (s .pdu) (boardAt device mtu flow s b (suc k)) _
         (λ context source cos stream size e′.
-            ap (λ (r : ℕ). length (inRoom r (boardAt device mtu flow s b (suc k) .streamMemory) context size)) (sym (begins .own-R (boardAt device mtu flow s b k) (reached k (omega arith) .ok)))
-            ∙ length-is-measured (boardAt device mtu flow s b k) (packetAt device mtu flow s k) context source cos stream size e′)
+        ap (λ (r : ℕ). length (inRoom r (boardAt device mtu flow s b (suc k) .streamMemory) context size)) (sym (begins .own-R (boardAt device mtu flow s b k) (reached k (omega arith) .ok)))
+        ∙ length-is-measured (boardAt device mtu flow s b k) (packetAt device mtu flow s k) context source cos stream size e′)
         (tells-at k (delivered (s .pdu)) (omega arith) (step-last k e));
   }
 

@@ -1,6 +1,6 @@
 -- R stays: no packet changes it, on any board.
 use Prim.Native.Nat.{ℕ}
-use mathlib.Core.Path.{_≡_, refl, sym, ap, _∙_}
+use mathlib.Core.Path.{_≡_, refl, _∙_}
 use mathlib.Core.List.{List}
 use mathlib.Core.Bool.{Bool, true, false, cond}
 use mathlib.Core.Option.{none}
@@ -15,8 +15,8 @@ use Rattle.messages.specs.Rows.{foundFor as found, messageOpen}
 use Rattle.streams.specs.Joining as stream
 use Rattle.messages.specs.Joining as message
 use Rattle.reading.specs.Table.{Lent, stateIn, segmentIn, messageSegmentIn, is9, table}
-use Rattle.reading.specs.Read.{Left, lent, ofStream, ofMessage, leaving, outcome, reading}
-use Rattle.flows.specs.Board.{Board, read, after, room, view}
+use Rattle.reading.specs.Read.{lent, ofStream, ofMessage, leaving, outcome, reading}
+use Rattle.flows.specs.Board.{Board, after, room, view}
 use Rattle.flows.specs.ByFlow.{OwnFlow, NoFlow, ByFlow}
 use Rattle.sending.specs.Statements.{Begins}
 
@@ -46,8 +46,8 @@ message-room s memory response p m = go (isSingle m) (messageOpen s m)
 
 accepted-room : (x : Lent) (t : Bool)
     → stateOf (cond t
-      (ofStream x (stream.accepted (stateIn x) (x .streamMemory) (x .packet) (segmentIn x)))
-      (ofMessage x (message.accepted (stateIn x) (x .messageMemory) (x .response) (x .packet) (messageSegmentIn x))) .words) .room ≡ stateIn x .room
+    (ofStream x (stream.accepted (stateIn x) (x .streamMemory) (x .packet) (segmentIn x)))
+    (ofMessage x (message.accepted (stateIn x) (x .messageMemory) (x .response) (x .packet) (messageSegmentIn x))) .words) .room ≡ stateIn x .room
 unfolding stream.accepted stream.placed
 accepted-room x true = words-room (stream.accepted (stateIn x) (x .streamMemory) (x .packet) (segmentIn x) .state)
 accepted-room x false =

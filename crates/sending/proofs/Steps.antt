@@ -1,29 +1,26 @@
 -- What the one-flow endpoint does at each kind of segment, and then at packet k of a PDU.
-use Prim.Native.Nat.{ℕ, zero, suc, min, _+_, _-_, _*_, _/_, _%_, _≤_, _<_}
+use Prim.Native.Nat.{ℕ, zero, suc, _+_, _-_, _*_, _≤_, _<_}
 use mathlib.Core.Path.{_≡_, refl, sym, ap, _∙_, subst}
-use mathlib.Core.List.{List, [], _∷_, _++_}
-use mathlib.Core.Bool.{Bool, true, false, cond, not, _||_, false≢true}
+use mathlib.Core.List.{List, _++_}
+use mathlib.Core.Bool.{Bool, true, false, false≢true}
 use mathlib.Core.Option.{Option, none, some}
 use native.Mathlib.Omega.{arith}
 use native.Mathlib.Nat.{div-add-mod', mod-lt, zero-mul, suc-mul, zero-add}
 use native.Mathlib.Decide.{decLe, ℕ-discrete}
-use lib.ListN.{length, take, drop, length-take}
-use lib.Seq.{take-add, take-all, length-take-le}
-use lib.Dec.{eqb, ltb}
+use lib.ListN.{length, take}
+use lib.Seq.{take-add, take-all}
 use borrow.Author.Tests.{eq-eqb, ne-eqb, le-ltb, lt-ltb}
 use Rattle.wire.specs.declared.Flow.{Flow}
-use Rattle.wire.specs.Type9.{badMTU, pduLength, dataLength, segmentOf}
-use Rattle.rules.specs.Segments.{malformed}
+use Rattle.wire.specs.Type9.{segmentOf}
 use Rattle.wire.specs.declared.Segment.{Segment}
-use Rattle.wire.specs.declared.Parsed.{Parsed}
 use Rattle.wire.specs.declared.Parsed.the-variants.{Stream}
 use Rattle.wire.specs.Parsed.{parsed}
 use Rattle.streams.specs.Joining as joining
 use Rattle.segments.specs.Cutting.{segmentCount, dataOf, isFirst, isFinal, packetOf}
 use Rattle.segments.proofs.Sizes.{good-mtu, length-data}
 use Rattle.flows.specs.ByFlow.{AreBytes}
-use Rattle.flows.specs.OneFlow.{PDU, pdu, Told, held, delivered, refused, Outcome, outcome, isOpen, flowStep}
-use Rattle.sending.specs.Segment.{cutSegment, segmentFor, InRange, Cuttable, ReadsAs}
+use Rattle.flows.specs.OneFlow.{PDU, pdu, held, delivered, refused, Outcome, outcome, isOpen, flowStep}
+use Rattle.sending.specs.Segment.{cutSegment, segmentFor, InRange, ReadsAs}
 use Rattle.sending.specs.Sending.{Sent, packetCount, headingOf, FairPDU, Ranges}
 use Rattle.sending.specs.OneFlow.{packetStep}
 use Rattle.sending.proofs.Cut.{cut-length, cut-well-formed, pdu-length-back, segment-of-cut, segments-read-back}

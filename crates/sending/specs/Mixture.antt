@@ -1,12 +1,12 @@
 -- The premises can be met: two flows, a loss, and messages between. MTU 32, R 64, device 1.
 use Prim.Native.Nat.{ℕ}
 use mathlib.Core.Path.{_≡_}
-use mathlib.Core.List.{List, [], _∷_, _++_}
+use mathlib.Core.List.{List, [], _∷_}
 use lib.ListN.{replicate}
 use Rattle.wire.specs.declared.Flow.{Flow}
 use Rattle.flows.specs.OneFlow.{pdu}
-use Rattle.flows.specs.Board.{Delivery, delivery, freshBoard}
-use Rattle.sending.specs.Sending.{Sent, FlowSent, Turn, next, message, Sending, losses, packets, whole, deliveries, Fair}
+use Rattle.flows.specs.Board.{delivery, freshBoard}
+use Rattle.sending.specs.Sending.{Sent, next, message, Sending, losses, packets, whole, deliveries, Fair}
 
 abbrev pub five : Flow
 five = record { source = 5; cos = 1 }

@@ -1,7 +1,7 @@
 -- One flow by itself, packet by packet, and what it delivers.
 use Prim.Native.Nat.{ℕ}
-use mathlib.Core.List.{List, [], _∷_, _++_}
-use mathlib.Core.Bool.{Bool, cond}
+use mathlib.Core.List.{List, [], _∷_}
+use mathlib.Core.Bool.{cond}
 use mathlib.Core.Option.{Option, none, some}
 use Rattle.wire.specs.Type9.{segmentOf}
 use Rattle.streams.specs.Joining.{dataOf}

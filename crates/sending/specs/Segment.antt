@@ -1,7 +1,7 @@
 -- What a segment that the writer cuts says when it is read: every field, the data, and that reserved bits and pad are 0.
-use Prim.Native.Nat.{ℕ, suc, _+_, _-_, _*_, _/_, _%_, _≤_, _<_}
+use Prim.Native.Nat.{ℕ, _+_, _-_, _/_, _%_, _≤_, _<_}
 use mathlib.Core.Path.{_≡_}
-use mathlib.Core.List.{List, [], _∷_}
+use mathlib.Core.List.{List}
 use mathlib.Core.Bool.{Bool, true, false, cond, _||_}
 use lib.ListN.{length}
 use lib.Dec.{eqb}
@@ -9,7 +9,6 @@ use Rattle.lists.specs.Bytes.{byte}
 use Rattle.wire.specs.Packet as packet
 use Rattle.wire.specs.declared.Flow.{Flow}
 use Rattle.wire.specs.declared.Segment.{Segment}
-use Rattle.wire.specs.declared.Parsed.{Parsed}
 use Rattle.wire.specs.declared.Parsed.the-variants.{Stream}
 use Rattle.wire.specs.Type9.{badMTU, flags, pduLength, dataLength}
 use Rattle.wire.specs.Parsed.{parsed}

@@ -1,5 +1,5 @@
 -- What holds of a sending, as statements (document 01, demands 2 and 3). Each is proved in proofs/; nothing here is part of a proof.
-use Prim.Native.Nat.{ℕ, zero, suc, _<_, _≤_}
+use Prim.Native.Nat.{ℕ, zero, suc, _<_}
 use mathlib.Core.Path.{_≡_}
 use mathlib.Core.List.{List, [], _∷_}
 use mathlib.Core.Option.{none}
