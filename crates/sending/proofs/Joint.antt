@@ -56,7 +56,7 @@ module _ (mtu R : ℕ) where
           ∙ front (deliveredPDU (packetStep mtu R o (x .packet) .told)) (gives o′ xs) (gives (leaves o′ xs) ys)
 
 -- what is whole, of packets that are put on
-abbrev completed : List Put → List PDU
+abbrev pub completed : List Put → List PDU
 completed [] = []
 completed (x ∷ xs) = also (x .whole) (completed xs)
 

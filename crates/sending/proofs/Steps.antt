@@ -11,7 +11,7 @@ use lib.ListN.{length, take}
 use lib.Seq.{take-add, take-all}
 use borrow.Author.Tests.{eq-eqb, ne-eqb, le-ltb, lt-ltb}
 use Rattle.wire.specs.declared.Flow.{Flow}
-use Rattle.wire.specs.Type9.{segmentOf}
+use Rattle.wire.specs.Type9.{badMTU, segmentOf}
 use Rattle.wire.specs.declared.Segment.{Segment}
 use Rattle.wire.specs.declared.Parsed.the-variants.{Stream}
 use Rattle.wire.specs.Parsed.{parsed}
@@ -93,6 +93,14 @@ count-bounds : (mtu size : ℕ) → 0 < mtu → (segmentCount mtu size * mtu < s
 unfolding segmentCount
 count-bounds mtu size pos = (omega (arith, div-add-mod' (size + (mtu - 1)) mtu, mod-lt (size + (mtu - 1)) pos), omega (arith, div-add-mod' (size + (mtu - 1)) mtu, mod-lt (size + (mtu - 1)) pos))
 
+-- a PDU with a byte makes a packet
+pub count-pos : (mtu size : ℕ) → badMTU mtu ≡ false → 1 ≤ size → 0 < segmentCount mtu size
+count-pos mtu size allowed some-byte = let m = good-mtu mtu allowed in go (segmentCount mtu size) refl (count-bounds mtu size (omega arith) .1)
+  where
+    go : (c : ℕ) → segmentCount mtu size ≡ c → size ≤ segmentCount mtu size * mtu → 0 < c
+    go zero e le = absurd (omega (arith, subst (λ (x : ℕ). size ≤ x * mtu) e le))
+    go (suc c) e le = omega arith
+
 module _ (device mtu R : ℕ) (flow : Flow) (ranges : Ranges device mtu R flow) (s : Sent) (fair : FairPDU R s) where
   abbrev bytes : List ℕ
   bytes = s .pdu .bytes
@@ -158,11 +166,7 @@ module _ (device mtu R : ℕ) (flow : Flow) (ranges : Ranges device mtu R flow) 
   bounds = count-bounds mtu (length bytes) mtu-pos
 
   pub some-packet : 0 < packetCount mtu s
-  some-packet = go (packetCount mtu s) refl
-    where
-      go : (c : ℕ) → packetCount mtu s ≡ c → 0 < c
-      go zero e = absurd (omega (arith, fair .some-byte, subst (λ (x : ℕ). length bytes ≤ x * mtu) e (bounds .1)))
-      go (suc c) e = omega arith
+  some-packet = count-pos mtu (length bytes) (ranges .allowed-MTU) (fair .some-byte)
 
   -- the last holds what is left, 1 to MTU
   pub last-size : (k : ℕ) → suc k ≡ packetCount mtu s → (k * mtu < length bytes) × (length bytes ≤ k * mtu + mtu) × (length (dataOf mtu bytes k) + k * mtu ≡ length bytes)

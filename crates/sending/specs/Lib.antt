@@ -4,3 +4,4 @@ pub mod OneFlow
 pub mod Statements
 pub mod Joint
 pub mod Mixture
+pub mod Meaning
