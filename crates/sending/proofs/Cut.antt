@@ -145,16 +145,16 @@ bytes-seven a b c d e f g l ha hb hc hd he hf hg t =
     (bytes-cons f (g ∷ l) hf
     (bytes-cons g l hg t))))))
 
-bytes-append : (a b : List ℕ) → AreBytes a → AreBytes b → AreBytes (a ++ b)
+pub bytes-append : (a b : List ℕ) → AreBytes a → AreBytes b → AreBytes (a ++ b)
 bytes-append [] b h t = t
 bytes-append (x ∷ xs) b h t = bytes-cons x (xs ++ b) (h 0) (bytes-append xs b (λ i. h (suc i)) t)
 
-bytes-take : (n : ℕ) (l : List ℕ) → AreBytes l → AreBytes (take n l)
+pub bytes-take : (n : ℕ) (l : List ℕ) → AreBytes l → AreBytes (take n l)
 bytes-take zero l h = no-bytes
 bytes-take (suc n) [] h = no-bytes
 bytes-take (suc n) (x ∷ xs) h = bytes-cons x (take n xs) (h 0) (bytes-take n xs (λ i. h (suc i)))
 
-bytes-drop : (n : ℕ) (l : List ℕ) → AreBytes l → AreBytes (drop n l)
+pub bytes-drop : (n : ℕ) (l : List ℕ) → AreBytes l → AreBytes (drop n l)
 bytes-drop zero l h = h
 bytes-drop (suc n) [] h = no-bytes
 bytes-drop (suc n) (x ∷ xs) h = bytes-drop n xs (λ i. h (suc i))

@@ -4,11 +4,11 @@
 use Prim.Native.Nat.{ℕ, zero, suc, _+_, _*_, _≤_, _<_}
 use mathlib.Core.Path.{_≡_, refl, sym, ap, _∙_, subst}
 use mathlib.Core.Logic.{_⊎_, inl, inr, _↔_}
-use mathlib.Core.List.{List, [], _∷_, _++_, map, append-assoc}
+use mathlib.Core.List.{List, [], _∷_, _++_, map, append-assoc, append-nil}
 use mathlib.Core.Bool.{Bool, true, false, cond, _&&_, false≢true}
 use mathlib.Core.Option.{Option, none, some}
 use native.Mathlib.Omega.{arith}
-use native.Mathlib.Decide.{decLe, ℕ-discrete}
+use native.Mathlib.Decide.{decLe}
 use native.Mathlib.Nat.{suc-mul, one-mul}
 use lib.ListN.{length, take, drop, length-append, length-drop, take-append-drop}
 use lib.Seq.{length-take-le, take-all, drop-drop}
@@ -18,9 +18,10 @@ use Rattle.wire.specs.declared.Flow.{Flow}
 use Rattle.segments.specs.Cutting.{dataOf, packetOf}
 use Rattle.flows.specs.OneFlow.{PDU, pdu, Told, held, delivered, refused, Outcome, outcome}
 use Rattle.flows.specs.Board.{delivery}
-use Rattle.sending.specs.Sending.{Each, Sent, has, isLost, packetCount, lossesFrom, losses, isWhole, Put, headingOf, putOf, putsFrom, flowPuts, FairPDU, Ranges}
+use Rattle.sending.specs.Sending.{Each, Sent, isLost, packetCount, lossesFrom, losses, isWhole, Put, headingOf, putOf, putsFrom, flowPuts, FairPDU, Ranges}
 use Rattle.sending.specs.OneFlow.{packetStep, deliveredPDU, also, flowDeliveries, arriving}
 use Rattle.sending.specs.Joint.{isJoint, jointPDU, pairPackets, JointExactly, JointOnly, JointLength, JointDelivered}
+use Rattle.sending.proofs.Losses.{count-lost, count-seen, none-lost, lost-counts}
 use Rattle.sending.proofs.Steps.{mtu-pos, some-packet, last-size, inner-size, data-behind, at-start, at-inner, at-last, at-last-wrong, at-closed, at-over, last-closes}
 use Rattle.sending.proofs.OneFlow.{Proper, proper-packet, afterPut, Good, short-in, whole-lossy}
 use Rattle.sending.proofs.Rooms.{carried}
@@ -107,22 +108,6 @@ module _ (device mtu R : ℕ) (flow : Flow) (ranges : Ranges device mtu R flow) 
   unfolding putOf
   leaves-seen k o o′ xs e step = rw (e, step)
 
-  -- a lost packet counts
-  lost-counts : (n k last : ℕ) → isLost s last ≡ true → k ≤ last → last < k + n → 0 < lossesFrom (s .lost) k n
-  lost-counts zero k last e le lt = absurd (omega arith)
-  lost-counts (suc n) k last e le lt = go (ℕ-discrete k last) (lost-counts n (suc k) last e)
-    where
-      go : Dec (k ≡ last) → (suc k ≤ last → last < suc k + n → 0 < lossesFrom (s .lost) (suc k) n) → 0 < lossesFrom (s .lost) k (suc n)
-      go (yes q) rest = let here : isLost s k ≡ true = ap (isLost s) q ∙ e in rw here (omega arith)
-      go (no q) rest = let r = rest (omega arith) (omega arith) in omega arith
-
-  -- the count of losses, where packet k is lost and where it is not
-  count-lost : (k n c : ℕ) → isLost s k ≡ true → lossesFrom (s .lost) k (suc n) ≡ suc c → lossesFrom (s .lost) (suc k) n ≡ c
-  count-lost k n c e l = let q = rw e at l in omega arith
-
-  count-seen : (k n c : ℕ) → isLost s k ≡ false → lossesFrom (s .lost) k (suc n) ≡ c → lossesFrom (s .lost) (suc k) n ≡ c
-  count-seen k n c e l = let q = rw e at l in omega arith
-
   -- the last packet arrives: the flow is left closed
   leaves-closed : (n k : ℕ) (o : Option PDU) → k + suc n ≡ packetCount mtu s → ((last : ℕ) → suc last ≡ packetCount mtu s → isLost s last ≡ false) → leaves mtu R o (puts k (suc n)) ≡ none
   leaves-closed zero k o e arrives = leaves-seen k o none [] (arrives k (omega arith)) (last-closes device mtu R flow ranges s fair k o (omega arith))
@@ -143,8 +128,8 @@ module _ (device mtu R : ℕ) (flow : Flow) (ranges : Ranges device mtu R flow) 
           → (lossesFrom (s .lost) (suc (suc k)) (suc n) ≡ 1 → leaves mtu R (some (before (suc (suc k)))) (puts (suc (suc k)) (suc n)) ≡ some (before last))
           → leaves mtu R (some (before (suc k))) (puts (suc k) (suc (suc n))) ≡ some (before last)
       go true t rest =
-          let c = lost-counts (suc n) (suc (suc k)) last lost (omega arith) (omega arith) in
-          absurd (omega (arith, count-lost (suc k) (suc n) 0 t one))
+          let c = lost-counts (s .lost) (suc n) (suc (suc k)) last lost (omega arith) (omega arith) in
+          absurd (omega (arith, count-lost (s .lost) (suc k) (suc n) 0 t one))
       go false t rest =
           let inner : suc (suc k) < packetCount mtu s = omega arith in
           let size = inner-size device mtu R flow ranges s fair (suc k) inner in
@@ -152,7 +137,7 @@ module _ (device mtu R : ℕ) (flow : Flow) (ranges : Ranges device mtu R flow) 
           leaves-seen (suc k) (some (before (suc k))) (some (before (suc (suc k)))) (puts (suc (suc k)) (suc n)) t
           (ap (λ (x : Outcome). x .next) (at-inner device mtu R flow ranges s fair k (before (suc k)) inner (omega (arith, fair .fits)))
           ∙ ap (λ (x : List ℕ). some (pdu (s .pdu .stream) x)) (data-behind device mtu R flow ranges s fair (suc k)))
-          ∙ rest (count-seen (suc k) (suc n) 1 t one)
+          ∙ rest (count-seen (s .lost) (suc k) (suc n) 1 t one)
 
   -- ---- what the first leaves
 
@@ -181,13 +166,13 @@ module _ (device mtu R : ℕ) (flow : Flow) (ranges : Ranges device mtu R flow) 
       -- it is lost, and it is not the first
       stays : (n : ℕ) → suc (suc n) ≡ packetCount mtu s → isLost s (suc n) ≡ true → lossesFrom (s .lost) 0 (suc (suc n)) ≡ 1 → (t : Bool) → isLost s 0 ≡ t → FirstLeaves
       stays n e lost l true first =
-          let c = lost-counts (suc n) 1 (suc n) lost (omega arith) (omega arith) in
-          absurd (omega (arith, count-lost 0 (suc n) 0 first l))
+          let c = lost-counts (s .lost) (suc n) 1 (suc n) lost (omega arith) (omega arith) in
+          absurd (omega (arith, count-lost (s .lost) 0 (suc n) 0 first l))
       stays n e lost l false first =
           opened n e lost
           (subst (λ (c : ℕ). leaves mtu R none (puts 0 c) ≡ some (before (suc n))) e
           (leaves-seen 0 none (some (before 1)) (puts 1 (suc n)) first (ap (λ (x : Outcome). x .next) (at-start device mtu R flow ranges s fair none (omega arith)))
-          ∙ leaves-open n 0 (suc n) (omega arith) e lost (count-seen 0 (suc n) 1 first l)))
+          ∙ leaves-open n 0 (suc n) (omega arith) e lost (count-seen (s .lost) 0 (suc n) 1 first l)))
 
       go : (c : ℕ) → c ≡ packetCount mtu s → lossesFrom (s .lost) 0 c ≡ 1 → FirstLeaves
       go zero e l = absurd (omega arith)
@@ -212,15 +197,11 @@ module _ (device mtu R : ℕ) (flow : Flow) (ranges : Ranges device mtu R flow) 
   none-completed w zero k = refl
   none-completed w (suc n) k = rw (whole-lossy device mtu R flow ranges s fair [] k w) (none-completed w n (suc k))
 
-  nil-right : {A : Type 0} (l : List A) → l ++ [] ≡ l
-  nil-right [] = refl
-  nil-right (x ∷ xs) = ap (λ (y : List _). x ∷ y) (nil-right xs)
-
   -- from closed, or where its first packet arrives: nothing
   gives-nothing : losses mtu s ≡ 1 → (o : Option PDU) → (o ≡ none) ⊎ (isLost s 0 ≡ false) → gives mtu R o (puts 0 (packetCount mtu s)) ≡ []
   gives-nothing one o why =
       let g = short-in device mtu R flow ranges s fair [] (lossy one) (λ o′. tt) o why in
-      good-gives device mtu R flow (puts 0 (packetCount mtu s)) o (subst (Good device mtu R flow o) (nil-right (puts 0 (packetCount mtu s))) g)
+      good-gives device mtu R flow (puts 0 (packetCount mtu s)) o (subst (Good device mtu R flow o) (append-nil (puts 0 (packetCount mtu s))) g)
       ∙ none-completed (lossy one) (packetCount mtu s) 0
 
   -- closed, from its second packet on: nothing
@@ -231,14 +212,6 @@ module _ (device mtu R : ℕ) (flow : Flow) (ranges : Ranges device mtu R flow) 
       go : (t : Bool) → isLost s (suc k) ≡ t → gives mtu R none (puts (suc (suc k)) n) ≡ [] → gives mtu R none (puts (suc k) (suc n)) ≡ []
       go true t rest = gives-lost (suc k) none (puts (suc (suc k)) n) t ∙ rest
       go false t rest = gives-seen (suc k) none none (refused 8) false (puts (suc (suc k)) n) t (at-closed device mtu R flow ranges s fair k (omega arith)) ∙ rest
-
-  -- of packet k and n behind it none is lost
-  all-seen : (k n : ℕ) → lossesFrom (s .lost) k (suc n) ≡ 0 → (isLost s k ≡ false) × (lossesFrom (s .lost) (suc k) n ≡ 0)
-  all-seen k n e = go (has k (s .lost)) e
-    where
-      go : (b : Bool) → cond b 1 0 + lossesFrom (s .lost) (suc k) n ≡ 0 → (b ≡ false) × (lossesFrom (s .lost) (suc k) n ≡ 0)
-      go true e = absurd (omega arith)
-      go false e = (refl, omega arith)
 
   -- what is behind packet k
   behind-last : (k : ℕ) → suc k ≡ packetCount mtu s → dataOf mtu bytes k ≡ drop (k * mtu) bytes
@@ -256,12 +229,12 @@ module _ (device mtu R : ℕ) (flow : Flow) (ranges : Ranges device mtu R flow) 
       → gives mtu R (some p) (puts (suc k) (suc n)) ≡ pdu (p .stream) (p .bytes ++ drop (suc k * mtu) bytes) ∷ []
   gives-joined zero k p e l so-far =
       let last : suc (suc k) ≡ packetCount mtu s = omega arith in
-      gives-seen (suc k) (some p) none (delivered (pdu (p .stream) (p .bytes ++ dataOf mtu bytes (suc k)))) false [] (all-seen (suc k) 0 l .0) (at-last device mtu R flow ranges s fair k p last so-far)
+      gives-seen (suc k) (some p) none (delivered (pdu (p .stream) (p .bytes ++ dataOf mtu bytes (suc k)))) false [] (none-lost (s .lost) (suc k) 0 l .0) (at-last device mtu R flow ranges s fair k p last so-far)
       ∙ ap (λ (x : List ℕ). pdu (p .stream) (p .bytes ++ x) ∷ []) (behind-last (suc k) last)
   gives-joined (suc n) k p e l so-far =
       let inner : suc (suc k) < packetCount mtu s = omega arith in
       let size = inner-size device mtu R flow ranges s fair (suc k) inner in
-      let here = all-seen (suc k) (suc n) l in
+      let here = none-lost (s .lost) (suc k) (suc n) l in
       let longer : PDU = pdu (p .stream) (p .bytes ++ dataOf mtu bytes (suc k)) in
       let longer-is : length (longer .bytes) ≡ length (p .bytes) + length (dataOf mtu bytes (suc k)) = length-append (p .bytes) (dataOf mtu bytes (suc k)) in
       gives-seen (suc k) (some p) (some longer) held false (puts (suc (suc k)) (suc n)) (here .0) (at-inner device mtu R flow ranges s fair k p inner (omega (arith, fair .fits)))
@@ -275,10 +248,10 @@ module _ (device mtu R : ℕ) (flow : Flow) (ranges : Ranges device mtu R flow) 
   gives-too-long zero k p e l long = go (decLe (length (p .bytes) + length (dataOf mtu bytes (suc k))) R)
     where
       go : Dec (length (p .bytes) + length (dataOf mtu bytes (suc k)) ≤ R) → gives mtu R (some p) (puts (suc k) 1) ≡ []
-      go (yes room) = gives-seen (suc k) (some p) none (refused 11) true [] (all-seen (suc k) 0 l .0) (at-last-wrong device mtu R flow ranges s fair k p (omega arith) room (λ t. omega arith))
-      go (no over) = gives-seen (suc k) (some p) none (refused 9) true [] (all-seen (suc k) 0 l .0) (at-over device mtu R flow ranges s fair k p (omega arith) (omega arith))
+      go (yes room) = gives-seen (suc k) (some p) none (refused 11) true [] (none-lost (s .lost) (suc k) 0 l .0) (at-last-wrong device mtu R flow ranges s fair k p (omega arith) room (λ t. omega arith))
+      go (no over) = gives-seen (suc k) (some p) none (refused 9) true [] (none-lost (s .lost) (suc k) 0 l .0) (at-over device mtu R flow ranges s fair k p (omega arith) (omega arith))
   gives-too-long (suc n) k p e l long =
-      go (decLe (length (p .bytes) + length (dataOf mtu bytes (suc k))) R) (λ q h. gives-too-long n (suc k) q (omega arith) (all-seen (suc k) (suc n) l .1) h)
+      go (decLe (length (p .bytes) + length (dataOf mtu bytes (suc k))) R) (λ q h. gives-too-long n (suc k) q (omega arith) (none-lost (s .lost) (suc k) (suc n) l .1) h)
     where
       inner : suc (suc k) < packetCount mtu s
       inner = omega arith
@@ -290,10 +263,10 @@ module _ (device mtu R : ℕ) (flow : Flow) (ranges : Ranges device mtu R flow) 
           let size = inner-size device mtu R flow ranges s fair (suc k) inner in
           let longer : PDU = pdu (p .stream) (p .bytes ++ dataOf mtu bytes (suc k)) in
           let longer-is : length (longer .bytes) ≡ length (p .bytes) + length (dataOf mtu bytes (suc k)) = length-append (p .bytes) (dataOf mtu bytes (suc k)) in
-          gives-seen (suc k) (some p) (some longer) held false (puts (suc (suc k)) (suc n)) (all-seen (suc k) (suc n) l .0) (at-inner device mtu R flow ranges s fair k p inner (omega arith))
+          gives-seen (suc k) (some p) (some longer) held false (puts (suc (suc k)) (suc n)) (none-lost (s .lost) (suc k) (suc n) l .0) (at-inner device mtu R flow ranges s fair k p inner (omega arith))
           ∙ rest longer (omega arith)
       go (no over) rest =
-          gives-seen (suc k) (some p) none (refused 9) true (puts (suc (suc k)) (suc n)) (all-seen (suc k) (suc n) l .0) (at-over device mtu R flow ranges s fair k p (omega arith) (omega arith))
+          gives-seen (suc k) (some p) none (refused 9) true (puts (suc (suc k)) (suc n)) (none-lost (s .lost) (suc k) (suc n) l .0) (at-over device mtu R flow ranges s fair k p (omega arith) (omega arith))
           ∙ gives-closed (suc n) (suc k) (omega arith)
 
   -- after a flow left open with so many bytes, where its start is lost
@@ -301,7 +274,7 @@ module _ (device mtu R : ℕ) (flow : Flow) (ranges : Ranges device mtu R flow) 
       → ((length (p .bytes) ≡ mtu → gives mtu R (some p) (puts 0 (packetCount mtu s)) ≡ pdu (p .stream) (p .bytes ++ drop mtu bytes) ∷ [])
       × (mtu < length (p .bytes) → gives mtu R (some p) (puts 0 (packetCount mtu s)) ≡ []))
   gives-behind p one lost n e =
-      let others : lossesFrom (s .lost) 1 (suc n) ≡ 0 = count-lost 0 (suc n) 0 lost (subst (λ (c : ℕ). lossesFrom (s .lost) 0 c ≡ 1) (sym e) one) in
+      let others : lossesFrom (s .lost) 1 (suc n) ≡ 0 = count-lost (s .lost) 0 (suc n) 0 lost (subst (λ (c : ℕ). lossesFrom (s .lost) 0 c ≡ 1) (sym e) one) in
       let once : 1 * mtu ≡ mtu = one-mul mtu in (
         λ full. subst (λ (c : ℕ). gives mtu R (some p) (puts 0 c) ≡ pdu (p .stream) (p .bytes ++ drop mtu bytes) ∷ []) e
             (gives-lost 0 (some p) (puts 1 (suc n)) lost ∙ gives-joined n 0 p (omega arith) others (full ∙ sym once)
@@ -349,7 +322,7 @@ unfolding isJoint
 joint-exactly device mtu R flow a b pair =
     gives-append mtu R putsA (putsB ++ []) none
     ∙ ap (λ (x : List PDU). x ++ gives mtu R (leaves mtu R none putsA) (putsB ++ [])) (gives-nothing device mtu R flow (pair .ranges) a (pair .first-fair) (pair .first-loses) none (inl refl))
-    ∙ ap (gives mtu R (leaves mtu R none putsA)) (nil-right device mtu R flow (pair .ranges) b (pair .second-fair) putsB)
+    ∙ ap (gives mtu R (leaves mtu R none putsA)) (append-nil putsB)
     ∙ go (first-leaves device mtu R flow (pair .ranges) a (pair .first-fair) (pair .first-loses))
   where
     putsA : List Put

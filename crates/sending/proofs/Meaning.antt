@@ -1,18 +1,16 @@
 -- What a sending's words mean: by induction over the turns, a turn of the flow itself moves a packet from the one list to the other.
-use Prim.Native.Nat.{ℕ, zero, suc, _+_, _≤_, _<_}
-use mathlib.Core.Path.{_≡_, refl, sym, ap, _∙_, subst}
-use mathlib.Core.List.{List, [], _∷_, _++_, tail}
+use Prim.Native.Nat.{ℕ, zero, suc, _+_}
+use mathlib.Core.Path.{_≡_, refl, sym, ap, _∙_}
+use mathlib.Core.List.{List, [], _∷_, _++_, tail, append-nil}
 use mathlib.Core.Bool.{Bool, true, false, cond, _&&_}
 use mathlib.Core.Option.{Option, none, some}
 use native.Mathlib.Omega.{arith}
 use lib.ListN.{length}
-use lib.Dec.{eqb}
 use borrow.Author.Tests.{eq-eqb, ne-eqb}
 use Rattle.wire.specs.declared.Flow.{Flow}
 use Rattle.wire.specs.Type9.{badMTU, sameFlow}
 use Rattle.segments.specs.Cutting.{isFinal}
 use Rattle.flows.specs.OneFlow.{PDU}
-use Rattle.flows.specs.Board.{Delivery}
 use Rattle.sending.specs.Sending.{Sent, packetCount, isWhole, Put, putOf, putsFrom, flowPuts, FlowSent, Turn, next, message, sentOn, Event, put, sent, headOf, advance, events, queues, tell, wholes, Each, FairPDU, FairFlow}
 use Rattle.sending.specs.OneFlow.{also}
 use Rattle.sending.specs.Meaning.{putBy, toCome, InOrder, intact, fromFlow, WholeIsIntact}
@@ -97,13 +95,9 @@ sent-fair mtu R (x ∷ xs) fair flow = go (sameFlow flow (x .flow)) (sent-fair m
     go true rest = fair .0 .PDUs
     go false rest = rest
 
-nil-right : (l : List Put) → l ++ [] ≡ l
-nil-right [] = refl
-nil-right (x ∷ xs) = ap (λ (y : List Put). x ∷ y) (nil-right xs)
-
 pub whole-is-intact : WholeIsIntact
 whole-is-intact device mtu R s flow fair done =
     let on : List Put = putBy flow (events (queues device mtu s) (s .turns)) in
-    let all : on ≡ queues device mtu s flow = sym (nil-right on) ∙ ap (λ (l : List Put). on ++ l) (sym done) ∙ in-order device mtu s flow in
+    let all : on ≡ queues device mtu s flow = sym (append-nil on) ∙ ap (λ (l : List Put). on ++ l) (sym done) ∙ in-order device mtu s flow in
     completes flow (events (queues device mtu s) (s .turns)) ∙ ap completed all
     ∙ flow-completed device mtu R flow (fair .allowed-MTU) (sentOn (s .flows) flow) (sent-fair mtu R (s .flows) (fair .flows) flow)

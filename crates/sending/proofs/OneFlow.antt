@@ -17,8 +17,9 @@ use Rattle.wire.specs.Parsed.{parsed}
 use Rattle.segments.specs.Cutting.{dataOf, isFinal, packetOf}
 use Rattle.flows.specs.OneFlow.{PDU, pdu, Told, held, delivered, refused, outcome, isOpen}
 use Rattle.flows.specs.ByFlow.{AreBytes}
-use Rattle.sending.specs.Sending.{Sent, has, isLost, packetCount, lossesFrom, losses, isWhole, Put, headingOf, putOf, putsFrom, flowPuts, Each, FairPDU, Apart, Ranges}
+use Rattle.sending.specs.Sending.{Sent, isLost, packetCount, lossesFrom, losses, isWhole, Put, headingOf, putOf, putsFrom, flowPuts, Each, FairPDU, Apart, Ranges}
 use Rattle.sending.specs.OneFlow.{packetStep, deliveredPDU}
+use Rattle.sending.proofs.Losses.{none-lost}
 use Rattle.sending.proofs.Steps.{mtu-pos, packet-read, packet-bytes, packet-flow, final-is, inner-is, some-packet, last-size, inner-size, data-behind, all-taken, at-single, at-start, at-inner, at-last, at-last-wrong, at-closed}
 
 -- a packet that is read, and is of that flow
@@ -91,14 +92,6 @@ module _ (device mtu R : ℕ) (flow : Flow) (ranges : Ranges device mtu R flow) 
       go true = refl
       go false = refl
 
-  -- of packet k and n behind it none is lost
-  none-lost : (k n : ℕ) → lossesFrom (s .lost) k (suc n) ≡ 0 → (isLost s k ≡ false) × (lossesFrom (s .lost) (suc k) n ≡ 0)
-  none-lost k n e = go (has k (s .lost)) e
-    where
-      go : (b : Bool) → cond b 1 0 + lossesFrom (s .lost) (suc k) n ≡ 0 → (b ≡ false) × (lossesFrom (s .lost) (suc k) n ≡ 0)
-      go true e = absurd (omega arith)
-      go false e = (refl, omega arith)
-
   -- Nothing lost: behind the packets before k come the rest, and the last delivers the PDU.
   tail-whole : (n k : ℕ) → suc k + suc n ≡ packetCount mtu s → isWhole mtu s ≡ true → lossesFrom (s .lost) (suc k) (suc n) ≡ 0 → Good′ none more
       → Good′ (some (pdu (s .pdu .stream) (take (suc k * mtu) (s .pdu .bytes)))) (putsFrom device mtu flow s (suc k) (suc n) ++ more)
@@ -106,7 +99,7 @@ module _ (device mtu R : ℕ) (flow : Flow) (ranges : Ranges device mtu R flow) 
       let last : suc (suc k) ≡ packetCount mtu s = omega arith in
       let size = last-size device mtu R flow ranges s fair (suc k) last in
       let so-far : length (take (suc k * mtu) (s .pdu .bytes)) ≡ suc k * mtu = length-take-le (suc k * mtu) (s .pdu .bytes) (omega arith) in
-      put-seen (suc k) _ none _ false more (omega arith) (none-lost (suc k) 0 l .0)
+      put-seen (suc k) _ none _ false more (omega arith) (none-lost (s .lost) (suc k) 0 l .0)
       (at-last device mtu R flow ranges s fair k (pdu (s .pdu .stream) (take (suc k * mtu) (s .pdu .bytes))) last so-far)
       (ap (λ (b : List ℕ). some (pdu (s .pdu .stream) b)) (data-behind device mtu R flow ranges s fair (suc k) ∙ all-taken device mtu R flow ranges s fair (suc k) last)
       ∙ sym (whole-last (suc k) last w))
@@ -115,7 +108,7 @@ module _ (device mtu R : ℕ) (flow : Flow) (ranges : Ranges device mtu R flow) 
       let inner : suc (suc k) < packetCount mtu s = omega arith in
       let size = inner-size device mtu R flow ranges s fair (suc k) inner in
       let so-far : length (take (suc k * mtu) (s .pdu .bytes)) ≡ suc k * mtu = length-take-le (suc k * mtu) (s .pdu .bytes) (omega arith) in
-      let here = none-lost (suc k) (suc n) l in
+      let here = none-lost (s .lost) (suc k) (suc n) l in
       put-seen (suc k) _ _ _ false (putsFrom device mtu flow s (suc (suc k)) (suc n) ++ more) (omega arith) (here .0)
       (at-inner device mtu R flow ranges s fair k (pdu (s .pdu .stream) (take (suc k * mtu) (s .pdu .bytes))) inner (omega (arith, fair .fits))
       ∙ ap (λ (b : List ℕ). outcome (some (pdu (s .pdu .stream) b)) held false) (data-behind device mtu R flow ranges s fair (suc k)))
@@ -195,10 +188,10 @@ module _ (device mtu R : ℕ) (flow : Flow) (ranges : Ranges device mtu R flow) 
       go : (c : ℕ) → c ≡ packetCount mtu s → lossesFrom (s .lost) 0 c ≡ 0 → Good′ o (putsFrom device mtu flow s 0 c ++ more)
       go zero e l = absurd (omega (arith, some-packet device mtu R flow ranges s fair))
       go (suc zero) e l =
-          put-seen 0 o none (delivered (s .pdu)) (isOpen o) more (omega arith) (none-lost 0 0 l .0) (at-single device mtu R flow ranges s fair o e) (sym (whole-last 0 e w)) g
+          put-seen 0 o none (delivered (s .pdu)) (isOpen o) more (omega arith) (none-lost (s .lost) 0 0 l .0) (at-single device mtu R flow ranges s fair o e) (sym (whole-last 0 e w)) g
       go (suc (suc n)) e l =
-          put-seen 0 o (some begun) held (isOpen o) (putsFrom device mtu flow s 1 (suc n) ++ more) (omega arith) (none-lost 0 (suc n) l .0) (at-start device mtu R flow ranges s fair o (omega arith)) (sym (whole-inner 0 (omega arith)))
-          (tail-whole n 0 (omega arith) w (none-lost 0 (suc n) l .1) g)
+          put-seen 0 o (some begun) held (isOpen o) (putsFrom device mtu flow s 1 (suc n) ++ more) (omega arith) (none-lost (s .lost) 0 (suc n) l .0) (at-start device mtu R flow ranges s fair o (omega arith)) (sym (whole-inner 0 (omega arith)))
+          (tail-whole n 0 (omega arith) w (none-lost (s .lost) 0 (suc n) l .1) g)
 
   -- A PDU that lost something is not delivered, if the flow is closed before it or its first packet arrives.
   pub short-in : isWhole mtu s ≡ false → ((o : Option PDU) → Good′ o more) → (o : Option PDU) → (o ≡ none) ⊎ (isLost s 0 ≡ false)

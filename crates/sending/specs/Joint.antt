@@ -10,7 +10,7 @@ use lib.Dec.{eqb, leb}
 use Rattle.wire.specs.declared.Flow.{Flow}
 use Rattle.flows.specs.OneFlow.{PDU, pdu}
 use Rattle.flows.specs.Board.{Board, delivery}
-use Rattle.sending.specs.Sending.{Sent, isLost, packetCount, losses, flowPuts, deliveries, Ranges, FairPDU}
+use Rattle.sending.specs.Sending.{Sent, isLost, priorityOf, packetCount, losses, isWhole, flowPuts, deliveries, Ranges, FairPDU}
 use Rattle.sending.specs.OneFlow.{flowDeliveries, arriving}
 use Rattle.sending.specs.Statements.{Begins}
 
@@ -57,3 +57,18 @@ abbrev pub JointDelivered : Type 1
 JointDelivered =
     (device mtu R : ℕ) (flow : Flow) (first second : Sent) (b : Board) → Pair device mtu R flow first second → Begins device mtu R (flow ∷ []) b
     → deliveries b (pairPackets device mtu flow first second) ≡ cond (isJoint mtu first second) (delivery flow (jointPDU mtu first second) ∷ []) []
+
+-- NO RECEIVER CAN TELL: the packets that a joint leaves are those of another sending, in which that PDU is sent, fair and whole.
+-- So the premise of demand 3 that no two neighbours both lose a packet cannot be left out.
+abbrev pub jointSent : ℕ → Sent → Sent → Sent
+jointSent mtu first second = record { pdu = jointPDU mtu first second; lost = []; priorities = priorityOf first 0 ∷ drop 1 (second .priorities) }
+
+pub record Untold (device mtu R : ℕ) (flow : Flow) (first second : Sent) : Type 0 where
+  pub fair : FairPDU R (jointSent mtu first second)
+  pub intact : isWhole mtu (jointSent mtu first second) ≡ true
+  pub same-packets : pairPackets device mtu flow first second ≡ arriving (flowPuts device mtu flow (jointSent mtu first second ∷ []))
+
+abbrev pub JointUntold : Type 0
+JointUntold =
+    (device mtu R : ℕ) (flow : Flow) (first second : Sent) → Pair device mtu R flow first second → isJoint mtu first second ≡ true
+    → Untold device mtu R flow first second
