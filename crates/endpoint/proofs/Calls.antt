@@ -12,7 +12,7 @@ use denote.Ref.{RefT, now}
 use Rattle.lists.specs.Rows.{joined}
 use Rattle.answers.specs.Answers.{ready, free, closed, refused}
 use Rattle.answers.specs.Refusals.{verdict}
-use Rattle.wire.specs.Type9.{badMTU}
+use Rattle.sizes.specs.Sizes.{badMTU}
 use Rattle.contexts.specs.State.{State}
 use Rattle.contexts.specs.Words.{stateOf, wordsOf, stateWords}
 use Rattle.refusal19.specs.Refusal19.{badRoom, namedBy19}

@@ -10,7 +10,7 @@ use Rattle.answers.specs.Answers.{Said, ready, closed, free, refused, saidOfSet
 use Rattle.answers.specs.declared.Begun.{Begun}
 use Rattle.answers.specs.declared.Abandoned.{Abandoned}
 use Rattle.answers.specs.Refusals.{RowOf, Row, row, all, VerdictOf, Verdict, refuse, accept, verdict}
-use Rattle.wire.specs.Type9.{badMTU}
+use Rattle.sizes.specs.Sizes.{badMTU}
 use Rattle.contexts.specs.State.{State, fresh, streamIn, messageIn, withStream, withMessage, closedStream, closedMessage, isFreeStream, isFreeMessage}
 use Rattle.contexts.specs.Words.{stateOf, wordsOf, stateWords}
 use Rattle.refusal19.specs.Refusal19.{badRoom, namedBy19}

@@ -22,7 +22,7 @@ pub fn setup(state: &mut [usize], device: u16, mtu: usize, room: usize) -> Begun
     if state.len() != contexts::WORDS {
         return Begun::Refused(12);
     }
-    if wire::bad_mtu(mtu) {
+    if sizes::bad_mtu(mtu) {
         contexts::clear(state);
         return Begun::Refused(18);
     }
@@ -73,7 +73,7 @@ pub fn abandon_stream(state: &mut [usize], n: usize) -> Abandoned
     if c.live == 0 {
         return Abandoned::WasFree;
     }
-    contexts::put_stream(state, n, streams::closed());
+    contexts::put_stream(state, n, stream_rooms::closed());
     Abandoned::Closed
 }
 
@@ -94,7 +94,7 @@ pub fn abandon_message(state: &mut [usize], n: usize) -> Abandoned
     if c.live == 0 {
         return Abandoned::WasFree;
     }
-    contexts::put_message(state, n, messages::closed());
+    contexts::put_message(state, n, message_rooms::closed());
     Abandoned::Closed
 }
 
@@ -144,5 +144,5 @@ pub fn message_room<'a>(state: &[usize], memory: &'a [u8], n: usize, l: usize) -
     if no_state(state) {
         return &memory[0..0];
     }
-    room_part(memory, 8, messages::ROOM, n, l)
+    room_part(memory, 8, message_rooms::ROOM, n, l)
 }

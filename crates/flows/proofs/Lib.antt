@@ -1,0 +1,10 @@
+pub mod Flows
+pub mod Contexts
+pub mod Rooms
+pub mod Seen
+pub mod OneStep
+pub mod Steps
+pub mod Quiet
+pub mod Fine
+pub mod Machine
+pub mod Apart

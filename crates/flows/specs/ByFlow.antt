@@ -14,7 +14,7 @@ use Rattle.wire.specs.declared.Parsed.{Parsed}
 use Rattle.wire.specs.declared.Parsed.the-variants.{Refused, Stream, Message}
 use Rattle.wire.specs.Type9.{sameFlow}
 use Rattle.wire.specs.Parsed.{parsed}
-use Rattle.streams.specs.Joining.{dataOf}
+use Rattle.stream_rooms.specs.Placing.{dataOf}
 use Rattle.flows.specs.OneFlow.{PDU, Told, held, delivered, refused, Outcome, flowStep}
 use Rattle.flows.specs.Board.{Board, Delivery, delivery, deliveredBy, read, after, view}
 

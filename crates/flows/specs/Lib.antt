@@ -1,3 +1,4 @@
 pub mod OneFlow
 pub mod Board
 pub mod ByFlow
+pub mod Apart

@@ -6,7 +6,7 @@ use mathlib.Core.Option.{Option, none, some}
 use lib.ListN.{length}
 use lib.Dec.{ltb}
 use Rattle.wire.specs.declared.Segment.{Segment}
-use Rattle.wire.specs.Type9.{dataLength}
+use Rattle.sizes.specs.Sizes.{dataLength}
 use Rattle.rules.specs.Segments.{malformed, wrongSize, wrongLength}
 
 -- a PDU: its streamID and its bytes. Also what an open context holds: the streamID, and the bytes that came so far

@@ -1,8 +1,8 @@
 -- A type 11 packet leaves a state that 19 does not name, where it found one.
-use Prim.Native.Nat.{ℕ, _≤_, _<_, _+_, _^_}
+use Prim.Native.Nat.{ℕ, _<_, _+_, _^_}
 use mathlib.Core.Path.{_≡_, refl, ap, ap₂, sym, _∙_, subst}
 use mathlib.Core.List.{List}
-use mathlib.Core.Bool.{Bool, true, false, cond, not, _||_, _&&_}
+use mathlib.Core.Bool.{Bool, true, false, cond, not}
 use native.Mathlib.Omega.{arith}
 use native.Mathlib.Decide.{ℕ-discrete}
 use lib.Dec.{eqb, ltb}
@@ -10,17 +10,19 @@ use lib.ListN.{length}
 use lib.Pow.{pow-pos}
 use borrow.Author.Tests.{eqb-false, eqb-true, eq-eqb, ne-eqb, ltb-true, not-false}
 use Rattle.wire.specs.declared.MessageSegment.{MessageSegment}
-use Rattle.wire.specs.Type11.{bytesOf, inEights, isSingle, isLast}
+use Rattle.wire.specs.Type11.{isSingle}
+use Rattle.sizes.specs.Sizes.{bytesOf, inEights}
 use Rattle.contexts.specs.declared.MessageContext.{MessageContext}
-use Rattle.contexts.specs.State.{State, messageIn, withMessage, closedMessage, messageContext, freeMessage}
-use Rattle.contexts.specs.Marks.{marked, allMarked}
-use Rattle.refusal19.specs.Refusal19.{badLast, badMessage, namedBy19}
+use Rattle.contexts.specs.State.{State, messageIn, closedMessage, messageContext, freeMessage}
+use Rattle.contexts.specs.Marks.{marked}
+use Rattle.refusal19.specs.Refusal19.{badLast, namedBy19}
 use Rattle.contexts.proofs.Bits.{mark-set, mark-other}
 use Rattle.refusal19.proofs.Good.{Message, good, neither, message-found}
 use Rattle.refusal19.proofs.Kept.{closed-message, kept-message, message-kept}
 use Rattle.contexts.proofs.Marks.{room-for-mark, nothing-marked}
+use Rattle.message_rooms.specs.Placing.{placed, kept, complete, marksWith}
 use Rattle.messages.specs.Rows.{foundFor, messageOpen, otherMessage, alreadyMarked}
-use Rattle.messages.specs.Joining.{accepted, alone, placed, kept, complete, marksWith, contextWith}
+use Rattle.messages.specs.Joining.{accepted, alone}
 use Rattle.rules.specs.Messages.{reservedSize, badLength, pastLast, lastWith}
 use Rattle.rules.proofs.Laws.{seg-le}
 

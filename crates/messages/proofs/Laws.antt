@@ -1,21 +1,19 @@
 -- Laws of a type 11 step: what each way through the code leaves is what the definition says.
-use Prim.Native.Nat.{ℕ, _≤_, _<_, _+_, _-_, _*_, _^_}
-use mathlib.Core.Path.{_≡_, refl, ap, sym, _∙_}
+use Prim.Native.Nat.{ℕ, _≤_, _<_, _-_, _*_}
+use mathlib.Core.Path.{_≡_, sym, _∙_}
 use mathlib.Core.List.{List}
-use mathlib.Core.Bool.{Bool, true, false, cond, not, _||_, _&&_, or-true}
+use mathlib.Core.Bool.{Bool, true, false, cond, not, _||_, or-true}
 use native.Mathlib.Omega.{arith}
-use native.Mathlib.Nat.{mul-le-mul-right}
 use lib.Dec.{eqb, ltb}
-use lib.ListN.{length, take, drop, length-drop}
-use lib.Seq.{take-all}
-use lib.Pow.{pow-mono}
-use borrow.Author.Tests.{lt-ltb, le-ltb, eq-eqb, ne-eqb, eqb-true, ltb-false, not-false}
+use lib.ListN.{length, take, drop}
+use borrow.Author.Tests.{lt-ltb, le-ltb, eq-eqb, ne-eqb, eqb-true, not-false}
 use Rattle.lists.specs.Bytes.{written}
 use Rattle.answers.specs.Answers.{Said, message}
 use Rattle.wire.specs.declared.MessageSegment.{MessageSegment}
-use Rattle.wire.specs.Type11.{bytesOf, inEights, isSingle, isLast, mailbox}
-use Rattle.wire.specs.Type13.{ERROR, RETRY, DONE, answered}
-use Rattle.wire.proofs.Sizes.{bytes-le, eights-le}
+use Rattle.wire.specs.Type11.{isSingle, mailbox}
+use Rattle.sizes.specs.Sizes.{bytesOf, inEights}
+use Rattle.responses.specs.Type13.{ERROR, RETRY, DONE, answered}
+use Rattle.sizes.proofs.Laws.{bytes-le, eights-le}
 use Rattle.contexts.specs.declared.MessageContext.{MessageContext}
 use Rattle.contexts.specs.State.{State, messageIn, withMessage, closedMessage, messageContext, freeMessage}
 use Rattle.contexts.specs.Marks.{marked}
@@ -23,22 +21,12 @@ use Rattle.refusal19.specs.Refusal19.{badLast, namedBy19}
 use Rattle.contexts.specs.Words.{stateOf}
 use Rattle.contexts.proofs.Words.{eight}
 use Rattle.refusal19.proofs.Good.{Message, good, message-found}
-use Rattle.rules.specs.Messages.{judged, lastWith, reservedSize, badLength, pastLast, Sound}
+use Rattle.rules.specs.Messages.{judged}
+use Rattle.message_rooms.specs.Placing.{joining, placed, Replied}
+use Rattle.message_rooms.proofs.Laws.{data-whole}
 use Rattle.messages.specs.Rows.{foundFor, messageOpen, otherMessage, alreadyMarked, noneFree}
-use Rattle.messages.specs.Joining.{joining, alone, dataOf, marksWith, placed, accepted}
-use Rattle.messages.specs.Step.{matched, stepped, Kept, Replied, refusedWith}
-
--- ---- numbers that stay inside
-
-pub product-le : (k size : ℕ) → k < 16 → size ≤ 256 → k * size ≤ 3840
-product-le k size b h =
-    let few : k ≤ 15 = omega arith in
-    let most : k * size ≤ 15 * size = mul-le-mul-right size few in
-    omega arith
-
--- segment k of room n ends inside the memory
-pub segment-ends : (n k size raw : ℕ) → n < 8 → k < 16 → size ≤ 256 → raw ≤ size → n * 4096 + k * size + raw ≤ 32768
-segment-ends n k size raw a b h r = omega (arith, product-le k size b h)
+use Rattle.messages.specs.Joining.{alone, accepted}
+use Rattle.messages.specs.Step.{matched, stepped, refusedWith}
 
 -- the kept length of the last segment
 pub last-le : (c : MessageContext) → badLast c ≡ false → c .last ≤ 256
@@ -48,11 +36,6 @@ last-le c = go (marked (c .marks) (c .msglen))
     go : (b : Bool) → cond b (not (inEights (c .last) (bytesOf (c .ssize)))) (not (eqb (c .last) 0)) ≡ false → c .last ≤ 256
     go true e = omega (arith, eights-le (c .last) (bytesOf (c .ssize)) (not-false _ e), bytes-le (c .ssize))
     go false e = omega (arith, eqb-true (c .last) 0 (not-false _ e))
-
-pub marks-le : (marks msglen : ℕ) → msglen < 16 → marks < 2 ^ (msglen + 1) → marks < 65536
-marks-le marks msglen h m =
-    let bound : 2 ^ (msglen + 1) ≤ 65536 = pow-mono {j = 16} (omega arith) in
-    omega arith
 
 -- ---- rows 23 to 25
 replying : (s : State) (memory response p : List ℕ) (number status : ℕ) (says : Said) (after : List ℕ)
@@ -153,23 +136,6 @@ module _ (s : State) (memory response p : List ℕ) (m : MessageSegment) where
   step-matched j = rw j
 
 -- ---- what the stores and the context make
-
--- all behind the head
-pub data-whole : (p : List ℕ) → take (length p - 7) (drop 7 p) ≡ dataOf p
-data-whole p = take-all (length p - 7) (drop 7 p) (simp length-drop (omega arith))
-
-pub placing : (s : State) (memory response p : List ℕ) (m : MessageSegment) (n marks last size marks′ last′ : ℕ) (says : Said) (state : State) (memory′ response′ : List ℕ)
-    → size ≡ bytesOf (m .ssize)
-    → marks′ ≡ marksWith m marks
-    → last′ ≡ lastWith m last
-    → Kept s m n marks′ last′ says state
-    → memory′ ≡ written memory (n * 4096 + m .msgseg * size) (take (length p - 7) (drop 7 p))
-    → response′ ≡ answered response p DONE
-    → joining says state memory′ response′ ≡ placed s memory response p m n marks last
-unfolding placed
-placing s memory response p m n marks last size marks′ last′ says state memory′ response′ z a b k e r =
-    rw (k .answer, k .state, e, r, a, b, z, data-whole p)
-
 pub taking : (s : State) (memory response p : List ℕ) (m : MessageSegment) (n box : ℕ) (state : State) (memory′ response′ : List ℕ)
     → box ≡ mailbox m
     → state ≡ withMessage s n closedMessage

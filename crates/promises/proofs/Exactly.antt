@@ -10,12 +10,14 @@ use Rattle.answers.proofs.Exactly.{answered, exactly, accepted, none-held}
 use Rattle.wire.specs.Type11.{isSingle}
 use Rattle.contexts.specs.State.{State, streamIn, messageIn, withStream, withMessage, closedStream, closedMessage, isFreeStream, isFreeMessage}
 use Rattle.contexts.specs.Words.{stateOf}
+use Rattle.stream_rooms.specs.Placing as streamRoom
 use Rattle.streams.specs.Joining as stream
+use Rattle.message_rooms.specs.Placing as messageRoom
 use Rattle.messages.specs.Joining as message
 use Rattle.messages.specs.Rows.{messageOpen}
 use Rattle.reading.specs.Table.{Lent, stateIn, segmentIn, messageSegmentIn, is9, table}
 use Rattle.reading.specs.Read.{Left, reading, outcome, leaving, accepting}
-use Rattle.segments.specs.Cutting.{packetOf}
+use Rattle.cutting.specs.Cutting.{packetOf}
 use Rattle.segments.specs.Writer.{writerTable, writing, wroteBy}
 use Rattle.endpoint.specs.Calls.{Stands, setupTable, setup, setupBy, abandonTable, abandonBy, abandonStream, abandonMessage}
 use Rattle.promises.specs.Statements.{RefusedExactly, RowLeaves, AcceptedExactly, AcceptedLeaves, SetupExactly, AbandonStreamExactly, AbandonMessageExactly, WriterExactly}
@@ -41,19 +43,19 @@ number-said x number allERROR = refl
 number-said x number allRETRY = refl
 
 stream-no : (x : Lent) → no-refusal (stream.accepted (stateIn x) (x .streamMemory) (x .packet) (segmentIn x) .says)
-unfolding stream.accepted stream.placed
+unfolding stream.accepted streamRoom.placed
 stream-no x = chosen no-refusal (segmentIn x .ends) _ held (λ number e. let z : _≡_ {A = ℕ} 0 1 = cc in omega arith) held-no
 
-placed-no : (x : Lent) (n marks last : ℕ) → no-refusal (message.placed (stateIn x) (x .messageMemory) (x .response) (x .packet) (messageSegmentIn x) n marks last .says)
-unfolding message.placed
+placed-no : (x : Lent) (n marks last : ℕ) → no-refusal (messageRoom.placed (stateIn x) (x .messageMemory) (x .response) (x .packet) (messageSegmentIn x) n marks last .says)
+unfolding messageRoom.placed
 placed-no x n marks last =
-    chosen no-refusal (message.complete (messageSegmentIn x) (message.marksWith (messageSegmentIn x) marks)) _ held (λ number e. let z : _≡_ {A = ℕ} 0 1 = cc in omega arith) held-no
+    chosen no-refusal (messageRoom.complete (messageSegmentIn x) (messageRoom.marksWith (messageSegmentIn x) marks)) _ held (λ number e. let z : _≡_ {A = ℕ} 0 1 = cc in omega arith) held-no
 
 message-no : (x : Lent) → no-refusal (message.accepted (stateIn x) (x .messageMemory) (x .response) (x .packet) (messageSegmentIn x) .says)
 unfolding message.accepted message.alone
 message-no x =
-    chosen (λ (j : message.Joined). no-refusal (j .says)) (isSingle (messageSegmentIn x)) _ _ (λ number e. let z : _≡_ {A = ℕ} 0 1 = cc in omega arith)
-    (chosen (λ (j : message.Joined). no-refusal (j .says)) (messageOpen (stateIn x) (messageSegmentIn x)) _ _ (placed-no x _ _ _) (placed-no x _ 0 0))
+    chosen (λ (j : messageRoom.Joined). no-refusal (j .says)) (isSingle (messageSegmentIn x)) _ _ (λ number e. let z : _≡_ {A = ℕ} 0 1 = cc in omega arith)
+    (chosen (λ (j : messageRoom.Joined). no-refusal (j .says)) (messageOpen (stateIn x) (messageSegmentIn x)) _ _ (placed-no x _ _ _) (placed-no x _ 0 0))
 
 accepted-no : (x : Lent) → no-refusal (accepting x .says)
 accepted-no x = chosen (λ (l : Left). no-refusal (l .says)) (is9 x) _ _ (stream-no x) (message-no x)

@@ -9,7 +9,7 @@ use Rattle.lists.specs.First.{firstOf, any}
 use Rattle.answers.specs.Refusals.{Verdict, VerdictOf, refuse, accept, verdict, none}
 use Rattle.answers.specs.Answers.{ready, refused}
 use Rattle.answers.proofs.Exactly.{none-held}
-use Rattle.wire.specs.Type9.{badMTU}
+use Rattle.sizes.specs.Sizes.{badMTU}
 use Rattle.contexts.specs.State.{State, fresh, withStream, withMessage, closedStream, closedMessage, isFreeStream, isFreeMessage}
 use Rattle.contexts.specs.Words.{stateOf, wordsOf}
 use Rattle.refusal19.specs.Refusal19.{badRoom, badStream, badMessage, namedBy19}

@@ -16,7 +16,7 @@ use Rattle.contexts.specs.Words.{stateOf}
 use Rattle.reading.specs.Table.{Lent, stateIn, table}
 use Rattle.reading.specs.Read.{ReadPromise, reading, leaving, accepting}
 use Rattle.reading.specs.Good.{GoodWords, StillGood}
-use Rattle.segments.specs.declared.Heading.{Heading}
+use Rattle.cutting.specs.declared.Heading.{Heading}
 use Rattle.segments.specs.Writer.{writerTable, writing, WritePromise, CountPromise}
 use Rattle.endpoint.specs.Calls.{SetupLeaves, setupTable, setup, abandonTable, abandonStream, abandonMessage, SetupPromise, AbandonStreamPromise, AbandonMessagePromise, StreamRoomPromise, MessageRoomPromise, LengthPromise}
 

@@ -4,8 +4,8 @@ use mathlib.Core.Path.{_≡_, refl}
 use mathlib.Core.List.{List, [], _∷_}
 use mathlib.Core.Bool.{Bool, true, false, cond}
 use Rattle.answers.specs.Refusals.{Row, row, Leaves, verdict}
-use Rattle.streams.specs.Joining as stream
-use Rattle.messages.specs.Joining as message
+use Rattle.stream_rooms.specs.Placing as streamRoom
+use Rattle.message_rooms.specs.Placing as messageRoom
 use Rattle.reading.specs.Table.{Lent}
 use Rattle.reading.specs.Read.{leaving, accepting, outcome, ofStream, ofMessage}
 
@@ -21,11 +21,11 @@ by-row x number true leaves rows = refl
 by-row x number false leaves rows = refl
 
 -- a choice between two steps is a choice between what they leave
-pub choose-stream : (x : Lent) (b : Bool) (j k : stream.Joined) → ofStream x (cond b j k) ≡ cond b (ofStream x j) (ofStream x k)
+pub choose-stream : (x : Lent) (b : Bool) (j k : streamRoom.Joined) → ofStream x (cond b j k) ≡ cond b (ofStream x j) (ofStream x k)
 choose-stream x true j k = refl
 choose-stream x false j k = refl
 
-pub choose-message : (x : Lent) (b : Bool) (j k : message.Joined) → ofMessage x (cond b j k) ≡ cond b (ofMessage x j) (ofMessage x k)
+pub choose-message : (x : Lent) (b : Bool) (j k : messageRoom.Joined) → ofMessage x (cond b j k) ≡ cond b (ofMessage x j) (ofMessage x k)
 choose-message x true j k = refl
 choose-message x false j k = refl
 

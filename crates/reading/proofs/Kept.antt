@@ -12,7 +12,9 @@ use Rattle.contexts.specs.State.{State, freeMessage}
 use Rattle.contexts.specs.Words.{stateOf, wordsOf, stateWords}
 use Rattle.refusal19.specs.Refusal19.{namedBy19}
 use Rattle.contexts.proofs.Words.{sixteen, eight, state-of, length-words}
+use Rattle.stream_rooms.specs.Placing as streamRoom
 use Rattle.streams.specs.Joining as stream
+use Rattle.message_rooms.specs.Placing as messageRoom
 use Rattle.messages.specs.Joining as message
 use Rattle.messages.specs.Rows.{messageOpen, foundFor}
 use Rattle.streams.proofs.Kept as streams
@@ -50,11 +52,11 @@ module _ (x : Lent) where
   closing-same number = record { device = refl; mtu = refl; room = refl; streams = simp length-set; messages = refl }
 
   stream-same : Same (stateIn x) (stream.accepted (stateIn x) (x .streamMemory) (x .packet) (segmentIn x) .state)
-  unfolding stream.accepted stream.placed
+  unfolding stream.accepted streamRoom.placed
   stream-same = record { device = refl; mtu = refl; room = refl; streams = simp length-set; messages = refl }
 
-  placed-same : (n marks last : ℕ) → Same (stateIn x) (message.placed (stateIn x) (x .messageMemory) (x .response) (x .packet) (messageSegmentIn x) n marks last .state)
-  unfolding message.placed
+  placed-same : (n marks last : ℕ) → Same (stateIn x) (messageRoom.placed (stateIn x) (x .messageMemory) (x .response) (x .packet) (messageSegmentIn x) n marks last .state)
+  unfolding messageRoom.placed
   placed-same n marks last = record { device = refl; mtu = refl; room = refl; streams = refl; messages = simp length-set }
 
   alone-same : (n : ℕ) → Same (stateIn x) (message.alone (stateIn x) (x .messageMemory) (x .response) (x .packet) (messageSegmentIn x) n .state)

@@ -13,8 +13,8 @@ use Rattle.contexts.specs.State.{State}
 use Rattle.contexts.specs.Words.{stateOf, stateWords}
 use Rattle.contexts.proofs.Words.{words-of}
 use Rattle.refusal19.proofs.Good.{neither}
-use Rattle.streams.specs.Joining as stream
-use Rattle.messages.specs.Joining as message
+use Rattle.stream_rooms.specs.Placing as streamRoom
+use Rattle.message_rooms.specs.Placing as messageRoom
 use Rattle.reading.specs.Table.{Lent, wrongSizes}
 use Rattle.reading.specs.Read.{left, leaving, ofStream, ofMessage, reading, ReadPromise}
 use Rattle.reading.specs.Step.{Refusal}
@@ -24,13 +24,13 @@ pub refusing : (x : Lent) (number : ℕ) (r : Reading) → Refusal number r → 
 refusing x number r f e = rw (f .answer, f .drop) e
 
 -- what a step leaves in the words
-pub stream-left : (x : Lent) (says : Said) (dropped : Bool) (words memory : List ℕ) (j : stream.Joined) → length words ≡ stateWords
-    → stream.joining says dropped (stateOf words) memory ≡ j → left says dropped words memory (x .messageMemory) (x .response) ≡ ofStream x j
+pub stream-left : (x : Lent) (says : Said) (dropped : Bool) (words memory : List ℕ) (j : streamRoom.Joined) → length words ≡ stateWords
+    → streamRoom.joining says dropped (stateOf words) memory ≡ j → left says dropped words memory (x .messageMemory) (x .response) ≡ ofStream x j
 stream-left x says dropped words memory j z e =
     ap (λ (w : List ℕ). left says dropped w memory (x .messageMemory) (x .response)) (sym (words-of words z)) ∙ ap (ofStream x) e
 
-pub message-left : (x : Lent) (says : Said) (words memory response : List ℕ) (j : message.Joined) → length words ≡ stateWords
-    → message.joining says (stateOf words) memory response ≡ j → left says false words (x .streamMemory) memory response ≡ ofMessage x j
+pub message-left : (x : Lent) (says : Said) (words memory response : List ℕ) (j : messageRoom.Joined) → length words ≡ stateWords
+    → messageRoom.joining says (stateOf words) memory response ≡ j → left says false words (x .streamMemory) memory response ≡ ofMessage x j
 message-left x says words memory response j z e =
     ap (λ (w : List ℕ). left says false w (x .streamMemory) memory response) (sym (words-of words z)) ∙ ap (ofMessage x) e
 

@@ -4,7 +4,7 @@ use mathlib.Core.Path.{_≡_}
 use mathlib.Core.Bool.{cond}
 use lib.ListN.{length}
 use Rattle.answers.specs.Refusals.{allERROR, allRETRY}
-use Rattle.wire.specs.Type13.{ERROR, RETRY}
+use Rattle.responses.specs.Type13.{ERROR, RETRY}
 use Rattle.contexts.specs.Words.{stateWords}
 use Rattle.contexts.proofs.Words.{words-of}
 use Rattle.messages.specs.Rows.{otherMessage, alreadyMarked, noneFree}

@@ -6,9 +6,11 @@ use mathlib.Core.Bool.{Bool, false, cond}
 use Rattle.answers.specs.Answers.{Said, said, refused}
 use Rattle.answers.specs.declared.Reading.{Reading}
 use Rattle.answers.specs.Refusals.{Leaves, all, flowClosed, allERROR, allRETRY, Verdict, refuse, accept, verdict}
-use Rattle.wire.specs.Type13.{ERROR, RETRY, answered}
+use Rattle.responses.specs.Type13.{ERROR, RETRY, answered}
 use Rattle.contexts.specs.Words.{wordsOf}
+use Rattle.stream_rooms.specs.Placing as streamRoom
 use Rattle.streams.specs.Joining as stream
+use Rattle.message_rooms.specs.Placing as messageRoom
 use Rattle.messages.specs.Joining as message
 use Rattle.reading.specs.Table.{Lent, stateIn, segmentIn, messageSegmentIn, is9, table}
 
@@ -32,11 +34,11 @@ left says dropped words streamMemory messageMemory response = record {
 }
 
 -- what a type 9 packet leaves; message memory and response stay
-abbrev pub ofStream : Lent → stream.Joined → Left
+abbrev pub ofStream : Lent → streamRoom.Joined → Left
 ofStream x j = left (j .says) (j .dropped) (wordsOf (j .state)) (j .memory) (x .messageMemory) (x .response)
 
 -- what an accepted type 11 packet leaves; the stream memory stays
-abbrev pub ofMessage : Lent → message.Joined → Left
+abbrev pub ofMessage : Lent → messageRoom.Joined → Left
 ofMessage x j = left (j .says) false (wordsOf (j .state)) (x .streamMemory) (j .memory) (j .response)
 
 -- the table's last column

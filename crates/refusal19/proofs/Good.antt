@@ -9,8 +9,7 @@ use borrow.Author.Tests.{eqb-false, ltb-false, leb-false, not-true}
 use Rattle.lists.specs.First.{firstOf, any}
 use Rattle.lists.proofs.First.{first-passes, none-passes}
 use Rattle.wire.specs.declared.Flow.{Flow}
-use Rattle.wire.specs.Type9.{badMTU}
-use Rattle.wire.specs.Type11.{bytesOf}
+use Rattle.sizes.specs.Sizes.{badMTU, bytesOf}
 use Rattle.contexts.specs.declared.StreamContext.{StreamContext}
 use Rattle.contexts.specs.declared.MessageContext.{MessageContext}
 use Rattle.contexts.specs.State.{State, streamIn, messageIn, closedStream, closedMessage, isFreeStream, isFreeMessage, isOfFlow, isOfMessage, flowContext, messageContext}

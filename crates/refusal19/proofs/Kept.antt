@@ -11,8 +11,7 @@ use lib.Seq.{getD-set-same, getD-set-other, set-out}
 use borrow.Author.Tests.{ne-eqb, le-ltb, lt-leb}
 use Rattle.lists.specs.First.{any}
 use Rattle.lists.proofs.First.{none-passes, all-fail}
-use Rattle.wire.specs.Type9.{badMTU}
-use Rattle.wire.specs.Type11.{bytesOf}
+use Rattle.sizes.specs.Sizes.{badMTU, bytesOf}
 use Rattle.contexts.specs.declared.StreamContext.{StreamContext}
 use Rattle.contexts.specs.declared.MessageContext.{MessageContext}
 use Rattle.contexts.specs.State.{State, withStream, withMessage, closedStream, closedMessage, isFreeStream, isFreeMessage}

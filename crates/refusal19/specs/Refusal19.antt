@@ -3,8 +3,7 @@ use Prim.Native.Nat.{ℕ, _+_, _^_}
 use mathlib.Core.Bool.{Bool, not, cond, _||_, _&&_}
 use lib.Dec.{eqb, ltb, leb}
 use Rattle.lists.specs.First.{any}
-use Rattle.wire.specs.Type9.{badMTU}
-use Rattle.wire.specs.Type11.{bytesOf, inEights}
+use Rattle.sizes.specs.Sizes.{badMTU, bytesOf, inEights}
 use Rattle.contexts.specs.State.{State, isFreeStream, isFreeMessage}
 use Rattle.contexts.specs.Marks.{marked, allMarked}
 use Rattle.contexts.specs.declared.StreamContext.{StreamContext}

@@ -34,9 +34,9 @@ fn bad_last(c: MessageContext) -> bool
     requires { ⌜ (c .msglen < 16) × (c .marks < 65536) ⌝ }
     ensures { λ r. ⌜ r ≡ badLast c ⌝ }
 {
-    let size = wire::bytes_of(c.ssize);
+    let size = sizes::bytes_of(c.ssize);
     if contexts::marked(c.marks as u16, c.msglen) {
-        if wire::in_eights(c.last, size) {
+        if sizes::in_eights(c.last, size) {
             return false;
         }
         return true;
@@ -67,7 +67,7 @@ fn bad_message(c: MessageContext) -> bool
     if c.live == 0 {
         return false;
     }
-    if wire::bytes_of(c.ssize) == 0 {
+    if sizes::bytes_of(c.ssize) == 0 {
         return true;
     }
     if c.msglen == 0 {
@@ -116,7 +116,7 @@ pub fn named_by_19(state: &[usize]) -> bool
 {
     let m = contexts::mtu(state);
     let r = contexts::room(state);
-    if wire::bad_mtu(m) {
+    if sizes::bad_mtu(m) {
         return true;
     }
     if bad_room(m, r) {

@@ -6,8 +6,9 @@ use native.Mathlib.Omega.{arith}
 use lib.Dec.{eqb, ltb}
 use borrow.Author.Tests.{lt-ltb, le-ltb, eq-eqb, ne-eqb, eqb-true, ltb-false, not-false}
 use Rattle.wire.specs.declared.MessageSegment.{MessageSegment}
-use Rattle.wire.specs.Type11.{bytesOf, inEights, isSingle, isLast}
-use Rattle.wire.proofs.Sizes.{eights-le}
+use Rattle.wire.specs.Type11.{isSingle, isLast}
+use Rattle.sizes.specs.Sizes.{bytesOf, inEights}
+use Rattle.sizes.proofs.Laws.{eights-le}
 use Rattle.rules.specs.Messages.{reservedSize, badLength, pastLast, judged, lastWith, Sound}
 
 raw-le : (m : MessageSegment) → badLength m ≡ false → m .raw ≤ bytesOf (m .ssize)

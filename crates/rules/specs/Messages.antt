@@ -4,7 +4,8 @@ use mathlib.Core.Path.{_≡_}
 use mathlib.Core.Bool.{Bool, false, cond, not, _&&_}
 use lib.Dec.{eqb, ltb}
 use Rattle.wire.specs.declared.MessageSegment.{MessageSegment}
-use Rattle.wire.specs.Type11.{bytesOf, isSingle, isLast, inEights}
+use Rattle.wire.specs.Type11.{isSingle, isLast}
+use Rattle.sizes.specs.Sizes.{bytesOf, inEights}
 
 -- 20: ssize reserved
 unfoldable pub reservedSize : MessageSegment → Bool

@@ -3,7 +3,7 @@ use Prim.Native.Nat.{ℕ, _/_, _%_}
 use mathlib.Core.Bool.{Bool, cond, not, _||_, _&&_}
 use lib.Dec.{eqb, ltb}
 use Rattle.wire.specs.declared.Segment.{Segment}
-use Rattle.wire.specs.Type9.{pduLength}
+use Rattle.sizes.specs.Sizes.{pduLength}
 
 -- O=1 exactly if the number of half-words is odd
 abbrev pub wrongO : Segment → Bool

@@ -41,7 +41,7 @@ pub fn length_differs(g: Segment, n: usize) -> bool
     ensures { λ r. ⌜ r ≡ wrongLength g n ⌝ }
 {
     if g.ends {
-        return n != wire::pdu_length(g.field);
+        return n != sizes::pdu_length(g.field);
     }
     false
 }
@@ -60,9 +60,9 @@ pub fn is_last(m: MessageSegment) -> bool
 pub fn bad_length(m: MessageSegment) -> bool
     ensures { λ r. ⌜ r ≡ badLength m ⌝ }
 {
-    let size = wire::bytes_of(m.ssize);
+    let size = sizes::bytes_of(m.ssize);
     if is_last(m) {
-        if wire::in_eights(m.raw, size) {
+        if sizes::in_eights(m.raw, size) {
             return false;
         }
         return true;
@@ -74,7 +74,7 @@ pub fn bad_length(m: MessageSegment) -> bool
 pub fn judge(m: MessageSegment) -> usize
     ensures { λ r. ⌜ r ≡ judged m ⌝ }
 {
-    if wire::bytes_of(m.ssize) == 0 {
+    if sizes::bytes_of(m.ssize) == 0 {
         return 20;
     }
     if bad_length(m) {

@@ -11,10 +11,10 @@ use borrow.Author.Tests.{lt-ltb, le-ltb}
 use Rattle.lists.specs.Bytes.{written}
 use Rattle.answers.specs.Answers.{refused, wrote}
 use Rattle.answers.specs.Refusals.{row, all, verdict}
-use Rattle.wire.specs.Type9.{badMTU}
-use Rattle.segments.specs.declared.Heading.{Heading}
-use Rattle.segments.specs.Cutting.{segmentCount, packetOf}
-use Rattle.segments.specs.Writer.{Wrote, wroteOf, wroteBy, badSize, writerTable, writing}
+use Rattle.sizes.specs.Sizes.{badMTU}
+use Rattle.cutting.specs.declared.Heading.{Heading}
+use Rattle.cutting.specs.Cutting.{badSize, segmentCount, packetOf}
+use Rattle.segments.specs.Writer.{Wrote, wroteOf, wroteBy, writerTable, writing}
 
 -- the last row alone: a segment that the PDU has
 abbrev pub fitting : List ℕ → List ℕ → Wrote

@@ -1,19 +1,16 @@
 -- A segment's packet as the code makes it: nine bytes or the first seven of them, the data and the pad; and how long it is.
--- By cases on S and E, since only a continuation has no field. Stores one behind the other are one store of the whole.
-use Prim.Native.Nat.{ℕ, zero, suc, min, _≤_, _<_, _+_, _-_, _*_, _%_}
+-- By cases on S and E, since only a continuation has no field.
+use Prim.Native.Nat.{ℕ, min, _+_, _-_, _*_, _%_}
 use mathlib.Core.Path.{_≡_, refl, ap, sym, _∙_}
 use mathlib.Core.List.{List, [], _∷_, _++_}
 use mathlib.Core.Bool.{Bool, true, false, cond}
-use native.Mathlib.Omega.{arith}
-use native.Mathlib.Nat.{zero-add}
 use lib.Dec.{eqb}
 use lib.ListN.{length, take, length-append}
-use lib.Seq.{length-take-le}
-use Rattle.lists.specs.Bytes.{high, low, written}
-use Rattle.lists.proofs.Written.{written-behind}
-use Rattle.segments.specs.declared.Heading.{Heading}
+use Rattle.lists.specs.Bytes.{high, low}
+use Rattle.cutting.proofs.Pad.{length-pad}
+use Rattle.cutting.specs.declared.Heading.{Heading}
+use Rattle.cutting.specs.Cutting.{segmentCount, dataOf, isFirst, isFinal, padOf, flagsOf, fieldOf, packetOf}
 use Rattle.segments.proofs.Sizes.{lent, length-data, data-part}
-use Rattle.segments.specs.Cutting.{segmentCount, dataOf, isFirst, isFinal, padOf, flagsOf, fieldOf, packetOf}
 
 -- bytes 0 to 8, with what stands in bytes 6 and 7-8
 abbrev headOf : Heading → ℕ → ℕ → List ℕ
@@ -29,22 +26,6 @@ headOf h flags field =
 -- how many of these the packet has
 abbrev frontOf : Bool → Bool → ℕ
 frontOf first final = cond first 9 (cond final 9 7)
-
--- the pad is the front of a byte 0
-abbrev zeroByte : List ℕ
-zeroByte = 0 ∷ []
-
-pad-is : (n : ℕ) → padOf n ≡ take (n % 2) zeroByte
-unfolding padOf
-pad-is n = go (n % 2) (omega arith)
-  where
-    go : (r : ℕ) → r < 2 → cond (eqb r 1) zeroByte [] ≡ take r zeroByte
-    go ℕ.zero h = refl
-    go (suc ℕ.zero) h = refl
-    go (suc (suc r)) h = absurd (omega arith)
-
-length-pad : (n : ℕ) → length (padOf n) ≡ n % 2
-length-pad n = rw pad-is (length-take-le (n % 2) zeroByte (omega arith))
 
 length-front : (h : Heading) (flags field : ℕ) (first final : Bool) → length (take (frontOf first final) (headOf h flags field)) ≡ frontOf first final
 length-front h flags field true final = refl
@@ -70,21 +51,6 @@ module _ (h : Heading) (mtu : ℕ) (pdu : List ℕ) (k : ℕ) where
 
   length-packet : length (packetOf h mtu pdu k) ≡ frontOf (isFirst k) (isFinal mtu pdu k) + length (dataOf mtu pdu k) + length (dataOf mtu pdu k) % 2
   length-packet = ap length packet-is ∙ simp (length-append, length-front, length-pad)
-
--- the code's three stores
-pub put-is : (out head bytes out₁ out₂ out₃ : List ℕ) → length head + length bytes + length bytes % 2 ≤ length out
-    → out₁ ≡ written out 0 head
-    → out₂ ≡ written out₁ (length head) bytes
-    → out₃ ≡ written out₂ (length head + length bytes) (take (length bytes % 2) zeroByte)
-    → out₃ ≡ written out 0 (head ++ bytes ++ padOf (length bytes))
-put-is out head bytes out₁ out₂ out₃ room e₁ e₂ e₃ =
-    let pad = length-pad (length bytes) in
-    let two : out₂ ≡ written out 0 (head ++ bytes) = e₂ ∙ (rw e₁ (at-end head bytes (omega arith))) in
-    let three : out₃ ≡ written out₂ (length (head ++ bytes)) (padOf (length bytes)) = rw (length-append, pad-is) e₃ in
-    three ∙ rw two (at-end (head ++ bytes) (padOf (length bytes)) (simp length-append (omega arith)))
-  where
-    at-end : (a b : List ℕ) → length a + length b ≤ length out → written (written out 0 a) (length a) b ≡ written out 0 (a ++ b)
-    at-end a b h = ap (λ (i : ℕ). written (written out 0 a) i b) (sym (zero-add (length a))) ∙ written-behind out a b 0 (omega arith)
 
 -- From what the code has of segment k: n bytes of data behind a front of so many bytes, where the PDU makes `count` segments.
 module _ (h : Heading) (mtu : ℕ) (pdu : List ℕ) (k count n front : ℕ)

@@ -11,9 +11,8 @@ use lib.Dec.{eqb, ltb}
 use lib.ListN.{length, take, drop, length-take, length-drop}
 use lib.Seq.{take-all}
 use borrow.Author.Tests.{ltb-false}
-use Rattle.wire.specs.Type9.{badMTU}
-use Rattle.segments.specs.Cutting.{segmentCount, dataOf}
-use Rattle.segments.specs.Writer.{badSize}
+use Rattle.sizes.specs.Sizes.{badMTU}
+use Rattle.cutting.specs.Cutting.{badSize, segmentCount, dataOf}
 
 or-false : (a b : Bool) → (a || b) ≡ false → (a ≡ false) × (b ≡ false)
 or-false true b e = (e, cc)

@@ -2,20 +2,16 @@
 use Prim.Native.Nat.{ℕ}
 use mathlib.Core.Path.{_≡_}
 use mathlib.Core.List.{List, [], _∷_}
-use mathlib.Core.Bool.{Bool, cond, not, _||_}
+use mathlib.Core.Bool.{cond, not}
 use lib.ListN.{length}
-use lib.Dec.{eqb, ltb}
+use lib.Dec.{ltb}
 use Rattle.lists.specs.Bytes.{written}
 use Rattle.answers.specs.declared.Written.{Written}
 use Rattle.answers.specs.Answers.{Said, refused, wrote, saidOfWriter}
 use Rattle.answers.specs.Refusals.{Row, row, all, Verdict, refuse, accept, verdict}
-use Rattle.wire.specs.Type9.{badMTU}
-use Rattle.segments.specs.declared.Heading.{Heading}
-use Rattle.segments.specs.Cutting.{segmentCount, packetOf}
-
--- L is 0 or over 65,536
-unfoldable pub badSize : ℕ → Bool
-badSize size = eqb size 0 || ltb 65536 size
+use Rattle.sizes.specs.Sizes.{badMTU}
+use Rattle.cutting.specs.declared.Heading.{Heading}
+use Rattle.cutting.specs.Cutting.{badSize, segmentCount, packetOf}
 
 -- in order: 18; 17 priority over 3; 14 L is 0 or over 65,536; 15 segment number not below the count; 16 output shorter than the packet
 unfoldable pub writerTable : List ℕ → Heading → ℕ → List ℕ → ℕ → List Row

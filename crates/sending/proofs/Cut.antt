@@ -13,13 +13,14 @@ use Rattle.wire.specs.Packet.{bit, packetType, destination, tt as ttOf}
 use Rattle.wire.specs.declared.Flow.{Flow}
 use Rattle.wire.specs.declared.Segment.{Segment}
 use Rattle.wire.specs.declared.Parsed.the-variants.{Stream}
-use Rattle.wire.specs.Type9.{badMTU, xh, segmentAt, segmentOf, pduLength, dataLength}
+use Rattle.wire.specs.Type9.{xh, segmentAt, segmentOf}
+use Rattle.sizes.specs.Sizes.{badMTU, dataLength, pduLength}
 use Rattle.wire.specs.Parsed.{parsed, parsedByType, parsedStream, parsedFielded}
 use Rattle.wire.proofs.Forms.{with-field, without-field}
 use Rattle.rules.specs.Segments.{malformed}
-use Rattle.streams.specs.Joining as joining
-use Rattle.segments.specs.declared.Heading.{Heading}
-use Rattle.segments.specs.Cutting.{segmentCount, dataOf, isFirst, isFinal, padOf, flagsOf, fieldOf, packetOf}
+use Rattle.stream_rooms.specs.Placing as placing
+use Rattle.cutting.specs.declared.Heading.{Heading}
+use Rattle.cutting.specs.Cutting.{segmentCount, dataOf, isFirst, isFinal, padOf, flagsOf, fieldOf, packetOf}
 use Rattle.segments.proofs.Sizes.{good-mtu, begins, length-data}
 use Rattle.flows.specs.ByFlow.{AreBytes}
 use Rattle.sending.specs.Segment.{cutSegment, flowOf, segmentFor, InRange, SegmentsReadBack}
@@ -278,7 +279,7 @@ module _ (h : Heading) (range : InRange h) (size : ℕ) (bytes : List ℕ) where
       ) (ap Stream (is-segment first final))
 
   -- its data
-  is-data : (first final : Bool) → joining.dataOf (shape h first final size bytes) (segment h first final size bytes) ≡ bytes
+  is-data : (first final : Bool) → placing.dataOf (shape h first final size bytes) (segment h first final size bytes) ≡ bytes
   unfolding fieldOf
   is-data first final =
       ap (λ (n : ℕ). take n (drop (cond (first || final) 9 7) (shape h first final size bytes))) (cut-length (flowOf h) first final (h .stream) size (length bytes))

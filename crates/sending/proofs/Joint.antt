@@ -15,7 +15,7 @@ use lib.Seq.{length-take-le, take-all, drop-drop}
 use lib.Dec.{eqb, leb}
 use borrow.Author.Tests.{eqb-true, eq-eqb, ne-eqb, leb-true, le-leb}
 use Rattle.wire.specs.declared.Flow.{Flow}
-use Rattle.segments.specs.Cutting.{dataOf, packetOf}
+use Rattle.cutting.specs.Cutting.{dataOf, packetOf}
 use Rattle.flows.specs.OneFlow.{PDU, pdu, Told, held, delivered, refused, Outcome, outcome}
 use Rattle.flows.specs.Board.{delivery}
 use Rattle.sending.specs.Sending.{Each, Sent, isLost, packetCount, lossesFrom, losses, isWhole, Put, headingOf, putOf, putsFrom, flowPuts, FairPDU, Ranges}

@@ -8,8 +8,9 @@ use native.Mathlib.Omega.{arith}
 use lib.ListN.{length}
 use borrow.Author.Tests.{eq-eqb, ne-eqb}
 use Rattle.wire.specs.declared.Flow.{Flow}
-use Rattle.wire.specs.Type9.{badMTU, sameFlow}
-use Rattle.segments.specs.Cutting.{isFinal}
+use Rattle.wire.specs.Type9.{sameFlow}
+use Rattle.sizes.specs.Sizes.{badMTU}
+use Rattle.cutting.specs.Cutting.{isFinal}
 use Rattle.flows.specs.OneFlow.{PDU}
 use Rattle.sending.specs.Sending.{Sent, packetCount, isWhole, Put, putOf, putsFrom, flowPuts, FlowSent, Turn, next, message, sentOn, Event, put, sent, headOf, advance, events, queues, tell, wholes, Each, FairPDU, FairFlow}
 use Rattle.sending.specs.OneFlow.{also}

@@ -15,12 +15,15 @@ use Rattle.answers.specs.Refusals.{Leaves, all, flowClosed, allERROR, allRETRY,
 use Rattle.answers.proofs.Exactly.{none-held}
 use Rattle.wire.specs.declared.Segment.{Segment}
 use Rattle.wire.specs.declared.MessageSegment.{MessageSegment}
-use Rattle.wire.specs.Type11.{bytesOf, isSingle, mailbox}
+use Rattle.wire.specs.Type11.{isSingle, mailbox}
+use Rattle.sizes.specs.Sizes.{bytesOf}
 use Rattle.rules.specs.Messages.{lastWith}
 use Rattle.messages.specs.Rows.{foundFor as found, messageOpen}
 use Rattle.contexts.specs.State.{State, freeStream, freeMessage, messageIn}
 use Rattle.streams.specs.Rows.{foundFor, flowOpen, heldBefore, total, notOpen, passesRoom, noneFree}
+use Rattle.stream_rooms.specs.Placing as placing
 use Rattle.streams.specs.Joining as stream
+use Rattle.message_rooms.specs.Placing as boxes
 use Rattle.messages.specs.Joining as message
 use Rattle.reading.specs.Table.{Lent, stateIn, segmentIn, messageSegmentIn, isState, is9, wrongMemory, wrongSizes, table}
 use Rattle.reading.specs.Read.{lent, ofStream, ofMessage, leaving, outcome, reading}
@@ -49,24 +52,24 @@ leaving-none x number allERROR = refused-none number
 leaving-none x number allRETRY = refused-none number
 
 -- nor is a PDU by a message
-answer-none : (m : MessageSegment) (n marks last : ℕ) → NoDelivery (message.answerWith m n marks last)
-answer-none m n marks last = go (message.complete m marks)
+answer-none : (m : MessageSegment) (n marks last : ℕ) → NoDelivery (boxes.answerWith m n marks last)
+answer-none m n marks last = go (boxes.complete m marks)
   where
     go : (t : Bool) → NoDelivery (cond t (answers.message n (m .source) (m .letter) (mailbox m) (m .msglen * bytesOf (m .ssize) + last)) answers.held)
     go true = message-none n (m .source) (m .letter) (mailbox m) (m .msglen * bytesOf (m .ssize) + last)
     go false = held-none
 
 messages-none : (s : State) (memory response p : List ℕ) (m : MessageSegment) → NoDelivery (message.accepted s memory response p m .says)
-unfolding message.accepted message.alone message.placed
+unfolding message.accepted message.alone boxes.placed
 messages-none s memory response p m = go (isSingle m) (messageOpen s m)
   where
     go : (a b : Bool)
         → NoDelivery (cond a (message.alone s memory response p m (freeMessage s)) (cond b
-        (message.placed s memory response p m (found s m) (messageIn s (found s m) .marks) (messageIn s (found s m) .last))
-        (message.placed s memory response p m (freeMessage s) 0 0)) .says)
+        (boxes.placed s memory response p m (found s m) (messageIn s (found s m) .marks) (messageIn s (found s m) .last))
+        (boxes.placed s memory response p m (freeMessage s) 0 0)) .says)
     go true b = message-none (freeMessage s) (m .source) (m .letter) (mailbox m) (m .raw)
-    go false true = answer-none m (found s m) (message.marksWith m (messageIn s (found s m) .marks)) (lastWith m (messageIn s (found s m) .last))
-    go false false = answer-none m (freeMessage s) (message.marksWith m 0) (lastWith m 0)
+    go false true = answer-none m (found s m) (boxes.marksWith m (messageIn s (found s m) .marks)) (lastWith m (messageIn s (found s m) .last))
+    go false false = answer-none m (freeMessage s) (boxes.marksWith m 0) (lastWith m 0)
 
 -- ---- A room within the memory
 
@@ -87,19 +90,19 @@ record Placeable (s : State) (memory : List ℕ) (g : Segment) : Type 0 where
 measured-stream : (s : State) (memory p : List ℕ) (g : Segment) → Placeable s memory g → (context source cos st size : ℕ)
     → stream.accepted s memory p g .says ≡ answers.delivered context source cos st size
     → length (inRoom (s .room) (stream.accepted s memory p g .memory) context size) ≡ size
-unfolding stream.accepted stream.placed
+unfolding stream.accepted placing.placed
 measured-stream s memory p g ok context source cos st size = go (g .ends)
   where
     n : ℕ
     n = stream.contextFor s g
 
     stored : List ℕ
-    stored = written memory (n * s .room + heldBefore s g) (stream.dataOf p g)
+    stored = written memory (n * s .room + heldBefore s g) (placing.dataOf p g)
 
     inside : (size : ℕ) → size ≡ total s g → length (inRoom (s .room) stored n size) ≡ size
     inside size e =
         let below : n * s .room + s .room ≤ 16 * s .room = omega (arith, mul-le-mul-right (s .room) (ok .context)) in
-        let long : length memory ≤ length stored = length-written-ge memory (stream.dataOf p g) (n * s .room + heldBefore s g) (omega (arith, ok .fits, ok .size)) in
+        let long : length memory ≤ length stored = length-written-ge memory (placing.dataOf p g) (n * s .room + heldBefore s g) (omega (arith, ok .fits, ok .size)) in
         length-inside stored (n * s .room) size (omega (arith, ok .fits, ok .size))
 
     go : (t : Bool) → cond t (answers.delivered n (g .flow .source) (g .flow .cos) (stream.streamID s g) (total s g)) answers.held ≡ answers.delivered context source cos st size

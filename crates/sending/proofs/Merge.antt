@@ -13,7 +13,8 @@ use Rattle.wire.specs.Packet.{packetType, destination, tt as ttOf}
 use Rattle.wire.specs.declared.Flow.{Flow}
 use Rattle.wire.specs.declared.MessageSegment.{MessageSegment}
 use Rattle.wire.specs.declared.Parsed.the-variants.{Refused, Message}
-use Rattle.wire.specs.Type9.{badMTU, sameFlow}
+use Rattle.wire.specs.Type9.{sameFlow}
+use Rattle.sizes.specs.Sizes.{badMTU}
 use Rattle.wire.specs.Type11.{messageOf}
 use Rattle.wire.specs.Parsed.{parsed, parsedByType}
 use Rattle.flows.specs.OneFlow.{PDU}

@@ -14,7 +14,7 @@ use Rattle.wire.specs.declared.Flow.{Flow}
 use Rattle.wire.specs.declared.Parsed.the-variants.{Stream}
 use Rattle.wire.specs.Type9.{segmentOf}
 use Rattle.wire.specs.Parsed.{parsed}
-use Rattle.segments.specs.Cutting.{dataOf, isFinal, packetOf}
+use Rattle.cutting.specs.Cutting.{dataOf, isFinal, packetOf}
 use Rattle.flows.specs.OneFlow.{PDU, pdu, Told, held, delivered, refused, outcome, isOpen}
 use Rattle.flows.specs.ByFlow.{AreBytes}
 use Rattle.sending.specs.Sending.{Sent, isLost, packetCount, lossesFrom, losses, isWhole, Put, headingOf, putOf, putsFrom, flowPuts, Each, FairPDU, Apart, Ranges}

@@ -12,7 +12,9 @@ use Rattle.wire.specs.Type11.{isSingle}
 use Rattle.contexts.specs.State.{State, freeMessage, messageIn}
 use Rattle.contexts.specs.Words.{stateOf, wordsOf}
 use Rattle.messages.specs.Rows.{foundFor as found, messageOpen}
+use Rattle.stream_rooms.specs.Placing as placing
 use Rattle.streams.specs.Joining as stream
+use Rattle.message_rooms.specs.Placing as boxes
 use Rattle.messages.specs.Joining as message
 use Rattle.reading.specs.Table.{Lent, stateIn, segmentIn, messageSegmentIn, is9, table}
 use Rattle.reading.specs.Read.{lent, ofStream, ofMessage, leaving, outcome, reading}
@@ -33,13 +35,13 @@ refused-room x number allERROR = refl
 refused-room x number allRETRY = refl
 
 message-room : (s : State) (memory response p : List ℕ) (m : MessageSegment) → message.accepted s memory response p m .state .room ≡ s .room
-unfolding message.accepted message.alone message.placed
+unfolding message.accepted message.alone boxes.placed
 message-room s memory response p m = go (isSingle m) (messageOpen s m)
   where
     go : (a b : Bool)
         → cond a (message.alone s memory response p m (freeMessage s)) (cond b
-        (message.placed s memory response p m (found s m) (messageIn s (found s m) .marks) (messageIn s (found s m) .last))
-        (message.placed s memory response p m (freeMessage s) 0 0)) .state .room ≡ s .room
+        (boxes.placed s memory response p m (found s m) (messageIn s (found s m) .marks) (messageIn s (found s m) .last))
+        (boxes.placed s memory response p m (freeMessage s) 0 0)) .state .room ≡ s .room
     go true b = refl
     go false true = refl
     go false false = refl
@@ -48,7 +50,7 @@ accepted-room : (x : Lent) (t : Bool)
     → stateOf (cond t
     (ofStream x (stream.accepted (stateIn x) (x .streamMemory) (x .packet) (segmentIn x)))
     (ofMessage x (message.accepted (stateIn x) (x .messageMemory) (x .response) (x .packet) (messageSegmentIn x))) .words) .room ≡ stateIn x .room
-unfolding stream.accepted stream.placed
+unfolding stream.accepted placing.placed
 accepted-room x true = words-room (stream.accepted (stateIn x) (x .streamMemory) (x .packet) (segmentIn x) .state)
 accepted-room x false =
     words-room (message.accepted (stateIn x) (x .messageMemory) (x .response) (x .packet) (messageSegmentIn x) .state)

@@ -11,12 +11,13 @@ use lib.ListN.{length, take}
 use lib.Seq.{take-add, take-all}
 use borrow.Author.Tests.{eq-eqb, ne-eqb, le-ltb, lt-ltb}
 use Rattle.wire.specs.declared.Flow.{Flow}
-use Rattle.wire.specs.Type9.{badMTU, segmentOf}
+use Rattle.wire.specs.Type9.{segmentOf}
+use Rattle.sizes.specs.Sizes.{badMTU}
 use Rattle.wire.specs.declared.Segment.{Segment}
 use Rattle.wire.specs.declared.Parsed.the-variants.{Stream}
 use Rattle.wire.specs.Parsed.{parsed}
-use Rattle.streams.specs.Joining as joining
-use Rattle.segments.specs.Cutting.{segmentCount, dataOf, isFirst, isFinal, packetOf}
+use Rattle.stream_rooms.specs.Placing as placing
+use Rattle.cutting.specs.Cutting.{segmentCount, dataOf, isFirst, isFinal, packetOf}
 use Rattle.segments.proofs.Sizes.{good-mtu, length-data}
 use Rattle.flows.specs.ByFlow.{AreBytes}
 use Rattle.flows.specs.OneFlow.{PDU, pdu, held, delivered, refused, Outcome, outcome, isOpen, flowStep}
@@ -141,7 +142,7 @@ module _ (device mtu R : ℕ) (flow : Flow) (ranges : Ranges device mtu R flow) 
   step-is : (k : ℕ) (first final : Bool) (o : Option PDU) → k < packetCount mtu s → isFirst k ≡ first → isFinal mtu bytes k ≡ final
       → packetStep mtu R o (packet k) ≡ flowStep mtu R o (cutSegment flow first final (s .pdu .stream) (length bytes) (length (dataOf mtu bytes k))) (dataOf mtu bytes k)
   step-is k first final o below e e′ =
-      ap (λ (g : Segment). flowStep mtu R o g (joining.dataOf (packet k) g)) (segment-is k)
+      ap (λ (g : Segment). flowStep mtu R o g (placing.dataOf (packet k) g)) (segment-is k)
       ∙ ap (flowStep mtu R o (segmentFor (headingOf device flow s k) mtu bytes k)) (reads-as k below .data-of)
       ∙ rw (e, e′)
 

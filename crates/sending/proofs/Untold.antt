@@ -11,7 +11,7 @@ use lib.Dec.{eqb, leb}
 use borrow.Author.Tests.{eqb-true, leb-true, eq-eqb, ne-eqb}
 use Rattle.wire.specs.declared.Flow.{Flow}
 use Rattle.lists.specs.Bytes.{high, low}
-use Rattle.segments.specs.Cutting.{segmentCount, dataOf, isFirst, isFinal, padOf, flagsOf, fieldOf, packetOf}
+use Rattle.cutting.specs.Cutting.{segmentCount, dataOf, isFirst, isFinal, padOf, flagsOf, fieldOf, packetOf}
 use Rattle.sending.specs.Sending.{Sent, isLost, priorityOf, packetCount, lossesFrom, losses, Put, headingOf, putOf, putsFrom, flowPuts, FairPDU}
 use Rattle.sending.specs.OneFlow.{arriving}
 use Rattle.sending.specs.Joint.{isJoint, jointPDU, pairPackets, Pair, jointSent, JointUntold}

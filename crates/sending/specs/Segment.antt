@@ -10,12 +10,13 @@ use Rattle.wire.specs.Packet as packet
 use Rattle.wire.specs.declared.Flow.{Flow}
 use Rattle.wire.specs.declared.Segment.{Segment}
 use Rattle.wire.specs.declared.Parsed.the-variants.{Stream}
-use Rattle.wire.specs.Type9.{badMTU, flags, pduLength, dataLength}
+use Rattle.wire.specs.Type9.{flags}
+use Rattle.sizes.specs.Sizes.{badMTU, dataLength, pduLength}
 use Rattle.wire.specs.Parsed.{parsed}
 use Rattle.rules.specs.Segments.{malformed}
-use Rattle.streams.specs.Joining as joining
-use Rattle.segments.specs.declared.Heading.{Heading}
-use Rattle.segments.specs.Cutting.{segmentCount, dataOf, isFirst, isFinal, packetOf}
+use Rattle.stream_rooms.specs.Placing as placing
+use Rattle.cutting.specs.declared.Heading.{Heading}
+use Rattle.cutting.specs.Cutting.{segmentCount, dataOf, isFirst, isFinal, packetOf}
 use Rattle.flows.specs.ByFlow.{AreBytes}
 
 -- the segment of a flow with n bytes of data: S and E as given, the streamID with S, else with E the PDU length (65,536 as 0)
@@ -61,7 +62,7 @@ pub record ReadsAs (h : Heading) (mtu : ℕ) (pdu : List ℕ) (k : ℕ) (p : Lis
   pub priority : packet.priority p ≡ h .priority
   pub well-formed : malformed g ≡ false
   pub length-of-data : dataLength g ≡ length (dataOf mtu pdu k)
-  pub data-of : joining.dataOf p g ≡ dataOf mtu pdu k
+  pub data-of : placing.dataOf p g ≡ dataOf mtu pdu k
   -- the end says the PDU's length
   pub pdu-length : isFirst k ≡ false → isFinal mtu pdu k ≡ true → pduLength (g .field) ≡ length pdu
   -- the three reserved bits are 0, and the pad byte is

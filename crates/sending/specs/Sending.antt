@@ -8,9 +8,10 @@ use lib.ListN.{length, getD}
 use lib.Dec.{eqb}
 use Rattle.wire.specs.Packet.{packetType}
 use Rattle.wire.specs.declared.Flow.{Flow}
-use Rattle.wire.specs.Type9.{sameFlow, badMTU}
-use Rattle.segments.specs.declared.Heading.{Heading}
-use Rattle.segments.specs.Cutting.{segmentCount, isFinal, packetOf}
+use Rattle.wire.specs.Type9.{sameFlow}
+use Rattle.sizes.specs.Sizes.{badMTU}
+use Rattle.cutting.specs.declared.Heading.{Heading}
+use Rattle.cutting.specs.Cutting.{segmentCount, isFinal, packetOf}
 use Rattle.flows.specs.OneFlow.{PDU}
 use Rattle.flows.specs.Board.{Board, Delivery, delivery, deliveredBy, read, after, room}
 use Rattle.flows.specs.ByFlow.{AreBytes}

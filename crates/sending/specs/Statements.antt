@@ -6,7 +6,7 @@ use mathlib.Core.Option.{none}
 use lib.ListN.{length, take}
 use Rattle.wire.specs.declared.Flow.{Flow}
 use Rattle.answers.specs.Answers.{Said, held, delivered}
-use Rattle.segments.specs.Cutting.{packetOf}
+use Rattle.cutting.specs.Cutting.{packetOf}
 use Rattle.flows.specs.OneFlow.{PDU}
 use Rattle.flows.specs.Board.{Board, read, after, room, inRoom, view}
 use Rattle.flows.specs.ByFlow.{ByFlow}

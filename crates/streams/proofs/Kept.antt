@@ -1,21 +1,21 @@
 -- A type 9 packet leaves a state that 19 does not name, where it found one.
-use Prim.Native.Nat.{ℕ, _≤_, _<_, _+_, _-_, _%_}
-use mathlib.Core.Path.{_≡_, refl, ap, sym, _∙_}
+use Prim.Native.Nat.{ℕ, _<_, _-_, _%_}
+use mathlib.Core.Path.{_≡_}
 use mathlib.Core.List.{List}
 use mathlib.Core.Bool.{Bool, true, false, cond, _||_}
 use native.Mathlib.Omega.{arith}
 use lib.Dec.{eqb}
-use lib.ListN.{length, length-set}
 use borrow.Author.Tests.{eqb-false, ltb-false}
 use Rattle.wire.specs.declared.Segment.{Segment}
-use Rattle.wire.specs.Type9.{dataLength}
+use Rattle.sizes.specs.Sizes.{dataLength}
 use Rattle.contexts.specs.declared.StreamContext.{StreamContext}
-use Rattle.contexts.specs.State.{State, withStream, closedStream}
+use Rattle.contexts.specs.State.{State, closedStream}
 use Rattle.refusal19.specs.Refusal19.{badStream, namedBy19}
 use Rattle.refusal19.proofs.Good.{neither}
 use Rattle.refusal19.proofs.Kept.{closed-stream, held-stream, stream-kept}
-use Rattle.streams.specs.Rows.{passesRoom, heldBefore, total}
-use Rattle.streams.specs.Joining.{accepted, placed, refusedClosing, contextFor, streamID}
+use Rattle.stream_rooms.specs.Placing.{placed}
+use Rattle.streams.specs.Rows.{passesRoom, total}
+use Rattle.streams.specs.Joining.{accepted, refusedClosing, contextFor, streamID}
 use Rattle.rules.specs.Segments.{malformed, wrongO}
 
 -- row 6 passed: there is at least one byte besides a pad

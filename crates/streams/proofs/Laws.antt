@@ -1,42 +1,30 @@
 -- Laws of a type 9 step: what each way through the code leaves is what the definition says.
-use Prim.Native.Nat.{ℕ, _≤_, _<_, _+_, _-_, _*_, _%_}
+use Prim.Native.Nat.{ℕ, _≤_, _<_, _+_, _-_, _%_}
 use mathlib.Core.Path.{_≡_, ap, ap₂, sym, _∙_}
 use mathlib.Core.List.{List}
 use mathlib.Core.Bool.{Bool, true, false, cond, not, _||_, _&&_}
 use native.Mathlib.Omega.{arith}
-use native.Mathlib.Nat.{suc-mul, mul-le-mul-right}
 use lib.Dec.{eqb, ltb}
-use lib.ListN.{length, take, drop}
-use lib.Seq.{set-out}
+use lib.ListN.{length}
 use borrow.Author.Tests.{lt-ltb, le-ltb, eqb-false, eqb-true, ltb-false, not-false}
-use Rattle.lists.specs.Bytes.{written}
 use Rattle.lists.proofs.First.{first-le}
 use Rattle.answers.specs.Answers.{Said, refused}
 use Rattle.wire.specs.declared.Segment.{Segment}
-use Rattle.wire.specs.Type9.{dataLength}
+use Rattle.sizes.specs.Sizes.{dataLength}
 use Rattle.contexts.specs.declared.StreamContext.{StreamContext}
-use Rattle.contexts.specs.State.{State, streamIn, withStream, closedStream, flowContext, freeStream}
+use Rattle.contexts.specs.State.{State, streamIn, flowContext, freeStream}
 use Rattle.refusal19.specs.Refusal19.{namedBy19}
 use Rattle.refusal19.proofs.Good.{neither, good}
+use Rattle.stream_rooms.specs.Placing.{Joined, joining, placed, Closing, Fits}
 use Rattle.streams.specs.Rows.{foundFor, total, missized, notOpen, passesRoom, noneFree, lengthDiffers}
-use Rattle.streams.specs.Joining.{Joined, joining, placed, accepted, refusedClosing}
-use Rattle.streams.specs.Step.{begun, continued, stepped, Closing, Kept, Fits, Passed, refusedStaying}
+use Rattle.streams.specs.Joining.{accepted, refusedClosing}
+use Rattle.streams.specs.Step.{begun, continued, stepped, Passed, refusedStaying}
 use Rattle.rules.specs.Segments.{malformed, wrongO, wrongLength, wrongSize}
-
--- room n ends inside the memory
-pub room-ends : (n base count room : ℕ) → n < 16 → base + count ≤ room → n * room + base + count ≤ 16 * room
-room-ends n base count room a b = omega (arith, suc-mul n room, mul-le-mul-right room a)
 
 -- the context found is one of the sixteen, or 16
 pub found-le : (s : State) (g : Segment) → length (s .streams) ≡ 16 → foundFor s g ≤ 16
 unfolding flowContext
 found-le s g z = rw (← z) (first-le _ (s .streams))
-
--- past the last context nothing is put
-pub put-nowhere : (s : State) (n : ℕ) → length (s .streams) ≡ 16 → 16 ≤ n → s ≡ withStream s n closedStream
-put-nowhere s n z h =
-    ap (λ (l : List StreamContext). record { device = s .device; mtu = s .mtu; room = s .room; streams = l; messages = s .messages })
-    (sym (set-out (s .streams) n closedStream (omega arith)))
 
 -- data within the packet
 pub data-le : (g : Segment) → dataLength g ≤ g .raw
@@ -63,17 +51,6 @@ size-le false n mtu e = omega (arith, eqb-true n mtu (not-false (eqb n mtu) e))
 -- a start or single fits any room
 pub start-fits : (s : State) (g : Segment) {found count n : ℕ} → namedBy19 s ≡ false → Passed s g found count → n < 16 → Fits s g n 0 count
 start-fits s g e q h = record { context = h; size = q .size; within = q .within; behind = omega (arith, q .small, good s e .holds) }
-
--- the store and the context make the placing
-pub placing : (s : State) (memory after p : List ℕ) (g : Segment) (n base stream count : ℕ) (gave : Bool) (says : Said) (dropped : Bool) (state : State)
-    → Fits s g n base count
-    → Kept s n g stream (base + count) gave says dropped state
-    → after ≡ written memory (n * s .room + base) (take (g .from + count - g .from) (drop (g .from) p))
-    → joining says dropped state after ≡ placed s memory p g n base stream gave
-unfolding placed
-placing s memory after p g n base stream count gave says dropped state f k m =
-    let same : g .from + count - g .from ≡ count = omega arith in
-    rw (k .answer, k .drop, k .state, m, same, f .size)
 
 -- a closing refusal
 closing : (s : State) (memory : List ℕ) (g : Segment) {found number : ℕ} {says : Said} {dropped : Bool} {state : State}

@@ -3,7 +3,7 @@ use Prim.Native.Nat.{ℕ, _+_}
 use mathlib.Core.Bool.{Bool, cond, not, _&&_}
 use lib.Dec.{ltb}
 use Rattle.wire.specs.declared.Segment.{Segment}
-use Rattle.wire.specs.Type9.{dataLength}
+use Rattle.sizes.specs.Sizes.{dataLength}
 use Rattle.rules.specs.Segments.{wrongSize, wrongLength}
 use Rattle.contexts.specs.State.{State, streamIn, flowContext, freeStream}
 

@@ -1,18 +1,15 @@
 -- A type 9 packet from row 6 on, in the order of the code; the refusal table (crate endpoint) says the same by rows.
-use Prim.Native.Nat.{ℕ, _≤_, _<_, _+_, _*_}
+use Prim.Native.Nat.{ℕ, _≤_}
 use mathlib.Core.Path.{_≡_}
 use mathlib.Core.List.{List}
-use mathlib.Core.Bool.{Bool, true, false, cond}
-use lib.ListN.{length}
-use lib.Dec.{ltb}
-use Rattle.answers.specs.Answers.{Said, held, delivered, refused}
+use mathlib.Core.Bool.{true, false, cond}
+use Rattle.answers.specs.Answers.{refused}
 use Rattle.wire.specs.declared.Segment.{Segment}
-use Rattle.wire.specs.Type9.{dataLength}
-use Rattle.contexts.specs.State.{State, withStream, closedStream}
-use Rattle.contexts.specs.Words.{stateOf, stateWords}
-use Rattle.refusal19.specs.Refusal19.{namedBy19}
+use Rattle.sizes.specs.Sizes.{dataLength}
+use Rattle.contexts.specs.State.{State}
+use Rattle.stream_rooms.specs.Placing.{Joined, joining}
 use Rattle.streams.specs.Rows.{foundFor, missized, notOpen, passesRoom, noneFree, lengthDiffers}
-use Rattle.streams.specs.Joining.{Joined, joining, accepted, refusedClosing}
+use Rattle.streams.specs.Joining.{accepted, refusedClosing}
 use Rattle.rules.specs.Segments.{malformed}
 
 -- refused, and all stays
@@ -38,33 +35,7 @@ stepped s memory p g =
     (cond (missized s g) (refusedClosing s memory g 7)
     (cond (g .begins) (begun s memory p g) (continued s memory p g)))
 
--- what every step may rely on: words of a state that 19 does not name, the stream memory's size, data inside the packet
-pub record Ready (words memory packet : List ℕ) (g : Segment) : Type 0 where
-  pub whole : length words ≡ stateWords
-  pub good : namedBy19 (stateOf words) ≡ false
-  pub size : length memory ≡ 16 * stateOf words .room
-  pub inside : g .from + g .raw ≡ length packet
-
 -- ---- what the private functions promise each other
-
--- a refusal that closed context `found`, where that is one
-pub record Closing (s : State) (found number : ℕ) (says : Said) (dropped : Bool) (after : State) : Type 0 where
-  pub answer : says ≡ refused number
-  pub drop : dropped ≡ ltb found 16
-  pub state : after ≡ withStream s found closedStream
-
--- context n delivered or kept with `count` bytes
-pub record Kept (s : State) (n : ℕ) (g : Segment) (stream count : ℕ) (gave : Bool) (says : Said) (dropped : Bool) (after : State) : Type 0 where
-  pub answer : says ≡ cond (g .ends) (delivered n (g .flow .source) (g .flow .cos) stream count) held
-  pub drop : dropped ≡ gave
-  pub state : after ≡ withStream s n (cond (g .ends) closedStream (record { live = 1; flow = g .flow; stream = stream; held = count }))
-
--- the segment's data fit behind `base` bytes of room n
-pub record Fits (s : State) (g : Segment) (n base count : ℕ) : Type 0 where
-  pub context : n < 16
-  pub size : count ≡ dataLength g
-  pub within : count ≤ g .raw
-  pub behind : base + count ≤ s .room
 
 -- rows 6 and 7 passed
 pub record Passed (s : State) (g : Segment) (found count : ℕ) : Type 0 where

@@ -1,5 +1,4 @@
 pub mod Packet
 pub mod Type9
 pub mod Type11
-pub mod Type13
 pub mod Parsed

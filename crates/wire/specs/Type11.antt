@@ -1,9 +1,9 @@
 -- Type 11, message: document 01, 'Packet bytes'; 002 (Part 2, rev. 2.1), 4.2.5 and table 4-4.
 use Prim.Native.Nat.{ℕ, _+_, _-_, _*_, _/_, _%_}
-use mathlib.Core.List.{List, [], _∷_}
-use mathlib.Core.Bool.{Bool, cond, _||_, _&&_}
-use lib.ListN.{length, getD}
-use lib.Dec.{eqb, leb}
+use mathlib.Core.List.{List}
+use mathlib.Core.Bool.{Bool, cond, _||_}
+use lib.ListN.{length}
+use lib.Dec.{eqb}
 use Rattle.lists.specs.Bytes.{byte}
 use Rattle.wire.specs.Packet.{header, source}
 use Rattle.wire.specs.declared.MessageSegment.{MessageSegment}
@@ -41,13 +41,6 @@ messageOf p = record {
   raw = length p - messageDataFrom;
 }
 
--- the bytes that an ssize code means; 0: reserved
-abbrev pub ssizes : List ℕ
-ssizes = 0 ∷ 0 ∷ 0 ∷ 0 ∷ 0 ∷ 0 ∷ 0 ∷ 0 ∷ 0 ∷ 8 ∷ 16 ∷ 32 ∷ 64 ∷ 128 ∷ 256 ∷ 0 ∷ []
-
-unfoldable pub bytesOf : ℕ → ℕ
-bytesOf code = getD ssizes code 0
-
 -- msglen 0: one segment, whose last field is no number but xmbox
 abbrev pub isSingle : MessageSegment → Bool
 isSingle m = eqb (m .msglen) 0
@@ -59,7 +52,3 @@ isLast m = isSingle m || eqb (m .msgseg) (m .msglen)
 -- 4 xmbox + mbox for the only segment, else mbox
 abbrev pub mailbox : MessageSegment → ℕ
 mailbox m = cond (isSingle m) (4 * m .msgseg + m .mbox) (m .mbox)
-
--- 8 to `size` bytes in eights
-unfoldable pub inEights : ℕ → ℕ → Bool
-inEights n size = leb 8 n && (leb n size && eqb (n % 8) 0)

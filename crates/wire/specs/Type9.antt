@@ -1,10 +1,10 @@
 -- Type 9, data streaming: document 01, 'Packet bytes'; 004 (Part 10, rev. 2.0), tables 4-1 and 4-2.
 -- O and P are read on all four kinds, as rows 6 and 7 of the refusal table want; 004 has them reserved on start and continuation.
-use Prim.Native.Nat.{ℕ, _+_, _-_, _%_}
+use Prim.Native.Nat.{ℕ, _+_, _-_}
 use mathlib.Core.List.{List}
-use mathlib.Core.Bool.{Bool, cond, not, _||_, _&&_}
+use mathlib.Core.Bool.{Bool, cond, _||_, _&&_}
 use lib.ListN.{length}
-use lib.Dec.{eqb, ltb}
+use lib.Dec.{eqb}
 use Rattle.lists.specs.Bytes.{byte, word}
 use Rattle.wire.specs.Packet.{header, source, bit}
 use Rattle.wire.specs.declared.Flow.{Flow}
@@ -57,15 +57,3 @@ segmentAt p from field = record {
 -- S=1: bytes 7-8 streamID, then data. S=0, E=1: bytes 7-8 PDU length, then data. S=0, E=0: data from byte 7
 unfoldable pub segmentOf : List ℕ → Segment
 segmentOf p = cond (isS p || isE p) (segmentAt p (header + 4) (word p (header + 2))) (segmentAt p (header + 2) 0)
-
--- an MTU that is no multiple of 4 from 32 to 256 (document 01, 'Cutting and joining PDUs'; 004, the MTU register)
-unfoldable pub badMTU : ℕ → Bool
-badMTU mtu = ltb mtu 32 || ltb 256 mtu || not (eqb (mtu % 4) 0)
-
--- PDU length 0 means 65,536
-unfoldable pub pduLength : ℕ → ℕ
-pduLength n = cond (eqb n 0) 65536 n
-
--- the data without the pad byte
-unfoldable pub dataLength : Segment → ℕ
-dataLength g = cond (g .pad) (g .raw - 1) (g .raw)

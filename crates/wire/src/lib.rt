@@ -1,23 +1,15 @@
-// Packets as document 01 lays them out: the head of types 9 and 11 read into small structs, and type 13 written. No state.
+// Packets as document 01 lays them out: the head of types 9 and 11 read into small structs. No state.
 ghost use mathlib.Core.Path.{_≡_};
 ghost use mathlib.Core.Bool.{_||_, true};
-ghost use Prim.Native.Nat.{_+_, _<_, _≤_};
+ghost use Prim.Native.Nat.{_<_, _≤_};
 ghost use lib.ListN.{length};
 ghost use Rattle.wire.specs.Packet.{bit as bitOf};
-ghost use Rattle.wire.specs.Type9.{isS, isE, sameFlow, segmentAt, badMTU, pduLength, dataLength};
-ghost use Rattle.wire.specs.Type11.{messageOf, bytesOf, inEights};
-ghost use Rattle.wire.specs.Type13.{above as aboveOf, answered};
+ghost use Rattle.wire.specs.Type9.{isS, isE, sameFlow, segmentAt};
+ghost use Rattle.wire.specs.Type11.{messageOf};
 ghost use Rattle.wire.specs.Parsed.{parsedFielded, parsedStream, parsedByType, parsed};
 
 // Where the fields of a type begin: behind byte 0 and two IDs of two bytes.
 pub const HEADER: usize = 5;
-
-// The statuses of a response.
-pub const DONE: u8 = 0;
-
-pub const RETRY: u8 = 3;
-
-pub const ERROR: u8 = 7;
 
 // A flow: who sends, under which class of service.
 pub struct Flow {
@@ -180,91 +172,4 @@ pub fn parse(packet: &[u8], device: usize) -> Parsed
         return Parsed::Refused(3);
     }
     parse_by_type(packet)
-}
-
-// Whether an MTU is no multiple of 4 from 32 to 256.
-pub fn bad_mtu(mtu: usize) -> bool
-    ensures { λ r. ⌜ r ≡ badMTU mtu ⌝ }
-{
-    if mtu < 32 {
-        return true;
-    }
-    if 256 < mtu {
-        return true;
-    }
-    mtu % 4 != 0
-}
-
-// The PDU length that an end's field means.
-pub fn pdu_length(field: usize) -> usize
-    ensures { λ r. ⌜ r ≡ pduLength field ⌝ }
-{
-    if field == 0 {
-        return 65536;
-    }
-    field
-}
-
-// The bytes of a segment's data, the pad not counted. Row 6 has refused a segment without data.
-pub fn data_length(g: Segment) -> usize
-    requires { ⌜ 0 < g .raw ⌝ }
-    ensures { λ r. ⌜ r ≡ dataLength g ⌝ }
-{
-    if g.pad {
-        return g.raw - 1;
-    }
-    g.raw
-}
-
-// The bytes that an ssize code means, by the code; 0: reserved.
-const SSIZES: [usize; 16] = [0, 0, 0, 0, 0, 0, 0, 0, 0, 8, 16, 32, 64, 128, 256, 0];
-
-// The bytes that an ssize code means; 0 where it is reserved or no code.
-pub fn bytes_of(code: usize) -> usize
-    ensures { λ r. ⌜ r ≡ bytesOf code ⌝ }
-{
-    if code < 16 {
-        return SSIZES[code];
-    }
-    0
-}
-
-// Whether n bytes are 8 to `size` in eights.
-pub fn in_eights(n: usize, size: usize) -> bool
-    ensures { λ r. ⌜ r ≡ inEights n size ⌝ }
-{
-    if n < 8 {
-        return false;
-    }
-    if size < n {
-        return false;
-    }
-    n % 8 == 0
-}
-
-// One above a request's priority, at most 3.
-fn above(priority: u8) -> u8
-    ensures { λ r. ⌜ (r ≡ aboveOf priority) × (r ≤ 3) ⌝ }
-{
-    if priority < 3 {
-        return priority + 1;
-    }
-    3
-}
-
-// Writes the response to a message packet. Every caller has a buffer of 7 bytes, a packet of 7 and one of the three statuses.
-pub fn respond(response: &mut [u8], packet: &[u8], status: u8)
-    requires { ⌜ (7 ≤ length (now response)) × (7 ≤ length (now packet)) × (status < 16) ⌝ }
-    ensures { λ _. ⌜ now (response .exit) ≡ answered (now (response .entry)) (now (packet .entry)) status ⌝ }
-{
-    let head = [
-        above(packet[0] / 64) * 64 + 16 + 13,
-        packet[3],
-        packet[4],
-        packet[1],
-        packet[2],
-        16 + status,
-        packet[HEADER + 1],
-    ];
-    lists::copy(response, &head);
 }

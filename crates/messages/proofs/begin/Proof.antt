@@ -1,6 +1,6 @@
 -- `messages::begin` meets its contract: a free context is taken with no marks, or none is free.
 use Rattle.messages.proofs.Laws.{begin-none, begin-placed}
-use Rattle.messages.specs.Joining.{placed}
+use Rattle.message_rooms.specs.Placing.{placed}
 use Rattle.contexts.proofs.Marks.{nothing-marked}
 use lib.Pow.{pow-pos}
 use Prim.Native.Nat.{ℕ, _+_}

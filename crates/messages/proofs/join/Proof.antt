@@ -1,6 +1,7 @@
 -- `messages::join` meets its contract: rows 23 and 24, else one more segment of the message found.
-use Rattle.messages.proofs.Laws.{join-msglen, join-ssize, join-marked, join-placed, found-message, marks-le, last-le}
-use Rattle.messages.specs.Joining.{placed}
+use Rattle.messages.proofs.Laws.{join-msglen, join-ssize, join-marked, join-placed, found-message, last-le}
+use Rattle.message_rooms.proofs.Laws.{marks-le}
+use Rattle.message_rooms.specs.Placing.{placed}
 use Prim.Native.Nat.{ℕ}
 use Rattle.contexts.specs.Words.{stateOf}
 use mathlib.Core.Path.{refl, ap, sym, _∙_}

@@ -1,7 +1,7 @@
 -- `messages::take_alone` meets its contract: the lowest free context, or none is free.
 use Rattle.messages.proofs.Laws.{alone-none, alone-taken, taking}
 use Rattle.messages.specs.Joining.{alone}
-use Rattle.wire.proofs.Sizes.{bytes-le}
+use Rattle.sizes.proofs.Laws.{bytes-le}
 use lib.ListN.{length-take, length-drop}
 use Prim.Native.Nat.{ℕ}
 use Rattle.contexts.specs.declared.MessageContext.{MessageContext}

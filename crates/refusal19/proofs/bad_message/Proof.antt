@@ -1,7 +1,7 @@
 -- `refusal19::bad_message` meets its contract: each return follows from the tests on the way.
 use Rattle.refusal19.specs.Refusal19.{badMarks, badMessage}
 use Rattle.contexts.specs.State.{isFreeMessage}
-use Rattle.wire.specs.Type11.{bytesOf}
+use Rattle.sizes.specs.Sizes.{bytesOf}
 use borrow.Author.Tests.{eq-eqb, le-ltb, lt-ltb, ne-eqb}
 use borrow.Author.Needs.{needs}
 use Rattle.refusal19.proofs.bad_message.Statement.{statement}

@@ -5,7 +5,7 @@ use mathlib.Core.Path.{_≡_, ap, _∙_}
 use mathlib.Core.List.{List}
 use lib.ListN.{length, length-take, length-drop}
 use Rattle.lists.specs.Bytes.{written}
-use Rattle.segments.specs.Cutting.{packetOf}
+use Rattle.cutting.specs.Cutting.{packetOf}
 use Rattle.segments.proofs.Sizes.{begins}
 use Rattle.segments.proofs.Packet.{cut-length, cut-bytes}
 use Rattle.segments.proofs.Nested.{short, room}

@@ -1,0 +1,48 @@
+-- `cutting::put` meets its contract: each store stands behind the one before, so the three make one run, and one byte 0 or none of it is the pad.
+use native.Mathlib.Omega.{arith}
+use lib.ListN.{length-take}
+use Rattle.cutting.proofs.Pad.{put-is}
+use borrow.Author.Needs.{needs}
+use Rattle.cutting.proofs.put.Statement.{statement}
+use Rattle.cutting.proofs.put.Tie as tie
+
+copy-requires : tie.Need-copy-requires
+copy-requires c κs = search needs
+
+store-requires : tie.Need-store-requires
+store-requires c κs = search needs
+
+add-store : tie.Need-add-store
+add-store c = search needs
+
+array-share-prefix-pad : tie.Need-array-share-prefix-pad
+array-share-prefix-pad c = search needs
+
+slice-aggregate-store : tie.Need-slice-aggregate-store
+slice-aggregate-store c = simp length-take (omega arith)
+
+store-requires-2 : tie.Need-store-requires-2
+store-requires-2 c κs = simp length-take (omega arith)
+
+same-length : tie.Need-same-length
+same-length c = search needs
+
+returns : tie.Need-returns
+returns c =
+    let stored = c .before .before .before .before .before .before .before in
+    let copied = stored .before .before .before .before in
+    let s = copied .before .before .before .before .before in
+    put-is _ (s .args .head .now) (s .args .bytes .now) _ _ _ (s .pre) (copied .copy .ensures) (stored .store .ensures) (c .before .before .store2 .ensures)
+
+pub put-spec : {M : Type 1} → statement M
+put-spec =
+    tie.close
+    (tie.spec
+    copy-requires
+    store-requires
+    add-store
+    array-share-prefix-pad
+    slice-aggregate-store
+    store-requires-2
+    same-length
+    returns)

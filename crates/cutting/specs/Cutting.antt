@@ -1,0 +1,56 @@
+-- Cutting a PDU into type 9 packets (document 01, 'Cutting and joining PDUs' and 'Packet bytes').
+use Prim.Native.Nat.{ℕ, _+_, _-_, _*_, _/_, _%_}
+use mathlib.Core.List.{List, [], _∷_, _++_}
+use mathlib.Core.Bool.{Bool, cond, _||_}
+use lib.ListN.{length, take, drop}
+use lib.Dec.{eqb, ltb}
+use Rattle.lists.specs.Bytes.{high, low}
+use Rattle.cutting.specs.declared.Heading.{Heading}
+
+-- L is 0 or over 65,536
+unfoldable pub badSize : ℕ → Bool
+badSize size = eqb size 0 || ltb 65536 size
+
+-- ceil(L / MTU)
+unfoldable pub segmentCount : ℕ → ℕ → ℕ
+segmentCount mtu size = (size + (mtu - 1)) / mtu
+
+-- the data of segment k, counted from 0: MTU bytes, and what is left for the last
+unfoldable pub dataOf : ℕ → List ℕ → ℕ → List ℕ
+dataOf mtu pdu k = take mtu (drop (k * mtu) pdu)
+
+-- S: the first; E: the last
+unfoldable pub isFirst : ℕ → Bool
+isFirst k = eqb k 0
+
+unfoldable pub isFinal : ℕ → List ℕ → ℕ → Bool
+isFinal mtu pdu k = eqb (k + 1) (segmentCount mtu (length pdu))
+
+-- P: a pad byte, 0, makes the data whole half-words; O: their number is odd
+unfoldable pub padOf : ℕ → List ℕ
+padOf n = cond (eqb (n % 2) 1) (0 ∷ []) []
+
+-- byte 6: S, E, three reserved bits, xh, O, P
+unfoldable pub flagsOf : Bool → Bool → ℕ → ℕ
+flagsOf first final n =
+    cond first 0b1000_0000 0 + cond final 0b0100_0000 0 + cond (eqb ((n + 1) / 2 % 2) 1) 0b10 0 + cond (eqb (n % 2) 1) 0b1 0
+
+-- bytes 7-8: the streamID where S is set, the PDU length where only E is (65,536 as 0), none in a continuation
+unfoldable pub fieldOf : Bool → Bool → ℕ → ℕ → List ℕ
+fieldOf first final stream size =
+    cond first (high stream ∷ low stream ∷ [])
+    (cond final (high size ∷ low size ∷ [])
+    [])
+
+-- segment k of a PDU, to the byte
+unfoldable pub packetOf : Heading → ℕ → List ℕ → ℕ → List ℕ
+packetOf h mtu pdu k =
+    -- priority, tt 01, type 9
+    (h .priority * 64 + 0b01 * 16 + 9)
+    ∷ high (h .destination) ∷ low (h .destination)
+    ∷ high (h .source) ∷ low (h .source)
+    ∷ h .cos
+    ∷ flagsOf (isFirst k) (isFinal mtu pdu k) (length (dataOf mtu pdu k))
+    ∷ (fieldOf (isFirst k) (isFinal mtu pdu k) (h .stream) (length pdu)
+    ++ dataOf mtu pdu k
+    ++ padOf (length (dataOf mtu pdu k)))

@@ -1,0 +1,128 @@
+// What a segment of a PDU is made of: its sizes, its head, and the bytes written. It knows nothing of a state.
+ghost use mathlib.Core.Path.{_≡_};
+ghost use mathlib.Core.Bool.{cond};
+ghost use mathlib.Core.List.{[], _∷_, _++_};
+ghost use Prim.Native.Nat.{_+_, _-_, _*_, _%_, min, _<_, _≤_};
+ghost use lib.ListN.{length};
+ghost use Rattle.lists.specs.Bytes.{high, low, written};
+ghost use Rattle.cutting.specs.Cutting.{badSize, segmentCount, flagsOf, padOf};
+
+// Who sends to whom, under which class of service, stream and priority.
+pub struct Heading {
+    pub destination: u16,
+    pub source: u16,
+    pub cos: u8,
+    pub stream: u16,
+    pub priority: u8,
+}
+
+// Whether a PDU of that length has no bytes or over 65,536.
+pub fn bad_size(size: usize) -> bool
+    ensures { λ r. ⌜ r ≡ badSize size ⌝ }
+{
+    if size == 0 {
+        return true;
+    }
+    65536 < size
+}
+
+// ceil(size / MTU). Every caller has tested both.
+pub fn count_of(mtu: usize, size: usize) -> usize
+    requires { ⌜ (0 < mtu) × (mtu ≤ 256) × (size ≤ 65536) ⌝ }
+    ensures { λ r. ⌜ r ≡ segmentCount mtu size ⌝ }
+{
+    (size + (mtu - 1)) / mtu
+}
+
+// How many bytes of the PDU a segment holds whose data begin at `from`: the MTU, and what is left for the last.
+// Every caller has a segment that begins in the PDU.
+pub fn data_length(mtu: usize, size: usize, from: usize) -> usize
+    requires { ⌜ from ≤ size ⌝ }
+    ensures { λ r. ⌜ r ≡ min mtu (size - from) ⌝ }
+{
+    if mtu < size - from {
+        return mtu;
+    }
+    size - from
+}
+
+// How many bytes stand before the data. With S or E two of them are a field.
+pub fn head_length(first: bool, last: bool) -> usize
+    ensures { λ r. ⌜ (r ≡ cond first 9 (cond last 9 7)) × (r ≤ 9) ⌝ }
+{
+    if first {
+        return 9;
+    }
+    if last {
+        return 9;
+    }
+    7
+}
+
+// What bytes 7-8 say: the streamID with S, else the PDU length.
+pub fn field_of(first: bool, stream: u16, size: usize) -> usize
+    ensures { λ r. ⌜ r ≡ cond first stream size ⌝ }
+{
+    if first {
+        return stream as usize;
+    }
+    size
+}
+
+// The weight of a bit that is set, else 0.
+fn bit_of(set: bool, weight: u8) -> u8
+    ensures { λ r. ⌜ (r ≡ cond set weight 0) × (r ≤ weight) ⌝ }
+{
+    if set {
+        return weight;
+    }
+    0
+}
+
+// Byte 6 of a segment with n bytes of data: S, E, three reserved bits, xh, O, P. Every caller has tested the MTU, and n is no more.
+pub fn flags(first: bool, last: bool, n: usize) -> u8
+    requires { ⌜ n ≤ 256 ⌝ }
+    ensures { λ r. ⌜ r ≡ flagsOf first last n ⌝ }
+{
+    let odd = (n + 1) / 2 % 2 == 1;
+    let pad = n % 2 == 1;
+    bit_of(first, 0b1000_0000) + bit_of(last, 0b0100_0000) + bit_of(odd, 0b10) + bit_of(pad, 0b1)
+}
+
+// Bytes 0 to 8. A continuation has the first seven. Every caller has tested the priority.
+pub fn head_of(heading: Heading, flags: u8, field: usize) -> [u8; 9]
+    requires { ⌜ heading .priority ≤ 3 ⌝ }
+    ensures { λ r. ⌜
+        r
+        ≡ (heading .priority * 64 + 0b01 * 16 + 9)
+        ∷ high (heading .destination) ∷ low (heading .destination)
+        ∷ high (heading .source) ∷ low (heading .source)
+        ∷ heading .cos
+        ∷ flags
+        ∷ high field ∷ low field
+        ∷ []
+        ⌝ }
+{
+    [
+        heading.priority * 64 + 0b01 * 16 + 9,
+        (heading.destination / 256 % 256) as u8,
+        (heading.destination % 256) as u8,
+        (heading.source / 256 % 256) as u8,
+        (heading.source % 256) as u8,
+        heading.cos,
+        flags,
+        (field / 256 % 256) as u8,
+        (field % 256) as u8,
+    ]
+}
+
+// Writes the head, the data, and behind an odd number of data bytes a pad byte. Every caller has room for them.
+pub fn put(out: &mut [u8], head: &[u8], bytes: &[u8])
+    requires { ⌜ length (now head) + length (now bytes) + length (now bytes) % 2 ≤ length (now out) ⌝ }
+    ensures { λ _. ⌜ now (out .exit) ≡ written (now (out .entry)) 0 (now (head .entry) ++ now (bytes .entry) ++ padOf (length (now (bytes .entry)))) ⌝ }
+{
+    let pad = [0];
+    lists::copy(out, head);
+    lists::store(out, head.len(), bytes);
+    lists::store(out, head.len() + bytes.len(), &pad[..bytes.len() % 2]);
+}

@@ -1,0 +1,103 @@
+-- Flows are apart: by the laws of ByFlow, packet by packet.
+use Prim.Native.Nat.{ℕ}
+use mathlib.Core.Path.{_≡_, refl, ap, ap₂, sym, _∙_}
+use mathlib.Core.Bool.{Bool, true, false}
+use mathlib.Core.Option.{Option, none}
+use mathlib.Core.List.{List, [], _∷_}
+use Rattle.answers.specs.Answers as answers
+use Rattle.wire.specs.declared.Flow.{Flow}
+use Rattle.wire.specs.declared.Segment.{Segment}
+use Rattle.wire.specs.declared.Parsed.{Parsed}
+use Rattle.wire.specs.declared.Parsed.the-variants.{Refused, Stream, Message}
+use Rattle.wire.specs.Type9.{sameFlow, segmentOf}
+use Rattle.wire.specs.Parsed.{parsed}
+use Rattle.stream_rooms.specs.Placing.{dataOf}
+use Rattle.reading.proofs.Packets.{stream-parsed}
+use Rattle.flows.specs.OneFlow.{PDU, Told, held, delivered, refused, Outcome, flowStep}
+use Rattle.flows.specs.Board.{Board, read, after, view, freshBoard}
+use Rattle.flows.specs.ByFlow.{AreBytes, Tells, OwnFlow, NoFlow, ByFlow}
+use Rattle.flows.specs.Apart.{Answer, answer, heardOf, heardAlone, isOf, packetsOf, answersTo, alone, AllBytes, flowAmong, AmongFlows, FlowsApart, SamePacketsSameAnswers}
+use Rattle.flows.proofs.Flows.{same-true, same-false, ne-same}
+use Rattle.flows.proofs.Fine.{Fine, fresh-fine, fresh-view}
+use Rattle.flows.proofs.Machine.{by-flow}
+
+-- an answer that tells what the one-flow endpoint tells is heard as that
+heard-same : (room : ℕ) (memory : List ℕ) (flow : Flow) (says : answers.Said) (told : Told) → Tells room memory flow says told → heardOf room memory says ≡ heardAlone flow told
+heard-same room memory flow says held e = ap (heardOf room memory) e
+heard-same room memory flow says (refused number) e = ap (heardOf room memory) e
+heard-same room memory flow answers.held (delivered p) e = cc
+heard-same room memory flow (answers.delivered context source cos stream size) (delivered p) e = cc
+heard-same room memory flow (answers.message context source letter mailbox size) (delivered p) e = cc
+heard-same room memory flow (answers.refused number) (delivered p) e = cc
+heard-same room memory flow answers.ready (delivered p) e = cc
+heard-same room memory flow answers.closed (delivered p) e = cc
+heard-same room memory flow answers.free (delivered p) e = cc
+heard-same room memory flow (answers.wrote size) (delivered p) e = cc
+
+module _ (device mtu room : ℕ) (flows : List Flow) (Ok : Board → Type 0) (law : ByFlow device mtu room flows Ok) (flow : Flow) where
+  -- what the endpoint answers to a packet
+  abbrev given : Board → List ℕ → Answer
+  given b p = answer (heardOf room (after b p .streamMemory) (read b p .says)) (read b p .dropped)
+
+  -- the one-flow endpoint's outcome
+  abbrev out : Option PDU → List ℕ → Outcome
+  out before p = flowStep mtu room before (segmentOf p) (dataOf p (segmentOf p))
+
+  abbrev Goal : Board → List (List ℕ) → Type 0
+  Goal b ps = answersTo device room flow b ps ≡ alone mtu room flow (view b flow) (packetsOf device flow ps)
+
+  -- a packet of another flow, or of none
+  skipped : (b : Board) (p : List ℕ) (ps : List (List ℕ)) → isOf flow (parsed device p) ≡ false → view (after b p) flow ≡ view b flow → Goal (after b p) ps → Goal b (p ∷ ps)
+  skipped b p ps t v ih = rw t (ih ∙ ap (λ (x : Option PDU). alone mtu room flow x (packetsOf device flow ps)) v)
+
+  -- a packet of this flow
+  taken : (b : Board) (p : List ℕ) (ps : List (List ℕ)) → isOf flow (parsed device p) ≡ true
+      → given b p ≡ answer (heardAlone flow (out (view b flow) p .told)) (out (view b flow) p .dropped)
+      → view (after b p) flow ≡ out (view b flow) p .next → Goal (after b p) ps → Goal b (p ∷ ps)
+  taken b p ps t a v ih = rw t (ap₂ (λ (x : Answer) (xs : List Answer). x ∷ xs) a (ih ∙ ap (λ (x : Option PDU). alone mtu room flow x (packetsOf device flow ps)) v))
+
+  -- by what the packet is
+  step : (b : Board) (p : List ℕ) (ps : List (List ℕ)) → Ok b → AreBytes p → flowAmong flows (parsed device p) ≡ true → (Ok (after b p) → Goal (after b p) ps) → (x : Parsed) → parsed device p ≡ x → Goal b (p ∷ ps)
+  step b p ps ok bytes member ih (Refused number) e =
+      let l : NoFlow Ok room b p = law .of-refused b p number ok bytes e in
+      skipped b p ps (ap (isOf flow) e) (l .views flow) (ih (l .ok))
+  step b p ps ok bytes member ih (Message m) e =
+      let l : NoFlow Ok room b p = law .of-message b p m ok bytes e in
+      skipped b p ps (ap (isOf flow) e) (l .views flow) (ih (l .ok))
+  step b p ps ok bytes member ih (Stream g) e = go (sameFlow (g .flow) flow) refl
+    where
+      l : OwnFlow Ok mtu room b p g
+      l = law .of-flow b p g ok bytes e (ap (flowAmong flows) (sym e) ∙ member)
+
+      -- the one-flow endpoint's outcome by the segment
+      by-segment : (q : Flow) → g .flow ≡ q → flowStep mtu room (view b (g .flow)) g (dataOf p g) ≡ out (view b q) p
+      by-segment q s = ap₂ (λ (x : Flow) (y : Segment). flowStep mtu room (view b x) y (dataOf p y)) s (stream-parsed p device g e .0)
+
+      go : (t : Bool) → sameFlow (g .flow) flow ≡ t → Goal b (p ∷ ps)
+      go true t =
+          let s : g .flow ≡ flow = same-true (g .flow) flow t in
+          let o : flowStep mtu room (view b (g .flow)) g (dataOf p g) ≡ out (view b flow) p = by-segment flow s in
+          let heard : heardOf room (after b p .streamMemory) (read b p .says) ≡ heardAlone flow (out (view b flow) p .told) =
+          heard-same room (after b p .streamMemory) (g .flow) (read b p .says) (flowStep mtu room (view b (g .flow)) g (dataOf p g) .told) (l .tells) ∙ ap₂ (λ (x : Flow) (y : Outcome). heardAlone x (y .told)) s o in
+          taken b p ps (ap (isOf flow) e ∙ t) (ap₂ answer heard (l .drops ∙ ap (λ (y : Outcome). y .dropped) o))
+          (ap (view (after b p)) (sym s) ∙ (l .own ∙ ap (λ (y : Outcome). y .next) o)) (ih (l .ok))
+      go false t =
+          skipped b p ps (ap (isOf flow) e ∙ t) (l .others flow (ne-same flow (g .flow) (λ q. same-false (g .flow) flow t (sym q)))) (ih (l .ok))
+
+  -- from any board
+  pub apart-from : (packets : List (List ℕ)) (b : Board) → Ok b → AllBytes packets → AmongFlows device flows packets
+      → answersTo device room flow b packets ≡ alone mtu room flow (view b flow) (packetsOf device flow packets)
+  apart-from [] b ok bytes occur = refl
+  apart-from (p ∷ ps) b ok bytes occur = step b p ps ok (bytes .0) (occur .0) (λ next. apart-from ps (after b p) next (bytes .1) (occur .1)) (parsed device p) refl
+
+pub flows-apart : FlowsApart
+flows-apart device mtu room streamMemory messageMemory response flows packets r flow =
+    apart-from device mtu room flows (Fine device mtu room flows) (by-flow device mtu room flows (r .few)) flow packets (freshBoard device mtu room streamMemory messageMemory response)
+    (fresh-fine device mtu room streamMemory messageMemory response flows (r .lends) (r .mtu-fits) (r .room-fits)) (r .bytes) (r .occur)
+    ∙ ap (λ (x : Option PDU). alone mtu room flow x (packetsOf device flow packets)) (fresh-view device mtu room streamMemory messageMemory response flow)
+
+pub same-packets-same-answers : SamePacketsSameAnswers
+same-packets-same-answers device mtu room streamMemory messageMemory response flows packets streamMemory′ messageMemory′ response′ flows′ packets′ r r′ flow e =
+    flows-apart device mtu room streamMemory messageMemory response flows packets r flow
+    ∙ (ap (alone mtu room flow none) e
+    ∙ sym (flows-apart device mtu room streamMemory′ messageMemory′ response′ flows′ packets′ r′ flow))

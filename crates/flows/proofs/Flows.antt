@@ -1,0 +1,81 @@
+-- Flows that are the same, flows among others, and pigeonholes.
+use Prim.Native.Nat.{ℕ, zero, suc, _≤_, _<_}
+use native.Mathlib.Omega.{arith}
+use mathlib.Core.Path.{_≡_, refl, ap, ap₂, sym, _∙_}
+use mathlib.Core.Bool.{Bool, true, false, cond, _||_, false≢true}
+use mathlib.Core.List.{List, [], _∷_}
+use lib.ListN.{length}
+use lib.Dec.{eqb}
+use borrow.Author.Tests.{eqb-true, eq-eqb}
+use Rattle.wire.specs.declared.Flow.{Flow}
+use Rattle.wire.specs.Type9.{sameFlow}
+use Rattle.refusal19.proofs.Good.{both}
+use Rattle.flows.specs.ByFlow.{among}
+
+-- the test of sameness is sameness
+pub same-true : (a b : Flow) → sameFlow a b ≡ true → a ≡ b
+unfolding sameFlow
+same-true a b e =
+    let p = both (eqb (a .source) (b .source)) (eqb (a .cos) (b .cos)) e in
+    ap₂ (λ (x y : ℕ). record { source = x; cos = y }) (eqb-true (a .source) (b .source) (p .0)) (eqb-true (a .cos) (b .cos) (p .1))
+
+pub same-refl : (a : Flow) → sameFlow a a ≡ true
+unfolding sameFlow
+same-refl a = rw (eq-eqb (a .source) (a .source) refl, eq-eqb (a .cos) (a .cos) refl)
+
+pub eq-same : (a b : Flow) → a ≡ b → sameFlow a b ≡ true
+eq-same a b e = ap (λ (x : Flow). sameFlow a x) (sym e) ∙ same-refl a
+
+pub same-false : (a b : Flow) → sameFlow a b ≡ false → a ≡ b → ⊥
+same-false a b e q = false≢true (sym e ∙ eq-same a b q)
+
+pub ne-same : (a b : Flow) → (a ≡ b → ⊥) → sameFlow a b ≡ false
+ne-same a b f = go (sameFlow a b) refl
+  where
+    go : (t : Bool) → sameFlow a b ≡ t → sameFlow a b ≡ false
+    go true e = absurd (f (same-true a b e))
+    go false e = e
+
+-- the flows without the first that is k
+remove : Flow → List Flow → List Flow
+remove k [] = []
+remove k (x ∷ xs) = cond (sameFlow k x) xs (x ∷ remove k xs)
+
+remove-length : (k : Flow) (l : List Flow) → among k l ≡ true → suc (length (remove k l)) ≡ length l
+unfolding remove
+remove-length k [] e = absurd (false≢true e)
+remove-length k (x ∷ xs) e = go (sameFlow k x) e (remove-length k xs)
+  where
+    go : (b : Bool) → (b || among k xs) ≡ true → (among k xs ≡ true → suc (length (remove k xs)) ≡ length xs) → suc (length (cond b xs (x ∷ remove k xs))) ≡ suc (length xs)
+    go true e ih = refl
+    go false e ih = ap suc (ih e)
+
+-- another flow stays among them
+remove-among : (k j : Flow) (l : List Flow) → (j ≡ k → ⊥) → among j l ≡ true → among j (remove k l) ≡ true
+unfolding remove
+remove-among k j [] ne e = e
+remove-among k j (x ∷ xs) ne e = go (remove-among k j xs ne) (sameFlow k x) refl (sameFlow j x) refl
+  where
+    go : (among j xs ≡ true → among j (remove k xs) ≡ true) → (b : Bool) → sameFlow k x ≡ b → (d : Bool) → sameFlow j x ≡ d → among j (cond (sameFlow k x) xs (x ∷ remove k xs)) ≡ true
+    go ih true t true u = absurd (ne (same-true j x u ∙ sym (same-true k x t)))
+    go ih true t false u = rw t (rw u at e)
+    go ih false t true u = rw (t, u)
+    go ih false t false u = rw (t, u) (ih (rw u at e))
+
+-- n different flows among others are at most as many
+pub pigeon : (n : ℕ) (f : ℕ → Flow) (l : List Flow) → ((i : ℕ) → i < n → among (f i) l ≡ true) → ((i j : ℕ) → i < n → j < n → f i ≡ f j → i ≡ j) → n ≤ length l
+pigeon zero f l inside apart = omega arith
+pigeon (suc n) f l inside apart =
+    let e : suc (length (remove (f n) l)) ≡ length l = remove-length (f n) l (inside n (omega arith)) in
+    let ih : n ≤ length (remove (f n) l) =
+    pigeon n f (remove (f n) l)
+    (λ i h. remove-among (f n) (f i) l (λ q. let z : i ≡ n = apart i n (omega arith) (omega arith) q in omega arith) (inside i (omega arith)))
+    (λ i j h g q. apart i j (omega arith) (omega arith) q) in
+    omega arith
+
+-- n different flows among others, and k among those but none of the n: fewer
+pub pigeon-less : (n : ℕ) (f : ℕ → Flow) (k : Flow) (l : List Flow) → among k l ≡ true → ((i : ℕ) → i < n → f i ≡ k → ⊥) → ((i : ℕ) → i < n → among (f i) l ≡ true)
+    → ((i j : ℕ) → i < n → j < n → f i ≡ f j → i ≡ j) → n < length l
+pigeon-less n f k l here new inside apart =
+    let m : n ≤ length (remove k l) = pigeon n f (remove k l) (λ i h. remove-among k (f i) l (new i h) (inside i h)) apart in
+    omega (arith, remove-length k l here)

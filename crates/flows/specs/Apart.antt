@@ -1,0 +1,127 @@
+-- Flows are apart: what a flow's packets are answered in any mixture is what they are answered alone.
+use Prim.Native.Nat.{ℕ, _≤_}
+use mathlib.Core.Path.{_≡_}
+use mathlib.Core.List.{List, [], _∷_}
+use mathlib.Core.Bool.{Bool, true, false, cond}
+use mathlib.Core.Option.{Option, none}
+use lib.ListN.{length}
+use Rattle.answers.specs.Answers as answers
+use Rattle.wire.specs.declared.Flow.{Flow}
+use Rattle.wire.specs.declared.Parsed.{Parsed}
+use Rattle.wire.specs.declared.Parsed.the-variants.{Refused, Stream, Message}
+use Rattle.wire.specs.Type9.{sameFlow, segmentOf}
+use Rattle.sizes.specs.Sizes.{badMTU}
+use Rattle.wire.specs.Parsed.{parsed}
+use Rattle.refusal19.specs.Refusal19.{badRoom}
+use Rattle.stream_rooms.specs.Placing.{dataOf}
+use Rattle.flows.specs.OneFlow.{PDU, pdu, Told, held, delivered, refused, flowStep}
+use Rattle.flows.specs.Board.{Board, Delivery, delivery, inRoom, read, after, Lends, freshBoard}
+use Rattle.flows.specs.ByFlow.{among, AreBytes}
+
+-- ---- what is answered, the context number aside
+
+pub data Heard : Type 0 where
+  holds : Heard
+  -- a PDU, with its flow and its bytes
+  delivers : Delivery → Heard
+  refuses : ℕ → Heard
+  -- an answer that no type 9 packet gets
+  other : Heard
+
+-- and whether an open PDU was given up
+pub record Answer : Type 0 where
+  pub heard : Heard
+  pub dropped : Bool
+
+abbrev pub answer : Heard → Bool → Answer
+answer heard dropped = record { heard = heard; dropped = dropped }
+
+-- by the endpoint: a delivered PDU's bytes are those that its room holds at that moment
+abbrev pub heardOf : ℕ → List ℕ → answers.Said → Heard
+heardOf room memory answers.held = holds
+heardOf room memory (answers.delivered context source cos stream size) = delivers (delivery (record { source = source; cos = cos }) (pdu stream (inRoom room memory context size)))
+heardOf room memory (answers.message context source letter mailbox size) = other
+heardOf room memory (answers.refused number) = refuses number
+heardOf room memory answers.ready = other
+heardOf room memory answers.closed = other
+heardOf room memory answers.free = other
+heardOf room memory (answers.wrote size) = other
+
+-- by the one-flow endpoint
+abbrev pub heardAlone : Flow → Told → Heard
+heardAlone flow held = holds
+heardAlone flow (delivered p) = delivers (delivery flow p)
+heardAlone flow (refused number) = refuses number
+
+-- ---- a flow's packets
+
+-- a type 9 packet of that flow which rows 1 to 5 pass
+abbrev pub isOf : Flow → Parsed → Bool
+isOf flow (Refused number) = false
+isOf flow (Stream g) = sameFlow (g .flow) flow
+isOf flow (Message m) = false
+
+abbrev pub packetsOf : ℕ → Flow → List (List ℕ) → List (List ℕ)
+packetsOf device flow [] = []
+packetsOf device flow (p ∷ ps) = cond (isOf flow (parsed device p)) (p ∷ packetsOf device flow ps) (packetsOf device flow ps)
+
+-- what the endpoint answers to that flow's packets, in a run over all packets
+abbrev pub answersTo : ℕ → ℕ → Flow → Board → List (List ℕ) → List Answer
+answersTo device room flow b [] = []
+answersTo device room flow b (p ∷ ps) =
+    cond (isOf flow (parsed device p))
+    (answer (heardOf room (after b p .streamMemory) (read b p .says)) (read b p .dropped) ∷ answersTo device room flow (after b p) ps)
+    (answersTo device room flow (after b p) ps)
+
+-- what the one-flow endpoint answers to a flow's packets, where `before` is what it has so far
+abbrev pub alone : ℕ → ℕ → Flow → Option PDU → List (List ℕ) → List Answer
+alone mtu room flow before [] = []
+alone mtu room flow before (p ∷ ps) =
+    let o = flowStep mtu room before (segmentOf p) (dataOf p (segmentOf p)) in
+    answer (heardAlone flow (o .told)) (o .dropped) ∷ alone mtu room flow (o .next) ps
+
+-- ---- the statements
+
+-- every item of every packet is a byte
+abbrev pub AllBytes : List (List ℕ) → Type 0
+AllBytes [] = Unit {0}
+AllBytes (p ∷ ps) = AreBytes p × AllBytes ps
+
+-- a packet of type 9 that rows 1 to 5 pass has one of these flows
+abbrev pub flowAmong : List Flow → Parsed → Bool
+flowAmong flows (Refused number) = true
+flowAmong flows (Stream g) = among (g .flow) flows
+flowAmong flows (Message m) = true
+
+abbrev pub AmongFlows : ℕ → List Flow → List (List ℕ) → Type 0
+AmongFlows device flows [] = Unit {0}
+AmongFlows device flows (p ∷ ps) = (flowAmong flows (parsed device p) ≡ true) × AmongFlows device flows ps
+
+-- an endpoint as setup makes it, memories that 12 allows, and any packets at all of which those of type 9 have at most sixteen flows
+pub record Run (device mtu room : ℕ) (streamMemory messageMemory response : List ℕ) (flows : List Flow) (packets : List (List ℕ)) : Type 0 where
+  pub mtu-fits : badMTU mtu ≡ false
+  pub room-fits : badRoom mtu room ≡ false
+  pub lends : Lends room streamMemory messageMemory response
+  pub few : length flows ≤ 16
+  pub bytes : AllBytes packets
+  pub occur : AmongFlows device flows packets
+
+-- each flow is answered as if its packets came alone
+abbrev pub FlowsApart : Type 0
+FlowsApart =
+    (device mtu room : ℕ) (streamMemory messageMemory response : List ℕ) (flows : List Flow) (packets : List (List ℕ))
+    → Run device mtu room streamMemory messageMemory response flows packets
+    → (flow : Flow)
+    → answersTo device room flow (freshBoard device mtu room streamMemory messageMemory response) packets ≡ alone mtu room flow none (packetsOf device flow packets)
+
+-- so two runs in which a flow has the same packets answer them the same, whatever else came, and whatever stood in the memories
+abbrev pub SamePacketsSameAnswers : Type 0
+SamePacketsSameAnswers =
+    (device mtu room : ℕ) (streamMemory messageMemory response : List ℕ) (flows : List Flow) (packets : List (List ℕ))
+    (streamMemory′ messageMemory′ response′ : List ℕ) (flows′ : List Flow) (packets′ : List (List ℕ))
+    → Run device mtu room streamMemory messageMemory response flows packets
+    → Run device mtu room streamMemory′ messageMemory′ response′ flows′ packets′
+    → (flow : Flow)
+    → packetsOf device flow packets ≡ packetsOf device flow packets′
+    → answersTo device room flow (freshBoard device mtu room streamMemory messageMemory response) packets
+    ≡ answersTo device room flow (freshBoard device mtu room streamMemory′ messageMemory′ response′) packets′

@@ -1,0 +1,99 @@
+-- What a type 11 segment leaves in one context and its room (document 01, 'Cutting and joining PDUs', messages).
+use Prim.Native.Nat.{ℕ, _≤_, _<_, _+_, _*_, _^_}
+use mathlib.Core.Path.{_≡_}
+use mathlib.Core.List.{List}
+use mathlib.Core.Bool.{Bool, false, cond}
+use lib.ListN.{length, drop}
+use Rattle.lists.specs.Bytes.{written}
+use Rattle.answers.specs.Answers.{Said, held, message, refused}
+use Rattle.wire.specs.declared.MessageSegment.{MessageSegment}
+use Rattle.wire.specs.Type11.{isSingle, mailbox, messageDataFrom}
+use Rattle.sizes.specs.Sizes.{bytesOf}
+use Rattle.responses.specs.Type13.{DONE, answered}
+use Rattle.contexts.specs.declared.MessageContext.{MessageContext}
+use Rattle.contexts.specs.State.{State, withMessage, closedMessage}
+use Rattle.contexts.specs.Words.{stateOf, stateWords}
+use Rattle.contexts.specs.Marks.{marked, withMark, allMarked}
+use Rattle.refusal19.specs.Refusal19.{namedBy19}
+use Rattle.rules.specs.Messages.{lastWith}
+
+-- the answer, the state, the message memory and the response buffer
+pub record Joined : Type 0 where
+  pub says : Said
+  pub state : State
+  pub memory : List ℕ
+  pub response : List ℕ
+
+abbrev pub joining : Said → State → List ℕ → List ℕ → Joined
+joining says state memory response = record { says = says; state = state; memory = memory; response = response }
+
+-- the segment's data, from byte 7
+abbrev pub dataOf : List ℕ → List ℕ
+dataOf p = drop messageDataFrom p
+
+-- the marks with this segment
+abbrev pub marksWith : MessageSegment → ℕ → ℕ
+marksWith m marks = withMark marks (m .msgseg)
+
+-- the context as it is kept with `marks` and `last`
+abbrev pub kept : MessageSegment → ℕ → ℕ → MessageContext
+kept m marks last = record {
+  live = 1;
+  source = m .source;
+  letter = m .letter;
+  mbox = m .mbox;
+  msglen = m .msglen;
+  ssize = m .ssize;
+  marks = marks;
+  last = last;
+}
+
+-- all segments of the message are in
+abbrev pub complete : MessageSegment → ℕ → Bool
+complete m marks = allMarked marks (m .msglen + 1)
+
+-- the answer and the context once the marks are `marks` and the last segment's length is `last`: with all present the message is delivered and its context freed
+abbrev pub answerWith : MessageSegment → ℕ → ℕ → ℕ → Said
+answerWith m n marks last = cond (complete m marks) (message n (m .source) (m .letter) (mailbox m) (m .msglen * bytesOf (m .ssize) + last)) held
+
+abbrev pub contextWith : MessageSegment → ℕ → ℕ → MessageContext
+contextWith m marks last = cond (complete m marks) closedMessage (kept m marks last)
+
+-- segment k is stored at k ssize of room n, and marked
+unfoldable pub placed : State → List ℕ → List ℕ → List ℕ → MessageSegment → ℕ → ℕ → ℕ → Joined
+placed s memory response p m n marks last =
+    joining (answerWith m n (marksWith m marks) (lastWith m last))
+    (withMessage s n (contextWith m (marksWith m marks) (lastWith m last)))
+    (written memory (n * 4096 + m .msgseg * bytesOf (m .ssize)) (dataOf p))
+    (answered response p DONE)
+
+-- ---- what the functions rely on and promise those above
+
+-- words of a state that 19 does not name, buffers that 12 allows, a packet with its head
+pub record Ready (words memory response packet : List ℕ) (m : MessageSegment) : Type 0 where
+  pub whole : length words ≡ stateWords
+  pub good : namedBy19 (stateOf words) ≡ false
+  pub size : length memory ≡ 32768
+  pub reply : 7 ≤ length response
+  pub inside : 7 + m .raw ≡ length packet
+  pub segments : m .msglen < 16
+  pub number : m .msgseg < 16
+  pub boxes : m .mbox < 4
+
+-- the segment is one more of its message: context n, and marks that leave it out
+pub record Fits (m : MessageSegment) (n marks last : ℕ) : Type 0 where
+  pub context : n < 8
+  pub several : isSingle m ≡ false
+  pub inside : marks < 2 ^ (m .msglen + 1)
+  pub unmarked : marked marks (m .msgseg) ≡ false
+  pub short : last ≤ 256
+
+-- context n delivered or kept
+pub record Kept (s : State) (m : MessageSegment) (n marks last : ℕ) (says : Said) (after : State) : Type 0 where
+  pub answer : says ≡ answerWith m n marks last
+  pub state : after ≡ withMessage s n (contextWith m marks last)
+
+-- a refusal and its response
+pub record Replied (before packet : List ℕ) (number status : ℕ) (says : Said) (after : List ℕ) : Type 0 where
+  pub answer : says ≡ refused number
+  pub response : after ≡ answered before packet status

@@ -1,0 +1,110 @@
+// What a type 11 segment does to one context and its room: its data stored, the context kept or delivered, the response written.
+use answers::Answer;
+use contexts::MessageContext;
+use wire::MessageSegment;
+ghost use mathlib.Core.Path.{_≡_};
+ghost use Prim.Native.Nat.{_<_, _≤_};
+ghost use lib.ListN.{length};
+ghost use Rattle.answers.specs.Answers.{said};
+ghost use Rattle.responses.specs.Type13.{DONE, answered};
+ghost use Rattle.contexts.specs.State.{closedMessage};
+ghost use Rattle.contexts.specs.Words.{stateOf, stateWords};
+ghost use Rattle.rules.specs.Messages.{Sound};
+ghost use Rattle.message_rooms.specs.Placing.{joining, placed, Ready, Fits, Kept, Replied};
+
+// The bytes of a message context's room.
+pub const ROOM: usize = 4096;
+
+// A closed context: all its fields 0.
+pub fn closed() -> MessageContext
+    ensures { λ r. ⌜ r ≡ closedMessage ⌝ }
+{
+    MessageContext {
+        live: 0,
+        source: 0,
+        letter: 0,
+        mbox: 0,
+        msglen: 0,
+        ssize: 0,
+        marks: 0,
+        last: 0,
+    }
+}
+
+// A refusal: its response is written, and nothing else. Every caller has a buffer of 7 bytes, a packet of 7 and a status.
+pub fn refuse(response: &mut [u8], packet: &[u8], number: usize, status: u8) -> Answer
+    requires { ⌜ (7 ≤ length (now response)) × (7 ≤ length (now packet)) × (status < 16) ⌝ }
+    ensures { λ r. ⌜ Replied (now (response .entry)) (now (packet .entry)) number status (said r) (now (response .exit)) ⌝ }
+{
+    responses::respond(response, packet, status);
+    Answer::Refused(number)
+}
+
+// An accepted segment: its response is DONE. Every caller has a buffer of 7 bytes and a packet of 7.
+pub fn done(response: &mut [u8], packet: &[u8])
+    requires { ⌜ (7 ≤ length (now response)) × (7 ≤ length (now packet)) ⌝ }
+    ensures { λ _. ⌜ now (response .exit) ≡ answered (now (response .entry)) (now (packet .entry)) DONE ⌝ }
+{
+    responses::respond(response, packet, responses::DONE);
+}
+
+// Context n with these marks: delivered where all segments are in, else kept.
+fn keep(state: &mut [usize], m: MessageSegment, n: usize, marks: usize, last: usize) -> Answer
+    requires { ⌜ (n < 8) × (length (now state) ≡ stateWords) ⌝ }
+    requires { ⌜ (marks < 65536) × (last ≤ 256) × (m .msglen < 16) × (m .msgseg < 16) × (m .mbox < 4) ⌝ }
+    ensures { λ r. ⌜ Kept (stateOf (now (state .entry))) m n marks last (said r) (stateOf (now (state .exit))) ⌝ }
+{
+    if contexts::all_marked(marks as u16, m.msglen + 1) {
+        contexts::put_message(state, n, closed());
+        return Answer::Message {
+            context: n,
+            source: m.source,
+            letter: m.letter,
+            mailbox: rules::mailbox_of(m),
+            length: m.msglen * sizes::bytes_of(m.ssize) + last,
+        };
+    }
+    contexts::put_message(
+        state,
+        n,
+        MessageContext {
+            live: 1,
+            source: m.source,
+            letter: m.letter,
+            mbox: m.mbox,
+            msglen: m.msglen,
+            ssize: m.ssize,
+            marks,
+            last,
+        },
+    );
+    Answer::Held
+}
+
+// Segment k is stored at k ssize of room n: the part of the memory from there on is lent to the copying leaf.
+// Every caller has tested the state, the buffers' sizes and rows 20 to 24.
+pub fn place(
+    state: &mut [usize],
+    memory: &mut [u8],
+    response: &mut [u8],
+    packet: &[u8],
+    m: MessageSegment,
+    n: usize,
+    marks: usize,
+    last: usize,
+) -> Answer
+    requires { ⌜ Ready (now state) (now memory) (now response) (now packet) m ⌝ }
+    requires { ⌜ Sound m ⌝ }
+    requires { ⌜ Fits m n marks last ⌝ }
+    ensures { λ r. ⌜ joining (said r) (stateOf (now (state .exit))) (now (memory .exit)) (now (response .exit)) ≡ placed (stateOf (now (state .entry))) (now (memory .entry)) (now (response .entry)) (now (packet .entry)) m n marks last ⌝ }
+{
+    let size = sizes::bytes_of(m.ssize);
+    let with_this = marks + contexts::power(m.msgseg);
+    lists::store(
+        memory,
+        n * ROOM + m.msgseg * size,
+        &packet[wire::HEADER + 2..],
+    );
+    done(response, packet);
+    keep(state, m, n, with_this, rules::last_with(m, last))
+}
