@@ -8,18 +8,23 @@ use Rattle.wire.specs.declared.Flow.{Flow}
 use Rattle.answers.specs.Answers.{Said, held, delivered}
 use Rattle.cutting.specs.Cutting.{packetOf}
 use Rattle.flows.specs.OneFlow.{PDU}
-use Rattle.flows.specs.Board.{Board, read, after, room, inRoom, view}
+use Rattle.flows.specs.Board.{Board, read, after, room, inRoom, view, freshBoard}
 use Rattle.flows.specs.ByFlow.{ByFlow}
 use Rattle.sending.specs.Sending.{Sent, packetCount, headingOf, FairPDU, Ranges, Sending, flowsOf, packets, whole, deliveries, Fair, FairAnyLoss}
 
 -- A board of that device, MTU and R on which no flow is open, and from which on the laws between a flow and the endpoint hold.
--- (A board that was just set up is one: crate flows.)
 pub record Begins (device mtu R : ℕ) (flows : List Flow) (b : Board) : Type 1 where
   pub Ok : Board → Type 0
   pub law : ByFlow device mtu R flows Ok
   pub ok : Ok b
   pub own-R : room b ≡ R
   pub closed : (flow : Flow) → view b flow ≡ none
+
+-- a board that was just set up begins, once the laws hold of it
+abbrev pub FreshBegins : Type 1
+FreshBegins =
+    (device mtu R : ℕ) (flows : List Flow) (streamMemory messageMemory response : List ℕ) (Ok : Board → Type 0) → ByFlow device mtu R flows Ok
+    → Ok (freshBoard device mtu R streamMemory messageMemory response) → Begins device mtu R flows (freshBoard device mtu R streamMemory messageMemory response)
 
 -- ---- Demand 3
 
