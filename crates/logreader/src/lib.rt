@@ -2,7 +2,7 @@
 // `records`, over a slice and a number; `record_at` stands above them, and whoever calls it sees no reader.
 ghost use mathlib.Core.Path.{_≡_};
 ghost use Rattle.records.specs.Records.{nextRecord};
-ghost use Rattle.logreader.specs.Reader.{placeBehind, countOf};
+ghost use Rattle.logreader.specs.Reader.{readerAt, foundBy, placeBehind, movedOn, countOf};
 use records::Next;
 
 pub struct LogReader<'a> {
@@ -12,7 +12,7 @@ pub struct LogReader<'a> {
 
 // A reader at the log's beginning.
 pub fn new<'a>(log: &'a [u8]) -> LogReader<'a>
-    ensures { λ r. ⌜ (r .log ≡ log .entry) × (r .at ≡ 0) ⌝ }
+    ensures { λ r. ⌜ r ≡ readerAt (log .entry) 0 ⌝ }
 {
     LogReader { log, at: 0 }
 }
@@ -26,7 +26,7 @@ pub fn place<'a>(reader: LogReader<'a>) -> usize
 
 // The same log, at another place.
 pub fn moved<'a>(reader: LogReader<'a>, at: usize) -> LogReader<'a>
-    ensures { λ r. ⌜ (r .log ≡ reader .entry .log) × (r .at ≡ at) ⌝ }
+    ensures { λ r. ⌜ r ≡ readerAt (reader .entry .log) at ⌝ }
 {
     LogReader {
         log: reader.log,
@@ -36,7 +36,7 @@ pub fn moved<'a>(reader: LogReader<'a>, at: usize) -> LogReader<'a>
 
 // The record at the reader's place.
 pub fn found<'a>(reader: LogReader<'a>) -> Next
-    ensures { λ r. ⌜ r ≡ nextRecord (now (reader .entry .log)) (reader .entry .at) ⌝ }
+    ensures { λ r. ⌜ r ≡ foundBy (reader .entry) ⌝ }
 {
     records::next_record(reader.log, reader.at)
 }
@@ -58,9 +58,7 @@ pub fn place_behind(next: Next, at: usize) -> usize
 
 // The record at the reader's place, and the reader moves behind it.
 pub fn next<'s, 'a>(reader: &'s mut LogReader<'a>) -> Next
-    ensures { λ r. ⌜ (r ≡ nextRecord (now (now (reader .entry) .log)) (now (reader .entry) .at))
-        × ((now (reader .exit) .log ≡ now (reader .entry) .log)
-        × (now (reader .exit) .at ≡ placeBehind (nextRecord (now (now (reader .entry) .log)) (now (reader .entry) .at)) (now (reader .entry) .at))) ⌝ }
+    ensures { λ r. ⌜ (r ≡ foundBy (now (reader .entry))) × (now (reader .exit) ≡ movedOn (now (reader .entry))) ⌝ }
 {
     let at = reader.at;
     let found = records::next_record(reader.log, at);

@@ -26,7 +26,6 @@ use denote.RattleType.{RattleType, owns}
 use denote.Laws.{Is, shows}
 use denote.Plain.{uint-makes}
 use denote.Builtin.{u8, usize}
-use denote.Ref.{now}
 use denote.Signature.{namedLft}
 use denote.Slice.{sliceVal, ShrSlice}
 use denote.Steps.{owned, peeks, heard, nothing}
@@ -43,7 +42,7 @@ use denote.Triple.Table.{entered, cited}
 use denote.Triple.Walked.{says, Stays, stay-none, walkOf, goes-none, Walks, ends-at, walked, walk-meets}
 use denote.Exit.{yes}
 use denote.Triple.Clauses.{ensured, lasts}
-use Rattle.records.specs.Records.{nextRecord}
+use Rattle.logreader.specs.Reader.{foundBy}
 use Rattle.logreader.specs.declared.LogReader.{LogReader}
 use Rattle.records.specs.declared.Next.{Next}
 use Rattle.logreader.proofs.LogReader as T
@@ -80,7 +79,7 @@ module _ {M : Type 1} (𝓤 : URA M) (H : Heap 𝓤) (A : Atoms 𝓤) (W : Given
   v = sliceVal (d .log .ptr) (length (d .log .now))
 
   abbrev answer : Next
-  answer = nextRecord (now (d .log)) (d .at)
+  answer = foundBy d
 
   abbrev Post : Val → SProp 𝓤
   Post = walkOf 𝓤 H A found.ended stayed (found.clauses 𝓤 H A mem run) .post (((κ, tt), (q, tt), tt, (d, tt), (mach ∷ [], tt)), tt)

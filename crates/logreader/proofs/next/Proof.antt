@@ -29,7 +29,7 @@ use denote.Laws.{Is, shows}
 use denote.Memory.{mem, cellAt}
 use denote.Plain.{uint-makes, uint-lawful}
 use denote.Builtin.{u8, usize}
-use denote.Ref.{RefT, NamedLft, MutRef, ptr-vals, mut-tells, now}
+use denote.Ref.{RefT, NamedLft, MutRef, ptr-vals, mut-tells}
 use denote.Signature.{Slot, plain, namedLft}
 use denote.Slice.{sliceVal, ShrSlice}
 use denote.Steps.{only, opens, closes, owned, peeks, heard, nothing}
@@ -46,9 +46,8 @@ use denote.Triple.Entry.{Vals, onEntry}
 use denote.Triple.Spec.{Meets, tripleOf}
 use denote.Triple.Table.{entered, cited}
 use denote.Triple.Walked.{says, Stays, stay-ref, walkOf, goes-ref, Walks, ends-at, walked, walk-meets}
-use Rattle.records.specs.Records.{nextRecord}
 use Rattle.records.specs.declared.Next.{Next}
-use Rattle.logreader.specs.Reader.{placeBehind}
+use Rattle.logreader.specs.Reader.{readerAt, foundBy, placeBehind}
 use Rattle.logreader.specs.declared.LogReader.{LogReader}
 use Rattle.logreader.proofs.LogReader as T
 use Rattle.logreader.proofs.LogReader.Laws as T′
@@ -95,7 +94,7 @@ module _ {M : Type 1} (𝓤 : URA M) (H : Heap 𝓤) (A : Atoms 𝓤) (W : Given
 
   -- the struct with the number m, and the machine values
   abbrev h′ : ℕ → LogReader
-  h′ m = record { log = h .log; at = m }
+  h′ m = readerAt (h .log) m
 
   abbrev mach : Val
   mach = T′.lowered h
@@ -107,7 +106,7 @@ module _ {M : Type 1} (𝓤 : URA M) (H : Heap 𝓤) (A : Atoms 𝓤) (W : Given
   at = (vptr b o ∷ [], tt)
 
   abbrev answer : Next
-  answer = nextRecord (now (h .log)) (h .at)
+  answer = foundBy h
 
   abbrev Post : Val → SProp 𝓤
   Post = walkOf 𝓤 H A next.ended stayed (next.clauses 𝓤 H A at-mem run) .post (((κ, (κ′, tt)), (q, (q′, tt)), bounds, x, at), tt)
@@ -165,7 +164,7 @@ module _ {M : Type 1} (𝓤 : URA M) (H : Heap 𝓤) (A : Atoms 𝓤) (W : Given
   exits : (r : Next) (u : Val) (m : ℕ) → r ≡ answer → m ≡ placeBehind r (h .at) → ent 𝓤 (⋆ 𝓤 H A (‵ (fobs γ (B κ′ .coded .code (h′ m))) ∷ ‵ (fbor κ (Body (mem (B κ′)) b o γ)) ∷ ‵ (flft κ q) ∷ (‵ (flft κ′ q′) ⊛ ‵ ftrue) ∷ ‵ (S.the-row .own r (u ∷ [])) ∷ [])) (Post u)
   exits r u m e e′ =
       qed W (‵ (fobs γ (B κ′ .coded .code (h′ m))) ∷ ‵ (fbor κ (Body (mem (B κ′)) b o γ)) ∷ ‵ (flft κ q) ∷ (‵ (flft κ′ q′) ⊛ ‵ ftrue) ∷ ‵ (S.the-row .own r (u ∷ [])) ∷ []) ∵
-      suffices ! _ (ends-at 𝓤 H A next.ended stayed (next.clauses 𝓤 H A at-mem run) W (((κ, (κ′, tt)), (q, (q′, tt)), bounds, x, at), tt) u r (h′ m, tt) (tt, tt)) $ says ! (e, (refl, e′ ∙ ap (λ (t : Next). placeBehind t (h .at)) e)) $
+      suffices ! _ (ends-at 𝓤 H A next.ended stayed (next.clauses 𝓤 H A at-mem run) W (((κ, (κ′, tt)), (q, (q′, tt)), bounds, x, at), tt) u r (h′ m, tt) (tt, tt)) $ says ! (e, ap h′ (e′ ∙ ap (λ (t : Next). placeBehind t (h .at)) e)) $
       move ! (2 ∷ 3 ∷ []) $ join ! $ frame ! $ feqI ! (List Val) (vptr b o ∷ []) (vptr b o ∷ []) refl $ fjoin3 ! $ nothing ! $ move ! (1 ∷ 0 ∷ []) $ fjoin ! $ frame ! $ done !
 
   module _ (C : Calls 𝓤 H) (Λ : Loops 𝓤 H) (fm : FmC 𝓤 H (W .laws) C) (known-record : Triple 𝓤 (C #records·next-record) (NextRecord 𝓤 H A at-mem run)) (known-behind : Triple 𝓤 (C #logreader·place-behind) (PlaceBehind 𝓤 H A at-mem run)) where
