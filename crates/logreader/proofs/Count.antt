@@ -1,6 +1,6 @@
 -- The records from a place on, counted: one step, and the end.
-use Prim.Native.Nat.{ℕ, zero, suc, _+_, _-_, _≤_, _<_}
-use mathlib.Core.Path.{_≡_, refl, ap, sym, _∙_}
+use Prim.Native.Nat.{ℕ, suc, _+_, _-_, _≤_}
+use mathlib.Core.Path.{_≡_, ap, sym, _∙_}
 use mathlib.Core.List.{List, [], _∷_}
 use mathlib.Core.Logic.{inl, inr}
 use native.Mathlib.Omega.{arith}
@@ -19,7 +19,7 @@ use Rattle.logreader.specs.Reader.{countOf}
 abbrev pub from : ℕ → List ℕ → ℕ → ℕ
 from most log at = length (recordsFrom most log at .packets)
 
--- where a reader stands after `count` records: no place before that many bytes, and the count is still to be added to
+-- the walk stands at `at` behind `count` records: each took a byte at least, and with those that are left they make the log's count
 pub record Counted (log : List ℕ) (at count : ℕ) : Type 0 where
   pub passed : count ≤ at
   pub within : at ≤ length log

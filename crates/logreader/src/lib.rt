@@ -1,5 +1,5 @@
 // A reader that holds the lent log and its place in it. Each function over it takes it apart and calls the reader of
-// `records`, over a slice and a number; `record_at` stands above them, and whoever calls it sees no reader.
+// `records`, over a slice and a number. `record_at` and `place_after` stand above them: whoever calls one sees no reader.
 ghost use mathlib.Core.Path.{_≡_};
 ghost use Rattle.records.specs.Records.{nextRecord};
 ghost use Rattle.logreader.specs.Reader.{readerAt, foundBy, placeBehind, movedOn, countOf};
@@ -71,6 +71,15 @@ pub fn record_at(log: &[u8], at: usize) -> Next
     ensures { λ r. ⌜ r ≡ nextRecord (now (log .entry)) at ⌝ }
 {
     found(moved(new(log), at))
+}
+
+// The place behind the record at a place of a log, found by a reader that moves.
+pub fn place_after(log: &[u8], at: usize) -> usize
+    ensures { λ r. ⌜ r ≡ placeBehind (nextRecord (now (log .entry)) at) at ⌝ }
+{
+    let mut reader = moved(new(log), at);
+    next(&mut reader);
+    place(reader)
 }
 
 // How many records a log has up to its end, or to where it is bad.

@@ -1,9 +1,6 @@
--- `logreader::count_records` meets its contract: each record stands behind the one before it, so the place grows to the log's end.
+-- `logreader::count_records` meets its contract: the walk stands behind `count` records, and the records that are left make the rest of the log's count (`Counted`). Each record ends behind its place and inside the log, so the bytes that are left fall.
 use Rattle.logreader.proofs.count_records.Statement.{statement}
 use Rattle.logreader.proofs.count_records.Tie as tie
-use Rattle.logreader.proofs.count_records.Reads as reads
-use Rattle.logreader.proofs.count_records.Lts as lts
-use Rattle.logreader.proofs.record_at.Reads as record-at-reads
 use Prim.Native.Nat.{_-_, _<_, _^_}
 use mathlib.Core.Path.{sym, _∙_}
 use lib.ListN.{length}
@@ -13,10 +10,10 @@ use Rattle.logreader.proofs.Count.{Counted, start, step, finish}
 use Rattle.records.proofs.Found.{inside}
 
 abbrev Inv-loop : tie.InvT-loop
-Inv-loop log at₀ count₀ at count = Counted (log) at count
+Inv-loop log at₀ count₀ at count = Counted log at count
 
 abbrev μ-loop : tie.MeasureT-loop
-μ-loop log at₀ count₀ at count = length (log) - at
+μ-loop log at₀ count₀ at count = length log - at
 
 loop-holds : tie.Need-loop-holds Inv-loop μ-loop
 loop-holds c = start (c .before .args .log .now)
@@ -39,7 +36,6 @@ add-count c =
 
 loop-less : tie.Need-loop-less Inv-loop μ-loop
 loop-less c =
-    let l = c .before .before .before .before in
     let i = inside _ _ _ _ _ (sym (c .before .before .before .record-at .ensures) ∙ c .before .next .given .1) in
     omega (arith, i .onward, i .within)
 
