@@ -14,7 +14,7 @@ ROWS = [
     {"racklog": (0, 1.4), "samples": (1.4, 1.4), "outside_logs": (2.8, 1.8), "outside_responses": (4.6, 2.2), "outside_segments": (6.8, 2.2), "promises": (9.2, 2.8)},
     {"printing": (0, 9), "sending": (9.2, 1.4), "examples": (10.6, 1.4)},
     {"logrun": (6.8, 2.2)},
-    {"endpoint": (0, 4.8), "segments": (4.8, 2), "flows": (9.2, 2.8)},
+    {"endpoint": (0, 4.8), "segments": (4.8, 2), "logreader": (6.8, 2.2), "flows": (9.2, 2.8)},
     {"reading": (0, 4.8), "records": (6.8, 1.1), "lines": (7.9, 1.1)},
     {"streams": (0, 2.4), "messages": (2.4, 2.4)},
     {"stream_rooms": (0, 2.4), "message_rooms": (2.4, 2.4)},
@@ -25,7 +25,7 @@ ROWS = [
     {"lists": (0, 9), "answers": (9.2, 2.8)},
 ]
 HEADS = [(0, 4.8, "reading packets"), (4.8, 2, "writing segments"), (6.8, 2.2, "the log"), (9.2, 2.8, "theorems")]
-PUBLIC = {"endpoint", "segments", "records", "lines", "logrun"}
+PUBLIC = {"endpoint", "segments", "records", "lines", "logrun", "logreader"}
 THEOREMS = {"promises", "sending", "examples", "flows"}
 PROGRAMS = {"racklog", "samples", "outside_logs", "outside_responses", "outside_segments"}
 
