@@ -1,3 +1,5 @@
 pub mod Once
 pub mod Exactly
 pub mod Good
+pub mod Demands
+pub mod Responses

@@ -1,7 +1,7 @@
 -- `lines::put_decimal` meets its contract and ends: the number falls at each call.
 use borrow.Author.Needs.{needs}
 use native.Mathlib.Omega.{arith}
-use Prim.Native.Nat.{ℕ, _<_, _/_}
+use Prim.Native.Nat.{ℕ, _<_, _≤_, _/_}
 use mathlib.Core.Path.{subst, _∙_}
 use native.Mathlib.Omega.{arith}
 use native.Mathlib.Nat.{mod-lt}
@@ -34,7 +34,10 @@ put-decimal-put-digit-requires : (t : ℕ) → put-decimal-lts.Need-put-digit-re
   put-decimal-below t,
   put-decimal.Post,
 ) (put-decimal-at t) put-decimal.Post
-put-decimal-put-digit-requires t c κs = (omega (arith, c .before .before .before .pre .1, some (c .before .before .before .args .n) (c .before .if1 .taken)), c .before .if1 .taken)
+put-decimal-put-digit-requires t c κs =
+    let s = c .before .before .before in
+    let small : s .args .n < 10 = omega (arith, c .before .if1 .taken) in
+    (omega (arith, s .pre .1, some (s .args .n) small), small)
 
 -- src/lib.rt:33:9
 put-decimal-same-length : (t : ℕ) → put-decimal-lts.Need-same-length (
@@ -54,7 +57,8 @@ put-decimal-returns : (t : ℕ) → put-decimal-lts.Need-returns (
 ) (put-decimal-at t) put-decimal.Post
 put-decimal-returns t c =
     let s = c .before .before .before .before .before .before in
-    only-digit (s .args .out .now) (c .before .before .put-digit .last .0) (s .args .at) (s .args .n) (c .before .before .put-digit .result) (c .before .before .before .before .if1 .taken) (c .before .before .put-digit .ensures)
+    let small : s .args .n < 10 = omega (arith, c .before .before .before .before .if1 .taken) in
+    only-digit (s .args .out .now) (c .before .before .put-digit .last .0) (s .args .at) (s .args .n) (c .before .before .put-digit .result) small (c .before .before .put-digit .ensures)
 
 -- src/lib.rt:35:9
 put-decimal-put-decimal-requires : (t : ℕ) → put-decimal-lts.Need-put-decimal-requires (
@@ -65,7 +69,8 @@ put-decimal-put-decimal-requires : (t : ℕ) → put-decimal-lts.Need-put-decima
 ) (put-decimal-at t) put-decimal.Post
 put-decimal-put-decimal-requires t c κs =
     let s = c .before .before .before in
-    (subst (λ (j : ℕ). s .args .n / 10 < j) (s .pre .0) (less (s .args .n) (c .before .if1 .left)), omega (arith, s .pre .1, one-more (s .args .n) (c .before .if1 .left)))
+    let large : 10 ≤ s .args .n = omega (arith, c .before .if1 .left) in
+    (subst (λ (j : ℕ). s .args .n / 10 < j) (s .pre .0) (less (s .args .n) large), omega (arith, s .pre .1, one-more (s .args .n) large))
 
 -- src/lib.rt:36:5
 put-decimal-put-digit-requires-2 : (t : ℕ) → put-decimal-lts.Need-put-digit-requires-2 (

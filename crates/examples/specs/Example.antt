@@ -1,0 +1,115 @@
+-- What an example of document 01 is, and what it means that it comes out: the packets are read one after the other by the written definitions.
+use Prim.Native.Nat.{ℕ, zero, suc, _+_, _%_}
+use mathlib.Core.Path.{_≡_}
+use mathlib.Core.List.{List, [], _∷_, map}
+use mathlib.Core.Bool.{Bool, true, false, cond, _&&_}
+use lib.ListN.{length, replicate}
+use lib.Dec.{eqb}
+use Rattle.lists.specs.Bytes.{byte, word}
+use Rattle.answers.specs.Answers.{Said, held, delivered, message, refused, ready, closed, free, wrote}
+use Rattle.cutting.specs.declared.Heading.{Heading}
+use Rattle.cutting.specs.Cutting.{segmentCount, packetOf}
+use Rattle.flows.specs.Board.{Board, freshBoard, read, after, room, inRoom}
+
+-- ---- What is sent
+
+-- n bytes that count up from `first`, going round at 256
+abbrev pub counting : (first n : ℕ) → List ℕ
+counting first zero = []
+counting first (suc n) = first % 256 ∷ counting (first + 1) n
+
+-- n packets of a PDU, from number k on
+abbrev pub segments : Heading → (mtu : ℕ) → List ℕ → (k n : ℕ) → List (List ℕ)
+segments h mtu pdu k zero = []
+segments h mtu pdu k (suc n) = packetOf h mtu pdu k ∷ segments h mtu pdu (k + 1) n
+
+-- all packets of a PDU
+abbrev pub cut : Heading → (mtu : ℕ) → List ℕ → List (List ℕ)
+cut h mtu pdu = segments h mtu pdu 0 (segmentCount mtu (length pdu))
+
+-- ---- What the paper says of a packet
+
+pub data Fact : Type 0 where
+  -- the packet is so many bytes long
+  hasBytes : ℕ → Fact
+  -- its byte 6
+  byte6 : ℕ → Fact
+  -- its bytes 7-8, where they are the PDU length
+  lengthField : ℕ → Fact
+  -- these bytes are delivered
+  delivers : List ℕ → Fact
+  -- what is delivered is not this
+  deliversNot : List ℕ → Fact
+  -- what the response buffer then holds
+  response : List ℕ → Fact
+
+pub data Line : Type 0 where
+  -- the packet is lost
+  lost : Line
+  -- it arrives: the answer, whether it says dropped, and what else the paper says
+  arrives : Said → Bool → List Fact → Line
+
+abbrev pub gets : Said → List Fact → Line
+gets says facts = arrives says false facts
+
+abbrev pub getsDropped : Said → List Fact → Line
+getsDropped says facts = arrives says true facts
+
+-- an example: its number in the paper, the packets that are sent, and a line for each
+pub record Example : Type 0 where
+  pub number : ℕ
+  pub sent : List (List ℕ)
+  pub lines : List Line
+
+abbrev pub example : ℕ → List (List ℕ) → List Line → Example
+example number sent lines = record { number = number; sent = sent; lines = lines }
+
+-- ---- What is computed
+
+-- device 1, MTU 32, R 2,048, memories of zeros, a response buffer of 7
+abbrev pub board : Board
+board = freshBoard 1 32 2048 (replicate 32768 0) (replicate 32768 0) (replicate 7 0)
+
+-- the bytes that an answer delivers: those that its room holds at that moment
+abbrev pub deliveredBytes : Board → Said → List ℕ
+deliveredBytes b (delivered context source cos stream size) = inRoom (room b) (b .streamMemory) context size
+deliveredBytes b (message context source letter mailbox size) = inRoom 4096 (b .messageMemory) context size
+deliveredBytes b held = []
+deliveredBytes b (refused number) = []
+deliveredBytes b ready = []
+deliveredBytes b closed = []
+deliveredBytes b free = []
+deliveredBytes b (wrote size) = []
+
+abbrev pub sameBytes : List ℕ → List ℕ → Bool
+sameBytes [] [] = true
+sameBytes [] (y ∷ ys) = false
+sameBytes (x ∷ xs) [] = false
+sameBytes (x ∷ xs) (y ∷ ys) = eqb x y && sameBytes xs ys
+
+-- a fact of the same kind, as it is for this packet at this board
+abbrev pub found : Board → List ℕ → Fact → Fact
+found b p (hasBytes n) = hasBytes (length p)
+found b p (byte6 n) = byte6 (byte p 6)
+found b p (lengthField n) = lengthField (word p 7)
+found b p (delivers bytes) = delivers (deliveredBytes (after b p) (read b p .says))
+found b p (deliversNot bytes) = cond (sameBytes (deliveredBytes (after b p) (read b p .says)) bytes) (delivers bytes) (deliversNot bytes)
+found b p (response bytes) = response (after b p .response)
+
+-- the lines as they are for these packets, each read with what the one before left: as many lines as there are packets
+abbrev pub computed : Board → List (List ℕ) → List Line → List Line
+computed b [] lines = []
+computed b (p ∷ ps) [] = lost ∷ []
+computed b (p ∷ ps) (lost ∷ lines) = lost ∷ computed b ps lines
+computed b (p ∷ ps) (arrives says dropped facts ∷ lines) = arrives (read b p .says) (read b p .dropped) (map (found b p) facts) ∷ computed (after b p) ps lines
+
+-- ---- What is stated
+
+-- an example comes out as it says
+abbrev pub Holds : Example → Type 0
+Holds e = computed board (e .sent) (e .lines) ≡ e .lines
+
+-- every row of a table does
+abbrev pub AllHold : List Example → Type 0
+AllHold [] = Unit {0}
+AllHold (e ∷ es) = Holds e × AllHold es

@@ -1,0 +1,46 @@
+-- `outside_logs::print_bundle` ends: each log's next place is behind it.
+use Prim.Native.Nat.{_≤_, _-_, _+_}
+use lib.ListN.{length}
+use mathlib.Core.Path.{_≡_}
+use borrow.Author.Needs.{needs}
+use native.Mathlib.Omega.{arith}
+use Rattle.outside_logs.proofs.print_bundle.Statement.{statement}
+use Rattle.outside_logs.proofs.print_bundle.Tie as tie
+use Rattle.outside_logs.proofs.print_bundle.Reads as reads
+use Rattle.outside_logs.proofs.print_bundle.Lts as lts
+use Rattle.outside_logs.proofs.print_at.Reads as print-at-reads
+
+abbrev Inv-loop : tie.InvT-loop
+Inv-loop bundle at₀ at = at ≤ length bundle
+
+abbrev μ-loop : tie.MeasureT-loop
+μ-loop bundle at₀ at = length bundle - at
+
+-- src/main.rt:30:5
+loop-holds : tie.Need-loop-holds Inv-loop μ-loop
+loop-holds c = search needs
+
+-- src/main.rt:30:11
+add-loop : tie.Need-add-loop Inv-loop μ-loop
+add-loop c = search needs
+
+-- src/main.rt:31:9
+print-at-requires : tie.Need-print-at-requires Inv-loop μ-loop
+print-at-requires c κs = search needs
+
+-- src/main.rt:30:5
+loop-less : tie.Need-loop-less Inv-loop μ-loop
+loop-less c = search needs
+
+-- src/main.rt:30:5
+loop-again : tie.Need-loop-again Inv-loop μ-loop
+loop-again c = search needs
+
+-- src/main.rt:28:1
+returns : tie.Need-returns Inv-loop μ-loop
+returns c = search needs
+
+pub print-bundle-spec : {M : Type 1} → statement M
+print-bundle-spec =
+    tie.close
+    (tie.spec Inv-loop μ-loop loop-holds add-loop print-at-requires loop-less loop-again returns)

@@ -1,0 +1,344 @@
+-- A segment that the writer cuts is read as itself. By cases on S and E, since only a continuation has no field.
+use Prim.Native.Nat.{ℕ, zero, suc, _+_, _-_, _*_, _/_, _%_, _≤_, _<_}
+use mathlib.Core.Path.{_≡_, refl, sym, ap, _∙_, subst}
+use mathlib.Core.List.{List, [], _∷_, _++_}
+use mathlib.Core.Bool.{Bool, true, false, cond, not, _||_}
+use native.Mathlib.Omega.{arith}
+use lib.ListN.{length, take, drop, length-append}
+use lib.Seq.{take-append-seam, getD-append-seam}
+use lib.Dec.{eqb, ltb}
+use borrow.Author.Tests.{ltb-true, eqb-true, eqb-false, eq-eqb, ne-eqb, le-ltb}
+use Rattle.lists.specs.Bytes.{byte, high, low}
+use Rattle.wire.specs.Packet.{bit, packetType, destination, tt as ttOf}
+use Rattle.wire.specs.declared.Flow.{Flow}
+use Rattle.wire.specs.declared.Segment.{Segment}
+use Rattle.wire.specs.declared.Parsed.the-variants.{Stream}
+use Rattle.wire.specs.Type9.{xh, segmentAt, segmentOf}
+use Rattle.sizes.specs.Sizes.{badMTU, dataLength, pduLength}
+use Rattle.wire.specs.Parsed.{parsed, parsedByType, parsedStream, parsedFielded}
+use Rattle.wire.proofs.Forms.{with-field, without-field}
+use Rattle.rules.specs.Segments.{malformed}
+use Rattle.stream_rooms.specs.Placing as placing
+use Rattle.cutting.specs.declared.Heading.{Heading}
+use Rattle.cutting.specs.Cutting.{segmentCount, dataOf, isFirst, isFinal, padOf, flagsOf, fieldOf, packetOf}
+use Rattle.segments.proofs.Sizes.{good-mtu, begins, length-data}
+use Rattle.flows.specs.ByFlow.{AreBytes}
+use Rattle.sending.specs.Segment.{cutSegment, flowOf, segmentFor, InRange, SegmentsReadBack}
+
+-- ---- Numbers
+
+-- byte 0 of priority q
+record FirstByte (q x : ℕ) : Type 0 where
+  of-tt : x / 16 % 4 ≡ 1
+  of-type : x % 16 ≡ 9
+  of-priority : x / 64 ≡ q
+  is-byte : x < 256
+
+first-byte : (q : ℕ) → q ≤ 3 → FirstByte q (q * 64 + 16 + 9)
+first-byte q h = omega arith
+
+-- two bytes of a number
+two-bytes : (n : ℕ) → n < 65536 → high n * 256 + low n ≡ n
+two-bytes n h = omega arith
+
+two-bytes-mod : (n : ℕ) → high n * 256 + low n ≡ n % 65536
+two-bytes-mod n = omega arith
+
+-- what byte 6 says: S, E, the reserved bits, xh, O, P, and whether it is a byte
+record Bits : Type 0 where
+  S : Bool
+  E : Bool
+  reserved : ℕ
+  xh : Bool
+  O : Bool
+  P : Bool
+  byte : Bool
+
+abbrev bitsOf : ℕ → Bits
+bitsOf x = record { S = bit x 128; E = bit x 64; reserved = x / 8 % 8; xh = bit x 4; O = bit x 2; P = bit x 1; byte = ltb x 256 }
+
+abbrev bits : (first final odd pad : Bool) → Bits
+bits first final odd pad = record { S = first; E = final; reserved = 0; xh = false; O = odd; P = pad; byte = true }
+
+all-bits : (first final odd pad : Bool) → bitsOf (cond first 128 0 + cond final 64 0 + cond odd 2 0 + cond pad 1 0) ≡ bits first final odd pad
+all-bits true true true true = refl
+all-bits true true true false = refl
+all-bits true true false true = refl
+all-bits true true false false = refl
+all-bits true false true true = refl
+all-bits true false true false = refl
+all-bits true false false true = refl
+all-bits true false false false = refl
+all-bits false true true true = refl
+all-bits false true true false = refl
+all-bits false true false true = refl
+all-bits false true false false = refl
+all-bits false false true true = refl
+all-bits false false true false = refl
+all-bits false false false true = refl
+all-bits false false false false = refl
+
+record Flags (first final odd pad : Bool) (x : ℕ) : Type 0 where
+  of-S : bit x 128 ≡ first
+  of-E : bit x 64 ≡ final
+  of-xh : bit x 4 ≡ false
+  of-O : bit x 2 ≡ odd
+  of-P : bit x 1 ≡ pad
+  reserved : x / 8 % 8 ≡ 0
+  is-byte : ltb x 256 ≡ true
+
+flags-of : (first final : Bool) (n : ℕ) → Flags first final (eqb ((n + 1) / 2 % 2) 1) (eqb (n % 2) 1) (flagsOf first final n)
+unfolding flagsOf
+flags-of first final n =
+    let e = all-bits first final (eqb ((n + 1) / 2 % 2) 1) (eqb (n % 2) 1) in
+    record {
+      of-S = ap (λ (b : Bits). b .S) e;
+      of-E = ap (λ (b : Bits). b .E) e;
+      of-xh = ap (λ (b : Bits). b .xh) e;
+      of-O = ap (λ (b : Bits). b .O) e;
+      of-P = ap (λ (b : Bits). b .P) e;
+      reserved = ap (λ (b : Bits). b .reserved) e;
+      is-byte = ap (λ (b : Bits). b .byte) e;
+    }
+
+length-pad : (n : ℕ) → length (padOf n) ≡ n % 2
+unfolding padOf
+length-pad n = go (eqb (n % 2) 1) refl
+  where
+    go : (b : Bool) → eqb (n % 2) 1 ≡ b → length {A = ℕ} (cond b (0 ∷ []) []) ≡ n % 2
+    go true e = sym (eqb-true (n % 2) 1 e)
+    go false e = let ne = eqb-false (n % 2) 1 e in omega arith
+
+pad-zero : (n : ℕ) → eqb (n % 2) 1 ≡ true → padOf n ≡ 0 ∷ []
+unfolding padOf
+pad-zero n e = rw e
+
+-- the byte at the end
+last-zero : (l : List ℕ) → byte (l ++ (0 ∷ [])) (length (l ++ (0 ∷ [])) - 1) ≡ 0
+last-zero l =
+    let e : length (l ++ (0 ∷ [])) - 1 ≡ length l = omega (arith, length-append l (0 ∷ [])) in
+    rw e (getD-append-seam l 0 [] 0)
+
+pub pdu-length-back : (size : ℕ) → 1 ≤ size → size ≤ 65536 → pduLength (size % 65536) ≡ size
+unfolding pduLength
+pdu-length-back size some most = go (eqb (size % 65536) 0) refl
+  where
+    go : (b : Bool) → eqb (size % 65536) 0 ≡ b → cond b 65536 (size % 65536) ≡ size
+    go true e = let z = eqb-true (size % 65536) 0 e in omega arith
+    go false e = let ne = eqb-false (size % 65536) 0 e in omega arith
+
+-- ---- Bytes
+
+pub no-bytes : AreBytes []
+no-bytes i = omega arith
+
+pub bytes-cons : (x : ℕ) (xs : List ℕ) → x < 256 → AreBytes xs → AreBytes (x ∷ xs)
+bytes-cons x xs h t zero = h
+bytes-cons x xs h t (suc i) = t i
+
+bytes-seven : (a b c d e f g : ℕ) (l : List ℕ) → a < 256 → b < 256 → c < 256 → d < 256 → e < 256 → f < 256 → g < 256 → AreBytes l → AreBytes (a ∷ b ∷ c ∷ d ∷ e ∷ f ∷ g ∷ l)
+bytes-seven a b c d e f g l ha hb hc hd he hf hg t =
+    bytes-cons a (b ∷ c ∷ d ∷ e ∷ f ∷ g ∷ l) ha
+    (bytes-cons b (c ∷ d ∷ e ∷ f ∷ g ∷ l) hb
+    (bytes-cons c (d ∷ e ∷ f ∷ g ∷ l) hc
+    (bytes-cons d (e ∷ f ∷ g ∷ l) hd
+    (bytes-cons e (f ∷ g ∷ l) he
+    (bytes-cons f (g ∷ l) hf
+    (bytes-cons g l hg t))))))
+
+pub bytes-append : (a b : List ℕ) → AreBytes a → AreBytes b → AreBytes (a ++ b)
+bytes-append [] b h t = t
+bytes-append (x ∷ xs) b h t = bytes-cons x (xs ++ b) (h 0) (bytes-append xs b (λ i. h (suc i)) t)
+
+pub bytes-take : (n : ℕ) (l : List ℕ) → AreBytes l → AreBytes (take n l)
+bytes-take zero l h = no-bytes
+bytes-take (suc n) [] h = no-bytes
+bytes-take (suc n) (x ∷ xs) h = bytes-cons x (take n xs) (h 0) (bytes-take n xs (λ i. h (suc i)))
+
+pub bytes-drop : (n : ℕ) (l : List ℕ) → AreBytes l → AreBytes (drop n l)
+bytes-drop zero l h = h
+bytes-drop (suc n) [] h = no-bytes
+bytes-drop (suc n) (x ∷ xs) h = bytes-drop n xs (λ i. h (suc i))
+
+pub bytes-data : (mtu : ℕ) (pdu : List ℕ) (k : ℕ) → AreBytes pdu → AreBytes (dataOf mtu pdu k)
+unfolding dataOf
+bytes-data mtu pdu k h = bytes-take mtu (drop (k * mtu) pdu) (bytes-drop (k * mtu) pdu h)
+
+bytes-pad : (n : ℕ) → AreBytes (padOf n)
+unfolding padOf
+bytes-pad n = go (eqb (n % 2) 1)
+  where
+    go : (b : Bool) → AreBytes (cond b (0 ∷ []) [])
+    go true = bytes-cons 0 [] (omega arith) no-bytes
+    go false = no-bytes
+
+bytes-field : (first final : Bool) (stream size : ℕ) → AreBytes (fieldOf first final stream size)
+unfolding fieldOf
+bytes-field true final stream size = bytes-cons (high stream) (low stream ∷ []) (omega arith) (bytes-cons (low stream) [] (omega arith) no-bytes)
+bytes-field false true stream size = bytes-cons (high size) (low size ∷ []) (omega arith) (bytes-cons (low size) [] (omega arith) no-bytes)
+bytes-field false false stream size = no-bytes
+
+-- ---- A packet with these flags and data
+
+abbrev shape : Heading → (first final : Bool) → (size : ℕ) → List ℕ → List ℕ
+shape h first final size bytes =
+    (h .priority * 64 + 0b01 * 16 + 9)
+    ∷ high (h .destination) ∷ low (h .destination)
+    ∷ high (h .source) ∷ low (h .source)
+    ∷ h .cos
+    ∷ flagsOf first final (length bytes)
+    ∷ (fieldOf first final (h .stream) size ++ bytes ++ padOf (length bytes))
+
+abbrev segment : Heading → (first final : Bool) → (size : ℕ) → List ℕ → Segment
+segment h first final size bytes = cutSegment (flowOf h) first final (h .stream) size (length bytes)
+
+-- two segments are equal by their fields
+by-fields : (b b′ e e′ o o′ q q′ : Bool) (s s′ c c′ f f′ from r r′ : ℕ)
+    → b ≡ b′ → e ≡ e′ → s ≡ s′ → c ≡ c′ → f ≡ f′ → r ≡ r′ → o ≡ o′ → q ≡ q′
+    → _≡_ {A = Segment}
+    (record { begins = b; ends = e; flow = record { source = s; cos = c }; field = f; from = from; raw = r; odd = o; pad = q })
+    (record { begins = b′; ends = e′; flow = record { source = s′; cos = c′ }; field = f′; from = from; raw = r′; odd = o′; pad = q′ })
+by-fields b b′ e e′ o o′ q q′ s s′ c c′ f f′ from r r′ eb ee es ec ef er eo eq = rw (eb, ee, es, ec, ef, er, eo, eq)
+
+-- the data and the pad
+length-tail : (bytes : List ℕ) → length (bytes ++ padOf (length bytes)) ≡ length bytes + length bytes % 2
+length-tail bytes = length-append bytes (padOf (length bytes)) ∙ ap (λ (x : ℕ). length bytes + x) (length-pad (length bytes))
+
+-- the data without the pad
+pub cut-length : (flow : Flow) (first final : Bool) (stream size n : ℕ) → dataLength (cutSegment flow first final stream size n) ≡ n
+unfolding dataLength
+cut-length flow first final stream size n = go (eqb (n % 2) 1) refl
+  where
+    go : (b : Bool) → eqb (n % 2) 1 ≡ b → cond b (n + n % 2 - 1) (n + n % 2) ≡ n
+    go true e = let z = eqb-true (n % 2) 1 e in omega arith
+    go false e = let ne = eqb-false (n % 2) 1 e in omega arith
+
+-- row 6 passes it
+pub cut-well-formed : (flow : Flow) (first final : Bool) (stream size n : ℕ) → 0 < n → malformed (cutSegment flow first final stream size n) ≡ false
+unfolding malformed
+cut-well-formed flow first final stream size n some =
+    let half : (n + n % 2) / 2 ≡ (n + 1) / 2 = omega arith in
+    rw (ne-eqb (n + n % 2) 0 (λ e. omega arith), ne-eqb ((n + n % 2) % 2) 1 (λ e. omega arith), half) (go (eqb ((n + 1) / 2 % 2) 1))
+  where
+    go : (b : Bool) → cond b (not b) b ≡ false
+    go true = refl
+    go false = refl
+
+module _ (h : Heading) (range : InRange h) (size : ℕ) (bytes : List ℕ) where
+  -- read, it is the segment
+  is-segment : (first final : Bool) → segmentOf (shape h first final size bytes) ≡ segment h first final size bytes
+  unfolding segmentAt fieldOf
+  is-segment true final =
+      let fl = flags-of true final (length bytes) in
+      let t = length-tail bytes in
+      with-field (shape h true final size bytes) (rw (fl .of-S))
+      ∙ by-fields _ _ _ _ _ _ _ _ _ _ _ _ _ _ _ _ _ (fl .of-S) (fl .of-E) (two-bytes (h .source) (range .source)) refl (two-bytes (h .stream) (range .stream)) (omega arith) (fl .of-O) (fl .of-P)
+  is-segment false true =
+      let fl = flags-of false true (length bytes) in
+      let t = length-tail bytes in
+      with-field (shape h false true size bytes) (rw (fl .of-S, fl .of-E))
+      ∙ by-fields _ _ _ _ _ _ _ _ _ _ _ _ _ _ _ _ _ (fl .of-S) (fl .of-E) (two-bytes (h .source) (range .source)) refl (two-bytes-mod size) (omega arith) (fl .of-O) (fl .of-P)
+  is-segment false false =
+      let fl = flags-of false false (length bytes) in
+      let t = length-tail bytes in
+      without-field (shape h false false size bytes) (fl .of-S) (fl .of-E)
+      ∙ by-fields _ _ _ _ _ _ _ _ _ _ _ _ _ _ _ _ _ (fl .of-S) (fl .of-E) (two-bytes (h .source) (range .source)) refl refl (omega arith) (fl .of-O) (fl .of-P)
+
+  -- rows 1 to 5 pass it
+  with-S-or-E : (first final : Bool) → 9 ≤ length (shape h first final size bytes) → (first || final) ≡ true
+      → parsedStream (shape h first final size bytes) ≡ Stream (segmentOf (shape h first final size bytes))
+  unfolding parsedStream parsedFielded
+  with-S-or-E true final long e =
+      let fl = flags-of true final (length bytes) in
+      rw (fl .of-xh, fl .of-S, le-ltb _ 9 long)
+  with-S-or-E false true long e =
+      let fl = flags-of false true (length bytes) in
+      rw (fl .of-xh, fl .of-S, fl .of-E, le-ltb _ 9 long)
+  with-S-or-E false false long e = absurd (let z : _≡_ {A = ℕ} 0 1 = cc in omega arith)
+
+  by-stream : (first final : Bool) → parsedStream (shape h first final size bytes) ≡ Stream (segmentOf (shape h first final size bytes))
+  unfolding parsedStream fieldOf
+  by-stream true final = with-S-or-E true final (omega arith) refl
+  by-stream false true = with-S-or-E false true (omega arith) refl
+  by-stream false false =
+      let fl = flags-of false false (length bytes) in
+      rw (fl .of-xh, fl .of-S, fl .of-E)
+
+  is-parsed : (first final : Bool) → parsed (h .destination) (shape h first final size bytes) ≡ Stream (segment h first final size bytes)
+  unfolding parsed parsedByType
+  is-parsed first final =
+      let f = first-byte (h .priority) (range .priority) in
+      let long : 7 ≤ length (shape h first final size bytes) = omega arith in
+      rw (
+        le-ltb (length (shape h first final size bytes)) 5 (omega arith),
+        eq-eqb (ttOf (shape h first final size bytes)) 1 (f .of-tt),
+        eq-eqb (destination (shape h first final size bytes)) (h .destination) (two-bytes (h .destination) (range .destination)),
+        eq-eqb (packetType (shape h first final size bytes)) 9 (f .of-type),
+        le-ltb (length (shape h first final size bytes)) 7 long,
+        by-stream first final,
+      ) (ap Stream (is-segment first final))
+
+  -- its data
+  is-data : (first final : Bool) → placing.dataOf (shape h first final size bytes) (segment h first final size bytes) ≡ bytes
+  unfolding fieldOf
+  is-data first final =
+      ap (λ (n : ℕ). take n (drop (cond (first || final) 9 7) (shape h first final size bytes))) (cut-length (flowOf h) first final (h .stream) size (length bytes))
+      ∙ go first final
+    where
+      go : (first final : Bool) → take (length bytes) (drop (cond (first || final) 9 7) (shape h first final size bytes)) ≡ bytes
+      go true final = take-append-seam bytes (padOf (length bytes))
+      go false true = take-append-seam bytes (padOf (length bytes))
+      go false false = take-append-seam bytes (padOf (length bytes))
+
+  -- its last byte, where it has a pad
+  is-pad : (first final : Bool) → eqb (length bytes % 2) 1 ≡ true → byte (shape h first final size bytes) (length (shape h first final size bytes) - 1) ≡ 0
+  is-pad first final e =
+      subst (λ (pad : List ℕ). byte (front ++ bytes ++ pad) (length (front ++ bytes ++ pad) - 1) ≡ 0) (sym (pad-zero (length bytes) e)) (last-zero (front ++ bytes))
+    where
+      front : List ℕ
+      front =
+          (h .priority * 64 + 0b01 * 16 + 9)
+          ∷ high (h .destination) ∷ low (h .destination)
+          ∷ high (h .source) ∷ low (h .source)
+          ∷ h .cos
+          ∷ flagsOf first final (length bytes)
+          ∷ fieldOf first final (h .stream) size
+
+  -- every entry is a byte
+  is-bytes : (first final : Bool) → AreBytes bytes → AreBytes (shape h first final size bytes)
+  is-bytes first final all =
+      let f = first-byte (h .priority) (range .priority) in
+      let fl = flags-of first final (length bytes) in
+      let tail = bytes-append (fieldOf first final (h .stream) size ++ bytes) (padOf (length bytes)) (bytes-append (fieldOf first final (h .stream) size) bytes (bytes-field first final (h .stream) size) all) (bytes-pad (length bytes)) in
+      bytes-seven (h .priority * 64 + 16 + 9) (high (h .destination)) (low (h .destination)) (high (h .source)) (low (h .source)) (h .cos) (flagsOf first final (length bytes))
+      (fieldOf first final (h .stream) size ++ bytes ++ padOf (length bytes))
+      (f .is-byte) (omega arith) (omega arith) (omega arith) (omega arith) (range .cos) (ltb-true _ 256 (fl .is-byte)) tail
+
+-- a segment that the PDU has holds a byte
+pub some-data : (mtu : ℕ) (pdu : List ℕ) (k : ℕ) → badMTU mtu ≡ false → k < segmentCount mtu (length pdu) → 0 < length (dataOf mtu pdu k)
+some-data mtu pdu k allowed below =
+    let m = good-mtu mtu allowed in
+    let b : k * mtu < length pdu = begins mtu (length pdu) k (omega arith) below in
+    rw length-data (omega arith)
+
+-- the segment of a packet that the writer cuts
+pub segment-of-cut : (h : Heading) (mtu : ℕ) (pdu : List ℕ) (k : ℕ) → InRange h → segmentOf (packetOf h mtu pdu k) ≡ segmentFor h mtu pdu k
+unfolding packetOf
+segment-of-cut h mtu pdu k range = is-segment h range (length pdu) (dataOf mtu pdu k) (isFirst k) (isFinal mtu pdu k)
+
+pub segments-read-back : SegmentsReadBack
+unfolding packetOf
+segments-read-back h mtu pdu k c =
+    let bytes : List ℕ = dataOf mtu pdu k in
+    let fl = flags-of (isFirst k) (isFinal mtu pdu k) (length bytes) in
+    record {
+      read = is-parsed h (c .heading) (length pdu) bytes (isFirst k) (isFinal mtu pdu k);
+      priority = first-byte (h .priority) (c .heading .priority) .of-priority;
+      well-formed = cut-well-formed (flowOf h) (isFirst k) (isFinal mtu pdu k) (h .stream) (length pdu) (length bytes) (some-data mtu pdu k (c .allowed) (c .segment));
+      length-of-data = cut-length (flowOf h) (isFirst k) (isFinal mtu pdu k) (h .stream) (length pdu) (length bytes);
+      data-of = is-data h (c .heading) (length pdu) bytes (isFirst k) (isFinal mtu pdu k);
+      pdu-length = λ e e′. rw (e, e′) (pdu-length-back (length pdu) (c .some-byte) (c .size));
+      reserved = fl .reserved;
+      pad = is-pad h (c .heading) (length pdu) bytes (isFirst k) (isFinal mtu pdu k);
+      are-bytes = is-bytes h (c .heading) (length pdu) bytes (isFirst k) (isFinal mtu pdu k) (bytes-data mtu pdu k (c .bytes));
+    }

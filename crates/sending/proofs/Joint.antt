@@ -1,0 +1,415 @@
+-- The joint, exactly. The first PDU leaves the flow closed unless only its last packet is lost; then the flow has the packets before it.
+-- From closed, or where its first packet arrives, the second delivers nothing, since it lost something. Otherwise its continuations and
+-- its end are joined to what the first left, and the end's length fits exactly if the first left MTU bytes.
+use Prim.Native.Nat.{ℕ, zero, suc, _+_, _*_, _≤_, _<_}
+use mathlib.Core.Path.{_≡_, refl, sym, ap, _∙_, subst}
+use mathlib.Core.Logic.{_⊎_, inl, inr, _↔_}
+use mathlib.Core.List.{List, [], _∷_, _++_, map, append-assoc, append-nil}
+use mathlib.Core.Bool.{Bool, true, false, cond, _&&_, false≢true}
+use mathlib.Core.Option.{Option, none, some}
+use native.Mathlib.Omega.{arith}
+use native.Mathlib.Decide.{decLe}
+use native.Mathlib.Nat.{suc-mul, one-mul}
+use lib.ListN.{length, take, drop, length-append, length-drop, take-append-drop}
+use lib.Seq.{length-take-le, take-all, drop-drop}
+use lib.Dec.{eqb, leb}
+use borrow.Author.Tests.{eqb-true, eq-eqb, ne-eqb, leb-true, le-leb}
+use Rattle.wire.specs.declared.Flow.{Flow}
+use Rattle.cutting.specs.Cutting.{dataOf, packetOf}
+use Rattle.flows.specs.OneFlow.{PDU, pdu, Told, held, delivered, refused, Outcome, outcome}
+use Rattle.flows.specs.Board.{delivery}
+use Rattle.sending.specs.Sending.{Each, Sent, isLost, packetCount, lossesFrom, losses, isWhole, Put, headingOf, putOf, putsFrom, flowPuts, FairPDU, Ranges}
+use Rattle.sending.specs.OneFlow.{packetStep, deliveredPDU, also, flowDeliveries, arriving}
+use Rattle.sending.specs.Joint.{isJoint, jointPDU, pairPackets, JointExactly, JointOnly, JointLength, JointDelivered}
+use Rattle.sending.proofs.Losses.{count-lost, count-seen, none-lost, lost-counts}
+use Rattle.sending.proofs.Steps.{mtu-pos, some-packet, last-size, inner-size, data-behind, at-start, at-inner, at-last, at-last-wrong, at-closed, at-over, last-closes}
+use Rattle.sending.proofs.OneFlow.{Proper, proper-packet, afterPut, Good, short-in, whole-lossy}
+use Rattle.sending.proofs.Rooms.{carried}
+use Rattle.sending.proofs.Calls.{among-itself, flow-alone}
+
+-- ---- Runs over packets that are put on
+
+module _ (mtu R : ℕ) where
+  -- what is delivered, and what the flow has in the end
+  abbrev gives : Option PDU → List Put → List PDU
+  gives o xs = flowDeliveries mtu R o (arriving xs)
+
+  abbrev leaves : Option PDU → List Put → Option PDU
+  leaves o [] = o
+  leaves o (x ∷ xs) = leaves (afterPut mtu R o x) xs
+
+  -- one run after the other
+  gives-append : (xs ys : List Put) (o : Option PDU) → gives o (xs ++ ys) ≡ gives o xs ++ gives (leaves o xs) ys
+  gives-append [] ys o = refl
+  gives-append (x ∷ xs) ys o = go (x .lost) (gives-append xs ys)
+    where
+      front : (w : Option PDU) (a b : List PDU) → also w (a ++ b) ≡ also w a ++ b
+      front none a b = refl
+      front (some p) a b = refl
+
+      go : (t : Bool) → ((o : Option PDU) → gives o (xs ++ ys) ≡ gives o xs ++ gives (leaves o xs) ys)
+          → flowDeliveries mtu R o (cond t (arriving (xs ++ ys)) (x .packet ∷ arriving (xs ++ ys)))
+          ≡ flowDeliveries mtu R o (cond t (arriving xs) (x .packet ∷ arriving xs)) ++ gives (leaves (cond t o (packetStep mtu R o (x .packet) .next)) xs) ys
+      go true rest = rest o
+      go false rest =
+          let o′ : Option PDU = packetStep mtu R o (x .packet) .next in
+          ap (also (deliveredPDU (packetStep mtu R o (x .packet) .told))) (rest o′)
+          ∙ front (deliveredPDU (packetStep mtu R o (x .packet) .told)) (gives o′ xs) (gives (leaves o′ xs) ys)
+
+-- what is whole, of packets that are put on
+abbrev pub completed : List Put → List PDU
+completed [] = []
+completed (x ∷ xs) = also (x .whole) (completed xs)
+
+-- a good run delivers what is whole
+good-gives : (device mtu R : ℕ) (flow : Flow) (xs : List Put) (o : Option PDU) → Good device mtu R flow o xs → gives mtu R o xs ≡ completed xs
+good-gives device mtu R flow [] o g = refl
+good-gives device mtu R flow (x ∷ xs) o g = go (x .lost) refl (good-gives device mtu R flow xs)
+  where
+    go : (t : Bool) → x .lost ≡ t → ((o : Option PDU) → Good device mtu R flow o xs → gives mtu R o xs ≡ completed xs)
+        → flowDeliveries mtu R o (cond t (arriving xs) (x .packet ∷ arriving xs)) ≡ also (x .whole) (completed xs)
+    go true e rest =
+        let w : none ≡ x .whole = rw e at (g .1) in
+        let k : Good device mtu R flow o xs = rw e at (g .2) in
+        rest o k ∙ ap (λ (y : Option PDU). also y (completed xs)) w
+    go false e rest =
+        let w : deliveredPDU (packetStep mtu R o (x .packet) .told) ≡ x .whole = rw e at (g .1) in
+        let k : Good device mtu R flow (packetStep mtu R o (x .packet) .next) xs = rw e at (g .2) in
+        ap (also (deliveredPDU (packetStep mtu R o (x .packet) .told))) (rest (packetStep mtu R o (x .packet) .next) k) ∙ ap (λ (y : Option PDU). also y (completed xs)) w
+
+module _ (device mtu R : ℕ) (flow : Flow) (ranges : Ranges device mtu R flow) (s : Sent) (fair : FairPDU R s) where
+  abbrev bytes : List ℕ
+  bytes = s .pdu .bytes
+
+  abbrev packet : ℕ → List ℕ
+  packet k = packetOf (headingOf device flow s k) mtu (s .pdu .bytes) k
+
+  abbrev put : ℕ → Put
+  put k = putOf device mtu flow s k
+
+  abbrev puts : ℕ → ℕ → List Put
+  puts k n = putsFrom device mtu flow s k n
+
+  -- packet k is lost, or it arrives
+  gives-lost : (k : ℕ) (o : Option PDU) (xs : List Put) → isLost s k ≡ true → gives mtu R o (put k ∷ xs) ≡ gives mtu R o xs
+  unfolding putOf
+  gives-lost k o xs e = rw e
+
+  gives-seen : (k : ℕ) (o o′ : Option PDU) (told : Told) (dropped : Bool) (xs : List Put) → isLost s k ≡ false → packetStep mtu R o (packet k) ≡ outcome o′ told dropped
+      → gives mtu R o (put k ∷ xs) ≡ also (deliveredPDU told) (gives mtu R o′ xs)
+  unfolding putOf
+  gives-seen k o o′ told dropped xs e step = rw (e, step)
+
+  leaves-lost : (k : ℕ) (o : Option PDU) (xs : List Put) → isLost s k ≡ true → leaves mtu R o (put k ∷ xs) ≡ leaves mtu R o xs
+  unfolding putOf
+  leaves-lost k o xs e = rw e
+
+  leaves-seen : (k : ℕ) (o o′ : Option PDU) (xs : List Put) → isLost s k ≡ false → packetStep mtu R o (packet k) .next ≡ o′ → leaves mtu R o (put k ∷ xs) ≡ leaves mtu R o′ xs
+  unfolding putOf
+  leaves-seen k o o′ xs e step = rw (e, step)
+
+  -- the last packet arrives: the flow is left closed
+  leaves-closed : (n k : ℕ) (o : Option PDU) → k + suc n ≡ packetCount mtu s → ((last : ℕ) → suc last ≡ packetCount mtu s → isLost s last ≡ false) → leaves mtu R o (puts k (suc n)) ≡ none
+  leaves-closed zero k o e arrives = leaves-seen k o none [] (arrives k (omega arith)) (last-closes device mtu R flow ranges s fair k o (omega arith))
+  leaves-closed (suc n) k o e arrives = leaves-closed n (suc k) (afterPut mtu R o (put k)) (omega arith) arrives
+
+  -- only the last is lost: the flow is left with all before it
+  abbrev before : ℕ → PDU
+  before k = pdu (s .pdu .stream) (take (k * mtu) bytes)
+
+  leaves-open : (n k last : ℕ) → suc k + suc n ≡ packetCount mtu s → suc last ≡ packetCount mtu s → isLost s last ≡ true → lossesFrom (s .lost) (suc k) (suc n) ≡ 1
+      → leaves mtu R (some (before (suc k))) (puts (suc k) (suc n)) ≡ some (before last)
+  leaves-open zero k last e l lost one =
+      let q : suc k ≡ last = omega arith in
+      leaves-lost (suc k) (some (before (suc k))) [] (ap (isLost s) q ∙ lost) ∙ ap (λ (j : ℕ). some (before j)) q
+  leaves-open (suc n) k last e l lost one = go (isLost s (suc k)) refl (λ rest. leaves-open n (suc k) last (omega arith) l lost rest)
+    where
+      go : (t : Bool) → isLost s (suc k) ≡ t
+          → (lossesFrom (s .lost) (suc (suc k)) (suc n) ≡ 1 → leaves mtu R (some (before (suc (suc k)))) (puts (suc (suc k)) (suc n)) ≡ some (before last))
+          → leaves mtu R (some (before (suc k))) (puts (suc k) (suc (suc n))) ≡ some (before last)
+      go true t rest =
+          let c = lost-counts (s .lost) (suc n) (suc (suc k)) last lost (omega arith) (omega arith) in
+          absurd (omega (arith, count-lost (s .lost) (suc k) (suc n) 0 t one))
+      go false t rest =
+          let inner : suc (suc k) < packetCount mtu s = omega arith in
+          let size = inner-size device mtu R flow ranges s fair (suc k) inner in
+          let so-far : length (take (suc k * mtu) bytes) ≡ suc k * mtu = length-take-le (suc k * mtu) bytes (omega arith) in
+          leaves-seen (suc k) (some (before (suc k))) (some (before (suc (suc k)))) (puts (suc (suc k)) (suc n)) t
+          (ap (λ (x : Outcome). x .next) (at-inner device mtu R flow ranges s fair k (before (suc k)) inner (omega (arith, fair .fits)))
+          ∙ ap (λ (x : List ℕ). some (pdu (s .pdu .stream) x)) (data-behind device mtu R flow ranges s fair (suc k)))
+          ∙ rest (count-seen (s .lost) (suc k) (suc n) 1 t one)
+
+  -- ---- what the first leaves
+
+  not-joint : (count : ℕ) (lost : Bool) → (count ≡ 2 → lost ≡ false) → (eqb count 2 && lost) ≡ false
+  not-joint count lost why = go (eqb count 2) refl
+    where
+      go : (t : Bool) → eqb count 2 ≡ t → (t && lost) ≡ false
+      go true e = why (eqb-true count 2 e)
+      go false e = refl
+
+  data FirstLeaves : Type 0 where
+    closed : leaves mtu R none (puts 0 (packetCount mtu s)) ≡ none → (eqb (packetCount mtu s) 2 && isLost s 1) ≡ false → FirstLeaves
+    opened : (l : ℕ) → suc (suc l) ≡ packetCount mtu s → isLost s (suc l) ≡ true → leaves mtu R none (puts 0 (packetCount mtu s)) ≡ some (before (suc l)) → FirstLeaves
+
+  first-leaves : losses mtu s ≡ 1 → FirstLeaves
+  first-leaves one = go (packetCount mtu s) refl one
+    where
+      -- the last packet arrives
+      arrives : (m : ℕ) → suc m ≡ packetCount mtu s → isLost s m ≡ false → FirstLeaves
+      arrives m e seen =
+          closed
+          (subst (λ (c : ℕ). leaves mtu R none (puts 0 c) ≡ none) e
+          (leaves-closed m 0 none (omega arith) (λ last l. ap (isLost s) (let q : last ≡ m = omega arith in q) ∙ seen)))
+          (not-joint (packetCount mtu s) (isLost s 1) (λ two. ap (isLost s) (let q : 1 ≡ m = omega arith in q) ∙ seen))
+
+      -- it is lost, and it is not the first
+      stays : (n : ℕ) → suc (suc n) ≡ packetCount mtu s → isLost s (suc n) ≡ true → lossesFrom (s .lost) 0 (suc (suc n)) ≡ 1 → (t : Bool) → isLost s 0 ≡ t → FirstLeaves
+      stays n e lost l true first =
+          let c = lost-counts (s .lost) (suc n) 1 (suc n) lost (omega arith) (omega arith) in
+          absurd (omega (arith, count-lost (s .lost) 0 (suc n) 0 first l))
+      stays n e lost l false first =
+          opened n e lost
+          (subst (λ (c : ℕ). leaves mtu R none (puts 0 c) ≡ some (before (suc n))) e
+          (leaves-seen 0 none (some (before 1)) (puts 1 (suc n)) first (ap (λ (x : Outcome). x .next) (at-start device mtu R flow ranges s fair none (omega arith)))
+          ∙ leaves-open n 0 (suc n) (omega arith) e lost (count-seen (s .lost) 0 (suc n) 1 first l)))
+
+      go : (c : ℕ) → c ≡ packetCount mtu s → lossesFrom (s .lost) 0 c ≡ 1 → FirstLeaves
+      go zero e l = absurd (omega arith)
+      go (suc zero) e l = single (isLost s 0) refl
+        where
+          single : (t : Bool) → isLost s 0 ≡ t → FirstLeaves
+          single true lost =
+              closed (subst (λ (c : ℕ). leaves mtu R none (puts 0 c) ≡ none) e (leaves-lost 0 none [] lost)) (not-joint (packetCount mtu s) (isLost s 1) (λ two. absurd (omega arith)))
+          single false lost = arrives 0 e lost
+      go (suc (suc n)) e l = several (isLost s (suc n)) refl
+        where
+          several : (t : Bool) → isLost s (suc n) ≡ t → FirstLeaves
+          several true lost = stays n e lost l (isLost s 0) refl
+          several false lost = arrives (suc n) e lost
+
+  -- ---- what the second gives
+
+  lossy : losses mtu s ≡ 1 → isWhole mtu s ≡ false
+  lossy one = ne-eqb (losses mtu s) 0 (λ e. omega arith)
+
+  none-completed : isWhole mtu s ≡ false → (n k : ℕ) → completed (puts k n) ≡ []
+  none-completed w zero k = refl
+  none-completed w (suc n) k = rw (whole-lossy device mtu R flow ranges s fair [] k w) (none-completed w n (suc k))
+
+  -- from closed, or where its first packet arrives: nothing
+  gives-nothing : losses mtu s ≡ 1 → (o : Option PDU) → (o ≡ none) ⊎ (isLost s 0 ≡ false) → gives mtu R o (puts 0 (packetCount mtu s)) ≡ []
+  gives-nothing one o why =
+      let g = short-in device mtu R flow ranges s fair [] (lossy one) (λ o′. tt) o why in
+      good-gives device mtu R flow (puts 0 (packetCount mtu s)) o (subst (Good device mtu R flow o) (append-nil (puts 0 (packetCount mtu s))) g)
+      ∙ none-completed (lossy one) (packetCount mtu s) 0
+
+  -- closed, from its second packet on: nothing
+  gives-closed : (n k : ℕ) → suc k + n ≡ packetCount mtu s → gives mtu R none (puts (suc k) n) ≡ []
+  gives-closed zero k e = refl
+  gives-closed (suc n) k e = go (isLost s (suc k)) refl (gives-closed n (suc k) (omega arith))
+    where
+      go : (t : Bool) → isLost s (suc k) ≡ t → gives mtu R none (puts (suc (suc k)) n) ≡ [] → gives mtu R none (puts (suc k) (suc n)) ≡ []
+      go true t rest = gives-lost (suc k) none (puts (suc (suc k)) n) t ∙ rest
+      go false t rest = gives-seen (suc k) none none (refused 8) false (puts (suc (suc k)) n) t (at-closed device mtu R flow ranges s fair k (omega arith)) ∙ rest
+
+  -- what is behind packet k
+  behind-last : (k : ℕ) → suc k ≡ packetCount mtu s → dataOf mtu bytes k ≡ drop (k * mtu) bytes
+  unfolding dataOf
+  behind-last k e = let z = last-size device mtu R flow ranges s fair k e in take-all mtu (drop (k * mtu) bytes) (simp length-drop (omega arith))
+
+  behind-inner : (k : ℕ) → dataOf mtu bytes k ++ drop (suc k * mtu) bytes ≡ drop (k * mtu) bytes
+  unfolding dataOf
+  behind-inner k =
+      ap (λ (x : List ℕ). take mtu (drop (k * mtu) bytes) ++ x) (ap (λ (j : ℕ). drop j bytes) (suc-mul k mtu) ∙ sym (drop-drop mtu (k * mtu) bytes))
+      ∙ take-append-drop mtu (drop (k * mtu) bytes)
+
+  -- behind as many bytes as its own packets before k had, the rest makes a PDU
+  gives-joined : (n k : ℕ) (p : PDU) → suc k + suc n ≡ packetCount mtu s → lossesFrom (s .lost) (suc k) (suc n) ≡ 0 → length (p .bytes) ≡ suc k * mtu
+      → gives mtu R (some p) (puts (suc k) (suc n)) ≡ pdu (p .stream) (p .bytes ++ drop (suc k * mtu) bytes) ∷ []
+  gives-joined zero k p e l so-far =
+      let last : suc (suc k) ≡ packetCount mtu s = omega arith in
+      gives-seen (suc k) (some p) none (delivered (pdu (p .stream) (p .bytes ++ dataOf mtu bytes (suc k)))) false [] (none-lost (s .lost) (suc k) 0 l .0) (at-last device mtu R flow ranges s fair k p last so-far)
+      ∙ ap (λ (x : List ℕ). pdu (p .stream) (p .bytes ++ x) ∷ []) (behind-last (suc k) last)
+  gives-joined (suc n) k p e l so-far =
+      let inner : suc (suc k) < packetCount mtu s = omega arith in
+      let size = inner-size device mtu R flow ranges s fair (suc k) inner in
+      let here = none-lost (s .lost) (suc k) (suc n) l in
+      let longer : PDU = pdu (p .stream) (p .bytes ++ dataOf mtu bytes (suc k)) in
+      let longer-is : length (longer .bytes) ≡ length (p .bytes) + length (dataOf mtu bytes (suc k)) = length-append (p .bytes) (dataOf mtu bytes (suc k)) in
+      gives-seen (suc k) (some p) (some longer) held false (puts (suc (suc k)) (suc n)) (here .0) (at-inner device mtu R flow ranges s fair k p inner (omega (arith, fair .fits)))
+      ∙ gives-joined n (suc k) longer (omega arith) (here .1) (omega arith)
+      ∙ ap (λ (x : List ℕ). pdu (p .stream) x ∷ []) (append-assoc (p .bytes) (dataOf mtu bytes (suc k)) (drop (suc (suc k) * mtu) bytes))
+      ∙ ap (λ (x : List ℕ). pdu (p .stream) (p .bytes ++ x) ∷ []) (behind-inner (suc k))
+
+  -- behind more bytes than that: nothing, by 9 or 11
+  gives-too-long : (n k : ℕ) (p : PDU) → suc k + suc n ≡ packetCount mtu s → lossesFrom (s .lost) (suc k) (suc n) ≡ 0 → suc k * mtu < length (p .bytes)
+      → gives mtu R (some p) (puts (suc k) (suc n)) ≡ []
+  gives-too-long zero k p e l long = go (decLe (length (p .bytes) + length (dataOf mtu bytes (suc k))) R)
+    where
+      go : Dec (length (p .bytes) + length (dataOf mtu bytes (suc k)) ≤ R) → gives mtu R (some p) (puts (suc k) 1) ≡ []
+      go (yes room) = gives-seen (suc k) (some p) none (refused 11) true [] (none-lost (s .lost) (suc k) 0 l .0) (at-last-wrong device mtu R flow ranges s fair k p (omega arith) room (λ t. omega arith))
+      go (no over) = gives-seen (suc k) (some p) none (refused 9) true [] (none-lost (s .lost) (suc k) 0 l .0) (at-over device mtu R flow ranges s fair k p (omega arith) (omega arith))
+  gives-too-long (suc n) k p e l long =
+      go (decLe (length (p .bytes) + length (dataOf mtu bytes (suc k))) R) (λ q h. gives-too-long n (suc k) q (omega arith) (none-lost (s .lost) (suc k) (suc n) l .1) h)
+    where
+      inner : suc (suc k) < packetCount mtu s
+      inner = omega arith
+
+      go : Dec (length (p .bytes) + length (dataOf mtu bytes (suc k)) ≤ R)
+          → ((q : PDU) → suc (suc k) * mtu < length (q .bytes) → gives mtu R (some q) (puts (suc (suc k)) (suc n)) ≡ [])
+          → gives mtu R (some p) (puts (suc k) (suc (suc n))) ≡ []
+      go (yes room) rest =
+          let size = inner-size device mtu R flow ranges s fair (suc k) inner in
+          let longer : PDU = pdu (p .stream) (p .bytes ++ dataOf mtu bytes (suc k)) in
+          let longer-is : length (longer .bytes) ≡ length (p .bytes) + length (dataOf mtu bytes (suc k)) = length-append (p .bytes) (dataOf mtu bytes (suc k)) in
+          gives-seen (suc k) (some p) (some longer) held false (puts (suc (suc k)) (suc n)) (none-lost (s .lost) (suc k) (suc n) l .0) (at-inner device mtu R flow ranges s fair k p inner (omega arith))
+          ∙ rest longer (omega arith)
+      go (no over) rest =
+          gives-seen (suc k) (some p) none (refused 9) true (puts (suc (suc k)) (suc n)) (none-lost (s .lost) (suc k) (suc n) l .0) (at-over device mtu R flow ranges s fair k p (omega arith) (omega arith))
+          ∙ gives-closed (suc n) (suc k) (omega arith)
+
+  -- after a flow left open with so many bytes, where its start is lost
+  gives-behind : (p : PDU) → losses mtu s ≡ 1 → isLost s 0 ≡ true → (n : ℕ) → suc (suc n) ≡ packetCount mtu s
+      → ((length (p .bytes) ≡ mtu → gives mtu R (some p) (puts 0 (packetCount mtu s)) ≡ pdu (p .stream) (p .bytes ++ drop mtu bytes) ∷ [])
+      × (mtu < length (p .bytes) → gives mtu R (some p) (puts 0 (packetCount mtu s)) ≡ []))
+  gives-behind p one lost n e =
+      let others : lossesFrom (s .lost) 1 (suc n) ≡ 0 = count-lost (s .lost) 0 (suc n) 0 lost (subst (λ (c : ℕ). lossesFrom (s .lost) 0 c ≡ 1) (sym e) one) in
+      let once : 1 * mtu ≡ mtu = one-mul mtu in (
+        λ full. subst (λ (c : ℕ). gives mtu R (some p) (puts 0 c) ≡ pdu (p .stream) (p .bytes ++ drop mtu bytes) ∷ []) e
+            (gives-lost 0 (some p) (puts 1 (suc n)) lost ∙ gives-joined n 0 p (omega arith) others (full ∙ sym once)
+            ∙ ap (λ (j : ℕ). pdu (p .stream) (p .bytes ++ drop j bytes) ∷ []) once),
+        λ long. subst (λ (c : ℕ). gives mtu R (some p) (puts 0 c) ≡ []) e
+            (gives-lost 0 (some p) (puts 1 (suc n)) lost ∙ gives-too-long n 0 p (omega arith) others (omega arith)),
+      )
+
+  gives-after : (p : PDU) → losses mtu s ≡ 1 → (first : Bool)
+      → (first ≡ true → length (p .bytes) ≡ mtu) → (first ≡ false → mtu < length (p .bytes))
+      → gives mtu R (some p) (puts 0 (packetCount mtu s)) ≡ cond (first && (leb 2 (packetCount mtu s) && isLost s 0)) (pdu (p .stream) (p .bytes ++ drop mtu bytes) ∷ []) []
+  gives-after p one first full long = go (isLost s 0) refl
+    where
+      off : (a b : Bool) → cond (a && (b && false)) (pdu (p .stream) (p .bytes ++ drop mtu bytes) ∷ []) [] ≡ []
+      off true true = refl
+      off true false = refl
+      off false b = refl
+
+      off′ : (a : Bool) → cond (a && false) (pdu (p .stream) (p .bytes ++ drop mtu bytes) ∷ []) [] ≡ []
+      off′ true = refl
+      off′ false = refl
+
+      several : (f : Bool) → (f ≡ true → length (p .bytes) ≡ mtu) → (f ≡ false → mtu < length (p .bytes)) → isLost s 0 ≡ true → (n : ℕ) → suc (suc n) ≡ packetCount mtu s
+          → gives mtu R (some p) (puts 0 (packetCount mtu s)) ≡ cond (f && true) (pdu (p .stream) (p .bytes ++ drop mtu bytes) ∷ []) []
+      several true full long lost n e = gives-behind p one lost n e .0 (full refl)
+      several false full long lost n e = gives-behind p one lost n e .1 (long refl)
+
+      by-count : (c : ℕ) → c ≡ packetCount mtu s → isLost s 0 ≡ true
+          → gives mtu R (some p) (puts 0 (packetCount mtu s)) ≡ cond (first && (leb 2 (packetCount mtu s) && true)) (pdu (p .stream) (p .bytes ++ drop mtu bytes) ∷ []) []
+      by-count zero e lost = absurd (omega (arith, some-packet device mtu R flow ranges s fair))
+      by-count (suc zero) e lost =
+          subst (λ (c : ℕ). gives mtu R (some p) (puts 0 c) ≡ cond (first && (leb 2 c && true)) (pdu (p .stream) (p .bytes ++ drop mtu bytes) ∷ []) []) e
+          (gives-lost 0 (some p) [] lost ∙ sym (off′ first))
+      by-count (suc (suc n)) e lost = rw (le-leb 2 (packetCount mtu s) (omega arith)) (several first full long lost n e)
+
+      go : (t : Bool) → isLost s 0 ≡ t
+          → gives mtu R (some p) (puts 0 (packetCount mtu s)) ≡ cond (first && (leb 2 (packetCount mtu s) && t)) (pdu (p .stream) (p .bytes ++ drop mtu bytes) ∷ []) []
+      go true t = by-count (packetCount mtu s) refl t
+      go false t = gives-nothing one (some p) (inr t) ∙ sym (off first (leb 2 (packetCount mtu s)))
+
+-- ---- The two together
+
+pub joint-exactly : JointExactly
+unfolding isJoint
+joint-exactly device mtu R flow a b pair =
+    gives-append mtu R putsA (putsB ++ []) none
+    ∙ ap (λ (x : List PDU). x ++ gives mtu R (leaves mtu R none putsA) (putsB ++ [])) (gives-nothing device mtu R flow (pair .ranges) a (pair .first-fair) (pair .first-loses) none (inl refl))
+    ∙ ap (gives mtu R (leaves mtu R none putsA)) (append-nil putsB)
+    ∙ go (first-leaves device mtu R flow (pair .ranges) a (pair .first-fair) (pair .first-loses))
+  where
+    putsA : List Put
+    putsA = putsFrom device mtu flow a 0 (packetCount mtu a)
+
+    putsB : List Put
+    putsB = putsFrom device mtu flow b 0 (packetCount mtu b)
+
+    opens : (l : ℕ) → suc (suc l) ≡ packetCount mtu a → isLost a (suc l) ≡ true
+        → gives mtu R (some (pdu (a .pdu .stream) (take (suc l * mtu) (a .pdu .bytes)))) putsB ≡ cond (isJoint mtu a b) (jointPDU mtu a b ∷ []) []
+    opens zero e lost =
+        let size = inner-size device mtu R flow (pair .ranges) a (pair .first-fair) 0 (omega arith) in
+        let once : 1 * mtu ≡ mtu = one-mul mtu in
+        rw (eq-eqb (packetCount mtu a) 2 (sym e), lost, once)
+        (gives-after device mtu R flow (pair .ranges) b (pair .second-fair) (pdu (a .pdu .stream) (take mtu (a .pdu .bytes))) (pair .second-loses) true
+        (λ t. length-take-le mtu (a .pdu .bytes) (omega arith)) (λ t. absurd (false≢true (sym t))))
+    opens (suc l) e lost =
+        let size = inner-size device mtu R flow (pair .ranges) a (pair .first-fair) (suc l) (omega arith) in
+        let pos = mtu-pos device mtu R flow (pair .ranges) a (pair .first-fair) in
+        let so-far : length (take (suc (suc l) * mtu) (a .pdu .bytes)) ≡ suc (suc l) * mtu = length-take-le (suc (suc l) * mtu) (a .pdu .bytes) (omega arith) in
+        rw (ne-eqb (packetCount mtu a) 2 (λ t. omega arith))
+        (gives-after device mtu R flow (pair .ranges) b (pair .second-fair) (pdu (a .pdu .stream) (take (suc (suc l) * mtu) (a .pdu .bytes))) (pair .second-loses) false
+        (λ t. absurd (false≢true t)) (λ t. omega arith))
+
+    go : FirstLeaves device mtu R flow (pair .ranges) a (pair .first-fair) → gives mtu R (leaves mtu R none putsA) putsB ≡ cond (isJoint mtu a b) (jointPDU mtu a b ∷ []) []
+    go (closed e no-joint) =
+        rw (e, no-joint) (gives-nothing device mtu R flow (pair .ranges) b (pair .second-fair) (pair .second-loses) none (inl refl))
+    go (opened l e lost open-is) = rw open-is (opens l e lost)
+
+pub joint-only : JointOnly
+joint-only device mtu R flow a b pair = go (isJoint mtu a b) (joint-exactly device mtu R flow a b pair)
+  where
+    some-list : (x : PDU) (xs : List PDU) → x ∷ xs ≡ [] → ⊥
+    some-list x xs e = let z : _≡_ {A = ℕ} 0 1 = cc in omega arith
+
+    go : (t : Bool) → flowDeliveries mtu R none (pairPackets device mtu flow a b) ≡ cond t (jointPDU mtu a b ∷ []) []
+        → (flowDeliveries mtu R none (pairPackets device mtu flow a b) ≡ [] → ⊥) ↔ (t ≡ true)
+    go true e = (λ h. refl, λ h n. some-list (jointPDU mtu a b) [] (sym e ∙ n))
+    go false e = (λ h. absurd (h e), λ h. absurd (false≢true h))
+
+pub joint-length : JointLength
+unfolding isJoint
+joint-length device mtu R flow a b pair e = go (eqb (packetCount mtu a) 2) (isLost a 1) (leb 2 (packetCount mtu b)) (isLost b 0) refl refl e
+  where
+    both : eqb (packetCount mtu a) 2 ≡ true → leb 2 (packetCount mtu b) ≡ true → length (jointPDU mtu a b .bytes) ≡ length (b .pdu .bytes)
+    both p q =
+        let two = eqb-true (packetCount mtu a) 2 p in
+        let more = leb-true 2 (packetCount mtu b) q in
+        let sa = inner-size device mtu R flow (pair .ranges) a (pair .first-fair) 0 (omega arith) in
+        let sb = inner-size device mtu R flow (pair .ranges) b (pair .second-fair) 0 (omega arith) in
+        let front : length (take mtu (a .pdu .bytes)) ≡ mtu = length-take-le mtu (a .pdu .bytes) (omega arith) in
+        let back = length-drop mtu (b .pdu .bytes) in
+        length-append (take mtu (a .pdu .bytes)) (drop mtu (b .pdu .bytes)) ∙ omega arith
+
+    go : (p x q y : Bool) → eqb (packetCount mtu a) 2 ≡ p → leb 2 (packetCount mtu b) ≡ q → ((p && x) && (q && y)) ≡ true → length (jointPDU mtu a b .bytes) ≡ length (b .pdu .bytes)
+    go true true true y ep eq e = both ep eq
+    go true true false y ep eq e = absurd (false≢true e)
+    go true false q y ep eq e = absurd (false≢true e)
+    go false x q y ep eq e = absurd (false≢true e)
+
+-- ---- The endpoint
+
+-- each packet of a flow that arrives is of that flow
+proper-puts : (device mtu R : ℕ) (flow : Flow) (ranges : Ranges device mtu R flow) (s : Sent) (fair : FairPDU R s) (more : List Put) (n k : ℕ) → k + n ≡ packetCount mtu s
+    → Each (Proper device flow) (arriving more) → Each (Proper device flow) (arriving (putsFrom device mtu flow s k n ++ more))
+proper-puts device mtu R flow ranges s fair more zero k e rest = rest
+proper-puts device mtu R flow ranges s fair more (suc n) k e rest =
+    go (putOf device mtu flow s k .lost) (proper-put (omega arith)) (proper-puts device mtu R flow ranges s fair more n (suc k) (omega arith) rest)
+  where
+    go : (t : Bool) → Proper device flow (putOf device mtu flow s k .packet) → Each (Proper device flow) (arriving (putsFrom device mtu flow s (suc k) n ++ more))
+        → Each (Proper device flow) (cond t (arriving (putsFrom device mtu flow s (suc k) n ++ more)) (putOf device mtu flow s k .packet ∷ arriving (putsFrom device mtu flow s (suc k) n ++ more)))
+    go true p others = others
+    go false p others = (p, others)
+
+    proper-put : k < packetCount mtu s → Proper device flow (putOf device mtu flow s k .packet)
+    proper-put below = unfold putOf in proper-packet device mtu R flow ranges s fair k below
+
+pub joint-delivered : JointDelivered
+joint-delivered device mtu R flow a b board pair begins =
+    let c = carried device mtu R (flow ∷ []) board begins in
+    flow-alone device mtu R (flow ∷ []) (c .Ok) (c .law) (c .own-R) flow (among-itself flow) (pairPackets device mtu flow a b) board (c .ok)
+    (proper-puts device mtu R flow (pair .ranges) a (pair .first-fair) (flowPuts device mtu flow (b ∷ [])) (packetCount mtu a) 0 (omega arith)
+    (proper-puts device mtu R flow (pair .ranges) b (pair .second-fair) [] (packetCount mtu b) 0 (omega arith) tt))
+    ∙ ap (λ (o : Option PDU). map (delivery flow) (flowDeliveries mtu R o (pairPackets device mtu flow a b))) (begins .closed flow)
+    ∙ ap (map (delivery flow)) (joint-exactly device mtu R flow a b pair)
+    ∙ go (isJoint mtu a b)
+  where
+    go : (t : Bool) → map (delivery flow) (cond t (jointPDU mtu a b ∷ []) []) ≡ cond t (delivery flow (jointPDU mtu a b) ∷ []) []
+    go true = refl
+    go false = refl

@@ -1,0 +1,104 @@
+-- What a sending's words mean: by induction over the turns, a turn of the flow itself moves a packet from the one list to the other.
+use Prim.Native.Nat.{ℕ, zero, suc, _+_}
+use mathlib.Core.Path.{_≡_, refl, sym, ap, _∙_}
+use mathlib.Core.List.{List, [], _∷_, _++_, tail, append-nil}
+use mathlib.Core.Bool.{Bool, true, false, cond, _&&_}
+use mathlib.Core.Option.{Option, none, some}
+use native.Mathlib.Omega.{arith}
+use lib.ListN.{length}
+use borrow.Author.Tests.{eq-eqb, ne-eqb}
+use Rattle.wire.specs.declared.Flow.{Flow}
+use Rattle.wire.specs.Type9.{sameFlow}
+use Rattle.sizes.specs.Sizes.{badMTU}
+use Rattle.cutting.specs.Cutting.{isFinal}
+use Rattle.flows.specs.OneFlow.{PDU}
+use Rattle.sending.specs.Sending.{Sent, packetCount, isWhole, Put, putOf, putsFrom, flowPuts, FlowSent, Turn, next, message, sentOn, Event, put, sent, headOf, advance, events, queues, tell, wholes, Each, FairPDU, FairFlow}
+use Rattle.sending.specs.OneFlow.{also}
+use Rattle.sending.specs.Meaning.{putBy, toCome, InOrder, intact, fromFlow, WholeIsIntact}
+use Rattle.sending.proofs.Steps.{count-pos}
+use Rattle.flows.proofs.Flows.{same-true}
+use Rattle.sending.proofs.Joint.{completed}
+
+in-order-from : (flow : Flow) (ts : List Turn) (q : Flow → List Put) → putBy flow (events q ts) ++ toCome q ts flow ≡ q flow
+in-order-from flow [] q = refl
+in-order-from flow (message p ∷ ts) q = in-order-from flow ts q
+in-order-from flow (next other ∷ ts) q = go (q other) refl (sameFlow flow other) refl (in-order-from flow ts (advance q other))
+  where
+    rest : List Put
+    rest = toCome (advance q other) ts flow
+
+    others : List Put
+    others = putBy flow (events (advance q other) ts)
+
+    own : (l : List Put) → q other ≡ l → sameFlow flow other ≡ true → q flow ≡ l
+    own l e t = ap q (same-true flow other t) ∙ e
+
+    go : (l : List Put) → q other ≡ l → (t : Bool) → sameFlow flow other ≡ t → others ++ rest ≡ cond (sameFlow flow other) (tail (q flow)) (q flow)
+        → putBy flow (headOf other l ++ events (advance q other) ts) ++ rest ≡ q flow
+    go [] e true t ih = ih ∙ ap (λ (b : Bool). cond b (tail (q flow)) (q flow)) t ∙ ap tail (own [] e t) ∙ sym (own [] e t)
+    go [] e false t ih = ih ∙ ap (λ (b : Bool). cond b (tail (q flow)) (q flow)) t
+    go (x ∷ xs) e true t ih =
+        ap (λ (b : Bool). cond b (x ∷ others) others ++ rest) t
+        ∙ ap (λ (l : List Put). x ∷ l) (ih ∙ ap (λ (b : Bool). cond b (tail (q flow)) (q flow)) t ∙ ap tail (own (x ∷ xs) e t))
+        ∙ sym (own (x ∷ xs) e t)
+    go (x ∷ xs) e false t ih =
+        ap (λ (b : Bool). cond b (x ∷ others) others ++ rest) t ∙ ih ∙ ap (λ (b : Bool). cond b (tail (q flow)) (q flow)) t
+
+pub in-order : InOrder
+in-order device mtu s flow = in-order-from flow (s .turns) (queues device mtu s)
+
+-- ---- A flow's whole PDUs are those that its packets complete
+
+completes : (flow : Flow) (es : List Event) → fromFlow flow (wholes es) ≡ completed (putBy flow es)
+completes flow [] = refl
+completes flow (sent p ∷ es) = completes flow es
+completes flow (put other x ∷ es) = go (x .whole) refl (sameFlow flow other) refl (completes flow es)
+  where
+    go : (w : Option PDU) → x .whole ≡ w → (t : Bool) → sameFlow flow other ≡ t → fromFlow flow (wholes es) ≡ completed (putBy flow es)
+        → fromFlow flow (tell other w (wholes es)) ≡ completed (cond (sameFlow flow other) (x ∷ putBy flow es) (putBy flow es))
+    go none e true t ih = rw t (ih ∙ ap (λ (y : Option PDU). also y (completed (putBy flow es))) (sym e))
+    go none e false t ih = rw t ih
+    go (some p) e true t ih = rw t (ap (λ (l : List PDU). p ∷ l) ih ∙ ap (λ (y : Option PDU). also y (completed (putBy flow es))) (sym e))
+    go (some p) e false t ih = rw t ih
+
+-- ---- The packets of a PDU complete it, if it lost nothing
+
+module _ (device mtu : ℕ) (flow : Flow) (s : Sent) (more : List Put) where
+  whole-of : (k : ℕ) (last : Bool) → isFinal mtu (s .pdu .bytes) k ≡ last → putOf device mtu flow s k .whole ≡ cond (last && isWhole mtu s) (some (s .pdu)) none
+  unfolding putOf
+  whole-of k last e = rw e
+
+  completed-from : (n k : ℕ) → k + suc n ≡ packetCount mtu s → completed (putsFrom device mtu flow s k (suc n) ++ more) ≡ also (cond (isWhole mtu s) (some (s .pdu)) none) (completed more)
+  unfolding isFinal
+  completed-from zero k e = rw (whole-of k true (eq-eqb (k + 1) (packetCount mtu s) (omega arith)))
+  completed-from (suc n) k e = rw (whole-of k false (ne-eqb (k + 1) (packetCount mtu s) (λ t. omega arith))) (completed-from n (suc k) (omega arith))
+
+-- and so for all PDUs of a flow
+flow-completed : (device mtu R : ℕ) (flow : Flow) → badMTU mtu ≡ false → (ss : List Sent) → Each (FairPDU R) ss → completed (flowPuts device mtu flow ss) ≡ intact mtu ss
+flow-completed device mtu R flow allowed [] fair = refl
+flow-completed device mtu R flow allowed (s ∷ ss) fair = go (packetCount mtu s) refl (flow-completed device mtu R flow allowed ss (fair .1))
+  where
+    by-whole : (b : Bool) → completed (flowPuts device mtu flow ss) ≡ intact mtu ss
+        → also (cond b (some (s .pdu)) none) (completed (flowPuts device mtu flow ss)) ≡ cond b (s .pdu ∷ intact mtu ss) (intact mtu ss)
+    by-whole true e = ap (λ (l : List PDU). s .pdu ∷ l) e
+    by-whole false e = e
+
+    go : (c : ℕ) → packetCount mtu s ≡ c → completed (flowPuts device mtu flow ss) ≡ intact mtu ss → completed (putsFrom device mtu flow s 0 c ++ flowPuts device mtu flow ss) ≡ intact mtu (s ∷ ss)
+    go zero e rest = absurd (omega (arith, count-pos mtu (length (s .pdu .bytes)) allowed (fair .0 .some-byte)))
+    go (suc n) e rest = completed-from device mtu flow s (flowPuts device mtu flow ss) n 0 (omega arith) ∙ by-whole (isWhole mtu s) rest
+
+-- the PDUs of a listed flow are fair
+sent-fair : (mtu R : ℕ) (xs : List FlowSent) → Each (FairFlow mtu R) xs → (flow : Flow) → Each (FairPDU R) (sentOn xs flow)
+sent-fair mtu R [] fair flow = tt
+sent-fair mtu R (x ∷ xs) fair flow = go (sameFlow flow (x .flow)) (sent-fair mtu R xs (fair .1) flow)
+  where
+    go : (t : Bool) → Each (FairPDU R) (sentOn xs flow) → Each (FairPDU R) (cond t (x .sent) (sentOn xs flow))
+    go true rest = fair .0 .PDUs
+    go false rest = rest
+
+pub whole-is-intact : WholeIsIntact
+whole-is-intact device mtu R s flow fair done =
+    let on : List Put = putBy flow (events (queues device mtu s) (s .turns)) in
+    let all : on ≡ queues device mtu s flow = sym (append-nil on) ∙ ap (λ (l : List Put). on ++ l) (sym done) ∙ in-order device mtu s flow in
+    completes flow (events (queues device mtu s) (s .turns)) ∙ ap completed all
+    ∙ flow-completed device mtu R flow (fair .allowed-MTU) (sentOn (s .flows) flow) (sent-fair mtu R (s .flows) (fair .flows) flow)

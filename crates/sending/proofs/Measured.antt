@@ -1,0 +1,169 @@
+-- The length in an answer is that of the bytes that lie in its room: rows 8 and 10 leave a context below 16, row 9 a total of at most R,
+-- and row 12 a memory of 16 R bytes, so no room reaches past the memory. This holds of every board, whatever its state.
+use Prim.Native.Nat.{ℕ, _+_, _-_, _*_, _≤_, _<_}
+use mathlib.Core.Path.{_≡_, refl, sym, subst}
+use mathlib.Core.List.{List}
+use mathlib.Core.Bool.{Bool, true, false, cond, not, _||_, _&&_, false≢true}
+use native.Mathlib.Omega.{arith}
+use native.Mathlib.Nat.{mul-le-mul-right}
+use lib.ListN.{length, take, drop, length-append, length-take, length-drop}
+use lib.Dec.{eqb, ltb}
+use borrow.Author.Tests.{eqb-true, ltb-true, ltb-false, not-false}
+use Rattle.lists.specs.Bytes.{written}
+use Rattle.answers.specs.Answers as answers
+use Rattle.answers.specs.Refusals.{Leaves, all, flowClosed, allERROR, allRETRY, Verdict, refuse, accept, verdict, none}
+use Rattle.answers.proofs.Exactly.{none-held}
+use Rattle.wire.specs.declared.Segment.{Segment}
+use Rattle.wire.specs.declared.MessageSegment.{MessageSegment}
+use Rattle.wire.specs.Type11.{isSingle, mailbox}
+use Rattle.sizes.specs.Sizes.{bytesOf}
+use Rattle.rules.specs.Messages.{lastWith}
+use Rattle.messages.specs.Rows.{foundFor as found, messageOpen}
+use Rattle.contexts.specs.State.{State, freeStream, freeMessage, messageIn}
+use Rattle.streams.specs.Rows.{foundFor, flowOpen, heldBefore, total, notOpen, passesRoom, noneFree}
+use Rattle.stream_rooms.specs.Placing as placing
+use Rattle.streams.specs.Joining as stream
+use Rattle.message_rooms.specs.Placing as boxes
+use Rattle.messages.specs.Joining as message
+use Rattle.reading.specs.Table.{Lent, stateIn, segmentIn, messageSegmentIn, isState, is9, wrongMemory, wrongSizes, table}
+use Rattle.reading.specs.Read.{lent, ofStream, ofMessage, leaving, outcome, reading}
+use Rattle.flows.specs.Board.{room, inRoom}
+use Rattle.sending.specs.Statements.{LengthIsMeasured}
+
+-- the answer is no delivery
+abbrev NoDelivery : answers.Said → Type 0
+NoDelivery says = (context source cos stream size : ℕ) → says ≡ answers.delivered context source cos stream size → ⊥
+
+refused-none : (number : ℕ) → NoDelivery (answers.refused number)
+refused-none number context source cos stream size e = let z : _≡_ {A = ℕ} 0 1 = cc in omega arith
+
+held-none : NoDelivery answers.held
+held-none context source cos stream size e = let z : _≡_ {A = ℕ} 0 1 = cc in omega arith
+
+message-none : (n s l m z : ℕ) → NoDelivery (answers.message n s l m z)
+message-none n s l m z context source cos stream size e = let w : _≡_ {A = ℕ} 0 1 = cc in omega arith
+
+-- refused, nothing is delivered
+leaving-none : (x : Lent) (number : ℕ) (leaves : Leaves) → NoDelivery (leaving x number leaves .says)
+unfolding stream.refusedClosing
+leaving-none x number all = refused-none number
+leaving-none x number flowClosed = refused-none number
+leaving-none x number allERROR = refused-none number
+leaving-none x number allRETRY = refused-none number
+
+-- nor is a PDU by a message
+answer-none : (m : MessageSegment) (n marks last : ℕ) → NoDelivery (boxes.answerWith m n marks last)
+answer-none m n marks last = go (boxes.complete m marks)
+  where
+    go : (t : Bool) → NoDelivery (cond t (answers.message n (m .source) (m .letter) (mailbox m) (m .msglen * bytesOf (m .ssize) + last)) answers.held)
+    go true = message-none n (m .source) (m .letter) (mailbox m) (m .msglen * bytesOf (m .ssize) + last)
+    go false = held-none
+
+messages-none : (s : State) (memory response p : List ℕ) (m : MessageSegment) → NoDelivery (message.accepted s memory response p m .says)
+unfolding message.accepted message.alone boxes.placed
+messages-none s memory response p m = go (isSingle m) (messageOpen s m)
+  where
+    go : (a b : Bool)
+        → NoDelivery (cond a (message.alone s memory response p m (freeMessage s)) (cond b
+        (boxes.placed s memory response p m (found s m) (messageIn s (found s m) .marks) (messageIn s (found s m) .last))
+        (boxes.placed s memory response p m (freeMessage s) 0 0)) .says)
+    go true b = message-none (freeMessage s) (m .source) (m .letter) (mailbox m) (m .raw)
+    go false true = answer-none m (found s m) (boxes.marksWith m (messageIn s (found s m) .marks)) (lastWith m (messageIn s (found s m) .last))
+    go false false = answer-none m (freeMessage s) (boxes.marksWith m 0) (lastWith m 0)
+
+-- ---- A room within the memory
+
+length-inside : (m : List ℕ) (from size : ℕ) → from + size ≤ length m → length (take size (drop from m)) ≡ size
+length-inside m from size h = simp (length-take, length-drop) (omega arith)
+
+-- what is written does not make a memory shorter
+length-written-ge : (memory bytes : List ℕ) (at : ℕ) → at ≤ length memory → length memory ≤ length (written memory at bytes)
+unfolding written
+length-written-ge memory bytes at h = simp (length-append, length-take, length-drop) (omega arith)
+
+-- what rows 8 to 10 and 12 leave
+record Placeable (s : State) (memory : List ℕ) (g : Segment) : Type 0 where
+  size : length memory ≡ 16 * s .room
+  context : stream.contextFor s g < 16
+  fits : total s g ≤ s .room
+
+measured-stream : (s : State) (memory p : List ℕ) (g : Segment) → Placeable s memory g → (context source cos st size : ℕ)
+    → stream.accepted s memory p g .says ≡ answers.delivered context source cos st size
+    → length (inRoom (s .room) (stream.accepted s memory p g .memory) context size) ≡ size
+unfolding stream.accepted placing.placed
+measured-stream s memory p g ok context source cos st size = go (g .ends)
+  where
+    n : ℕ
+    n = stream.contextFor s g
+
+    stored : List ℕ
+    stored = written memory (n * s .room + heldBefore s g) (placing.dataOf p g)
+
+    inside : (size : ℕ) → size ≡ total s g → length (inRoom (s .room) stored n size) ≡ size
+    inside size e =
+        let below : n * s .room + s .room ≤ 16 * s .room = omega (arith, mul-le-mul-right (s .room) (ok .context)) in
+        let long : length memory ≤ length stored = length-written-ge memory (placing.dataOf p g) (n * s .room + heldBefore s g) (omega (arith, ok .fits, ok .size)) in
+        length-inside stored (n * s .room) size (omega (arith, ok .fits, ok .size))
+
+    go : (t : Bool) → cond t (answers.delivered n (g .flow .source) (g .flow .cos) (stream.streamID s g) (total s g)) answers.held ≡ answers.delivered context source cos st size
+        → length (inRoom (s .room) stored context size) ≡ size
+    go true e =
+        let c : n ≡ context = cc in
+        let z : total s g ≡ size = cc in
+        subst (λ (j : ℕ). length (inRoom (s .room) stored j size) ≡ size) c (inside size (sym z))
+    go false e = absurd (held-none context source cos st size e)
+
+-- ---- The rows
+
+or-false : (a b : Bool) → (a || b) ≡ false → (a ≡ false) × (b ≡ false)
+or-false true b e = (e, cc)
+or-false false b e = (refl, e)
+
+-- a test of type 9 packets that does not hold of one
+of-9 : (nine b : Bool) → nine ≡ true → (nine && b) ≡ false → b ≡ false
+of-9 true b e h = h
+of-9 false b e h = absurd (false≢true e)
+
+right-size : (s : State) (streams messages response : List ℕ) → wrongSizes s streams messages response ≡ false → length streams ≡ 16 * s .room
+unfolding wrongSizes
+right-size s streams messages response e =
+    let rooms = or-false (not (eqb (length streams) (16 * s .room))) _ (or-false (not (eqb (length streams) (16 * s .room)) || not (eqb (length messages) 32768)) _ e .0) .0 in
+    eqb-true (length streams) (16 * s .room) (not-false (eqb (length streams) (16 * s .room)) rooms)
+
+below-16 : (s : State) (g : Segment) → notOpen s g ≡ false → noneFree s g ≡ false → stream.contextFor s g < 16
+unfolding notOpen noneFree
+below-16 s g e8 e10 = go (g .begins) (flowOpen s g) refl e8 e10
+  where
+    go : (b o : Bool) → flowOpen s g ≡ o → (not b && not o) ≡ false → (b && (not o && not (ltb (freeStream s) 16))) ≡ false → cond o (foundFor s g) (freeStream s) < 16
+    go b true e h8 h10 = ltb-true (foundFor s g) 16 e
+    go true false e h8 h10 = ltb-true (freeStream s) 16 (not-false (ltb (freeStream s) 16) h10)
+    go false false e h8 h10 = absurd (false≢true (sym h8))
+
+pub length-is-measured : LengthIsMeasured
+unfolding reading
+length-is-measured b p context source cos st size = by-verdict (verdict (table x)) refl
+  where
+    x : Lent
+    x = lent (b .words) (b .streamMemory) (b .messageMemory) (b .response) p
+
+    placeable : is9 x ≡ true → none (table x) → Placeable (stateIn x) (b .streamMemory) (segmentIn x)
+    placeable nine rows = unfold none table in record {
+      size = right-size (stateIn x) (b .streamMemory) (b .messageMemory) (b .response) (or-false (not (isState x)) (wrongMemory x) (rows .1 .0) .1);
+      context = below-16 (stateIn x) (segmentIn x) (of-9 (is9 x) _ nine (rows .1 .1 .1 .1 .1 .1 .1 .1 .1 .1 .1 .0)) (of-9 (is9 x) _ nine (rows .1 .1 .1 .1 .1 .1 .1 .1 .1 .1 .1 .1 .1 .0));
+      fits = unfold passesRoom in (ltb-false (stateIn x .room) (total (stateIn x) (segmentIn x)) (of-9 (is9 x) _ nine (rows .1 .1 .1 .1 .1 .1 .1 .1 .1 .1 .1 .1 .0)));
+    }
+
+    by-type : (t : Bool) → is9 x ≡ t → none (table x)
+        → (cond t
+        (ofStream x (stream.accepted (stateIn x) (b .streamMemory) p (segmentIn x)))
+        (ofMessage x (message.accepted (stateIn x) (b .messageMemory) (b .response) p (messageSegmentIn x)))) .says ≡ answers.delivered context source cos st size
+        → length (inRoom (stateIn x .room) ((cond t
+        (ofStream x (stream.accepted (stateIn x) (b .streamMemory) p (segmentIn x)))
+        (ofMessage x (message.accepted (stateIn x) (b .messageMemory) (b .response) p (messageSegmentIn x)))) .streamMemory) context size) ≡ size
+    by-type true nine rows e = measured-stream (stateIn x) (b .streamMemory) p (segmentIn x) (placeable nine rows) context source cos st size e
+    by-type false nine rows e = absurd (messages-none (stateIn x) (b .messageMemory) (b .response) p (messageSegmentIn x) context source cos st size e)
+
+    by-verdict : (v : Verdict) → verdict (table x) ≡ v → outcome x v .says ≡ answers.delivered context source cos st size
+        → length (inRoom (stateIn x .room) (outcome x v .streamMemory) context size) ≡ size
+    by-verdict (refuse number leaves) e d = absurd (leaving-none x number leaves context source cos st size d)
+    by-verdict accept e d = by-type (is9 x) refl (none-held (table x) e) d

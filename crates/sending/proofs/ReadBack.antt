@@ -1,0 +1,144 @@
+-- One PDU alone, read back: before packet k the flow has the first k MTU bytes.
+use Prim.Native.Nat.{ℕ, zero, suc, _*_, _<_}
+use mathlib.Core.Path.{_≡_, sym, ap, _∙_, subst}
+use mathlib.Core.List.{List, [], _∷_}
+use mathlib.Core.Bool.{Bool, false}
+use mathlib.Core.Option.{Option, none, some}
+use native.Mathlib.Omega.{arith}
+use lib.ListN.{length, take}
+use lib.Seq.{length-take-le}
+use Rattle.answers.specs.Answers as answers
+use Rattle.wire.specs.declared.Flow.{Flow}
+use Rattle.flows.specs.OneFlow.{PDU, pdu, Told, held, delivered, refused, Outcome, outcome}
+use Rattle.flows.specs.Board.{Board, Delivery, delivery, deliveredBy, read, inRoom, view}
+use Rattle.flows.specs.ByFlow.{Tells}
+use Rattle.sending.specs.Sending.{Sent, packetCount, FairPDU, Ranges}
+use Rattle.sending.specs.OneFlow.{packetStep}
+use Rattle.sending.specs.Statements.{packetAt, boardAt, HandsBack, ReadsBack, ReadBack}
+use Rattle.sending.proofs.Steps.{inner-size, data-behind, all-taken, at-single, at-start, at-inner, at-last}
+use Rattle.sending.proofs.OneFlow.{proper-packet}
+use Rattle.sending.proofs.Rooms.{Carried, carried}
+use Rattle.sending.proofs.Calls.{Own, by-own, among-itself}
+use Rattle.sending.proofs.Measured.{length-is-measured}
+
+-- ---- An answer that delivers a PDU
+
+module _ (R : ℕ) (memory : List ℕ) (flow : Flow) (p : PDU) where
+  -- the answer's numbers, from what it delivers
+  record Numbers (says : answers.Said) : Type 0 where
+    context : ℕ
+    size : ℕ
+    answer : says ≡ answers.delivered context (flow .source) (flow .cos) (p .stream) size
+    holds : inRoom R memory context size ≡ p .bytes
+
+  nothing : {A : Type 0} → _≡_ {A = List Delivery} [] (delivery flow p ∷ []) → A
+  nothing e = absurd (let z : _≡_ {A = ℕ} 0 1 = cc in omega arith)
+
+  numbers : (says : answers.Said) → deliveredBy R memory says ≡ delivery flow p ∷ [] → Numbers says
+  numbers (answers.delivered context source cos stream size) e =
+      let d : delivery (record { source = source; cos = cos }) (pdu stream (inRoom R memory context size)) ≡ delivery flow p = cc in
+      let es : source ≡ flow .source = ap (λ (x : Delivery). x .flow .source) d in
+      let ec : cos ≡ flow .cos = ap (λ (x : Delivery). x .flow .cos) d in
+      let et : stream ≡ p .stream = ap (λ (x : Delivery). x .pdu .stream) d in
+      record {
+        context = context;
+        size = size;
+        answer = make source (flow .source) cos (flow .cos) stream (p .stream) es ec et;
+        holds = ap (λ (x : Delivery). x .pdu .bytes) d;
+      }
+    where
+      make : (s s′ c c′ t t′ : ℕ) → s ≡ s′ → c ≡ c′ → t ≡ t′ → answers.delivered context s c t size ≡ answers.delivered context s′ c′ t′ size
+      make s s′ c c′ t t′ x y z = rw (x, y, z)
+  numbers answers.held e = nothing e
+  numbers (answers.message context source letter mailbox size) e = nothing e
+  numbers (answers.refused number) e = nothing e
+  numbers answers.ready e = nothing e
+  numbers answers.closed e = nothing e
+  numbers answers.free e = nothing e
+  numbers (answers.wrote size) e = nothing e
+
+-- the same with the length, which is that of the bytes
+hands-back : (R : ℕ) (flow : Flow) (p : PDU) (b : Board) (says : answers.Said)
+    → ((context source cos stream size : ℕ) → says ≡ answers.delivered context source cos stream size → length (inRoom R (b .streamMemory) context size) ≡ size)
+    → deliveredBy R (b .streamMemory) says ≡ delivery flow p ∷ [] → HandsBack R flow p b says
+hands-back R flow p b says measured e =
+    let n = numbers R (b .streamMemory) flow p says e in
+    let size-is : n .size ≡ length (p .bytes) = sym (measured (n .context) (flow .source) (flow .cos) (p .stream) (n .size) (n .answer)) ∙ ap length (n .holds) in
+    record {
+      context = n .context;
+      answer = n .answer ∙ ap (answers.delivered (n .context) (flow .source) (flow .cos) (p .stream)) size-is;
+      holds = ap (inRoom R (b .streamMemory) (n .context)) (sym size-is) ∙ n .holds;
+    }
+
+-- ---- The PDU's packets, one after the other
+
+module _ (device mtu R : ℕ) (flow : Flow) (s : Sent) (b : Board) (ranges : Ranges device mtu R flow) (fair : FairPDU R s) (begins : Carried device mtu R (flow ∷ []) b) where
+  abbrev bytes : List ℕ
+  bytes = s .pdu .bytes
+
+  -- what the flow has before packet k
+  abbrev before : ℕ → Option PDU
+  before zero = none
+  before (suc k) = some (pdu (s .pdu .stream) (take (suc k * mtu) bytes))
+
+  so-far : (k : ℕ) → suc k < packetCount mtu s → length (take (suc k * mtu) bytes) ≡ suc k * mtu
+  so-far k h = let z = inner-size device mtu R flow ranges s fair k h in length-take-le (suc k * mtu) bytes (omega arith)
+
+  -- what the endpoint does at it
+  step-inner : (k : ℕ) → suc k < packetCount mtu s → (dropped : Bool) × (packetStep mtu R (before k) (packetAt device mtu flow s k) ≡ outcome (before (suc k)) held dropped)
+  step-inner zero h = (false, at-start device mtu R flow ranges s fair none h)
+  step-inner (suc k) h =
+      let l = so-far k (omega arith) in
+      let z = inner-size device mtu R flow ranges s fair (suc k) h in (
+        false,
+        at-inner device mtu R flow ranges s fair k (pdu (s .pdu .stream) (take (suc k * mtu) bytes)) h (omega (arith, fair .fits))
+            ∙ ap (λ (x : List ℕ). outcome (some (pdu (s .pdu .stream) x)) held false) (data-behind device mtu R flow ranges s fair (suc k)),
+      )
+
+  step-last : (k : ℕ) → suc k ≡ packetCount mtu s → packetStep mtu R (before k) (packetAt device mtu flow s k) .told ≡ delivered (s .pdu)
+  step-last zero e = ap (λ (x : Outcome). x .told) (at-single device mtu R flow ranges s fair none e)
+  step-last (suc k) e =
+      ap (λ (x : Outcome). x .told) (at-last device mtu R flow ranges s fair k (pdu (s .pdu .stream) (take (suc k * mtu) bytes)) e (so-far k (omega arith)))
+      ∙ ap (λ (x : List ℕ). delivered (pdu (s .pdu .stream) x)) (data-behind device mtu R flow ranges s fair (suc k) ∙ all-taken device mtu R flow ranges s fair (suc k) e)
+
+  -- the board before packet k
+  record Before (k : ℕ) : Type 0 where
+    ok : begins .Ok (boardAt device mtu flow s b k)
+    has : view (boardAt device mtu flow s b k) flow ≡ before k
+
+  call : (k : ℕ) → k < packetCount mtu s → Before k → Own (begins .Ok) mtu R flow (boardAt device mtu flow s b k) (packetAt device mtu flow s k)
+  call k below at =
+      by-own device mtu R (flow ∷ []) (begins .Ok) (begins .law) (begins .own-R) flow (among-itself flow) (boardAt device mtu flow s b k) (packetAt device mtu flow s k) (at .ok)
+      (proper-packet device mtu R flow ranges s fair k below)
+
+  reached : (k : ℕ) → k < packetCount mtu s → Before k
+  reached zero below = record { ok = begins .ok; has = begins .closed flow }
+  reached (suc k) below =
+      let at = reached k (omega arith) in
+      let c = call k (omega arith) at in
+      record {
+        ok = c .ok;
+        has = c .own ∙ ap (λ (o : Option PDU). packetStep mtu R o (packetAt device mtu flow s k) .next) (at .has) ∙ ap (λ (x : Outcome). x .next) (step-inner k below .1);
+      }
+
+  tells-at : (k : ℕ) (told : Told) → k < packetCount mtu s → packetStep mtu R (before k) (packetAt device mtu flow s k) .told ≡ told
+      → Tells R (boardAt device mtu flow s b (suc k) .streamMemory) flow (read (boardAt device mtu flow s b k) (packetAt device mtu flow s k) .says) told
+  tells-at k told below e =
+      let at = reached k below in
+      subst (Tells R (boardAt device mtu flow s b (suc k) .streamMemory) flow (read (boardAt device mtu flow s b k) (packetAt device mtu flow s k) .says))
+      (ap (λ (o : Option PDU). packetStep mtu R o (packetAt device mtu flow s k) .told) (at .has) ∙ e) (call k below at .tells)
+
+  reads-back : ReadsBack device mtu R flow s b
+  reads-back = record {
+    each = λ k h. tells-at k held (omega arith) (ap (λ (x : Outcome). x .told) (step-inner k h .1));
+    last = λ k e.
+        hands-back R flow (s .pdu) (boardAt device mtu flow s b (suc k)) _
+        (λ context source cos stream size e′.
+        ap (λ (r : ℕ). length (inRoom r (boardAt device mtu flow s b (suc k) .streamMemory) context size)) (sym (begins .own-R (boardAt device mtu flow s b k) (reached k (omega arith) .ok)))
+        ∙ length-is-measured (boardAt device mtu flow s b k) (packetAt device mtu flow s k) context source cos stream size e′)
+        (tells-at k (delivered (s .pdu)) (omega arith) (step-last k e));
+  }
+
+-- DEMAND 2.
+pub read-back : ReadBack
+read-back device mtu R flow s b ranges fair begins = reads-back device mtu R flow s b ranges fair (carried device mtu R (flow ∷ []) b begins)

@@ -1,0 +1,95 @@
+-- R stays: no packet changes it, on any board.
+use Prim.Native.Nat.{ℕ}
+use mathlib.Core.Path.{_≡_, refl, _∙_}
+use mathlib.Core.List.{List}
+use mathlib.Core.Bool.{Bool, true, false, cond}
+use mathlib.Core.Option.{none}
+use Rattle.answers.specs.Refusals.{Leaves, all, flowClosed, allERROR, allRETRY, Verdict, refuse, accept, verdict}
+use Rattle.wire.specs.declared.Flow.{Flow}
+use Rattle.wire.specs.declared.Segment.{Segment}
+use Rattle.wire.specs.declared.MessageSegment.{MessageSegment}
+use Rattle.wire.specs.Type11.{isSingle}
+use Rattle.contexts.specs.State.{State, freeMessage, messageIn}
+use Rattle.contexts.specs.Words.{stateOf, wordsOf}
+use Rattle.messages.specs.Rows.{foundFor as found, messageOpen}
+use Rattle.stream_rooms.specs.Placing as placing
+use Rattle.streams.specs.Joining as stream
+use Rattle.message_rooms.specs.Placing as boxes
+use Rattle.messages.specs.Joining as message
+use Rattle.reading.specs.Table.{Lent, stateIn, segmentIn, messageSegmentIn, is9, table}
+use Rattle.reading.specs.Read.{lent, ofStream, ofMessage, leaving, outcome, reading}
+use Rattle.flows.specs.Board.{Board, after, room, view}
+use Rattle.flows.specs.ByFlow.{OwnFlow, NoFlow, ByFlow}
+use Rattle.sending.specs.Statements.{Begins}
+
+-- words tell the R of their state
+words-room : (s : State) → stateOf (wordsOf s) .room ≡ s .room
+unfolding stateOf wordsOf
+words-room s = refl
+
+refused-room : (x : Lent) (number : ℕ) (leaves : Leaves) → stateOf (leaving x number leaves .words) .room ≡ stateIn x .room
+unfolding stream.refusedClosing
+refused-room x number all = refl
+refused-room x number flowClosed = words-room (stream.refusedClosing (stateIn x) (x .streamMemory) (segmentIn x) number .state)
+refused-room x number allERROR = refl
+refused-room x number allRETRY = refl
+
+message-room : (s : State) (memory response p : List ℕ) (m : MessageSegment) → message.accepted s memory response p m .state .room ≡ s .room
+unfolding message.accepted message.alone boxes.placed
+message-room s memory response p m = go (isSingle m) (messageOpen s m)
+  where
+    go : (a b : Bool)
+        → cond a (message.alone s memory response p m (freeMessage s)) (cond b
+        (boxes.placed s memory response p m (found s m) (messageIn s (found s m) .marks) (messageIn s (found s m) .last))
+        (boxes.placed s memory response p m (freeMessage s) 0 0)) .state .room ≡ s .room
+    go true b = refl
+    go false true = refl
+    go false false = refl
+
+accepted-room : (x : Lent) (t : Bool)
+    → stateOf (cond t
+    (ofStream x (stream.accepted (stateIn x) (x .streamMemory) (x .packet) (segmentIn x)))
+    (ofMessage x (message.accepted (stateIn x) (x .messageMemory) (x .response) (x .packet) (messageSegmentIn x))) .words) .room ≡ stateIn x .room
+unfolding stream.accepted placing.placed
+accepted-room x true = words-room (stream.accepted (stateIn x) (x .streamMemory) (x .packet) (segmentIn x) .state)
+accepted-room x false =
+    words-room (message.accepted (stateIn x) (x .messageMemory) (x .response) (x .packet) (messageSegmentIn x) .state)
+    ∙ message-room (stateIn x) (x .messageMemory) (x .response) (x .packet) (messageSegmentIn x)
+
+pub room-stays : (b : Board) (p : List ℕ) → room (after b p) ≡ room b
+unfolding reading
+room-stays b p = go (verdict (table x))
+  where
+    x : Lent
+    x = lent (b .words) (b .streamMemory) (b .messageMemory) (b .response) p
+
+    go : (v : Verdict) → stateOf (outcome x v .words) .room ≡ stateIn x .room
+    go (refuse number leaves) = refused-room x number leaves
+    go accept = accepted-room x (is9 x)
+
+-- so the laws may carry it along
+pub record Carried (device mtu R : ℕ) (flows : List Flow) (b : Board) : Type 1 where
+  pub Ok : Board → Type 0
+  pub law : ByFlow device mtu R flows Ok
+  pub own-R : (c : Board) → Ok c → room c ≡ R
+  pub ok : Ok b
+  pub closed : (flow : Flow) → view b flow ≡ none
+
+pub carried : (device mtu R : ℕ) (flows : List Flow) (b : Board) → Begins device mtu R flows b → Carried device mtu R flows b
+carried device mtu R flows b begins = record {
+  Ok = λ (c : Board). begins .Ok c × (room c ≡ R);
+  law = record {
+    of-flow = λ c p g ok bytes e known. own c p g (ok .1) (begins .law .of-flow c p g (ok .0) bytes e known);
+    of-message = λ c p m ok bytes e. no c p (ok .1) (begins .law .of-message c p m (ok .0) bytes e);
+    of-refused = λ c p number ok bytes e. no c p (ok .1) (begins .law .of-refused c p number (ok .0) bytes e);
+  };
+  own-R = λ c ok. ok .1;
+  ok = (begins .ok, begins .own-R);
+  closed = begins .closed;
+}
+  where
+    own : (c : Board) (p : List ℕ) (g : Segment) → room c ≡ R → OwnFlow (begins .Ok) mtu R c p g → OwnFlow (λ (d : Board). begins .Ok d × (room d ≡ R)) mtu R c p g
+    own c p g e o = record { ok = (o .ok, room-stays c p ∙ e); own = o .own; others = o .others; tells = o .tells; drops = o .drops }
+
+    no : (c : Board) (p : List ℕ) → room c ≡ R → NoFlow (begins .Ok) R c p → NoFlow (λ (d : Board). begins .Ok d × (room d ≡ R)) R c p
+    no c p e o = record { ok = (o .ok, room-stays c p ∙ e); views = o .views; tells = o .tells }

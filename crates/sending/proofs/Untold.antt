@@ -1,0 +1,197 @@
+-- No receiver can tell a joint from a PDU that was sent whole: packet 0 is the first's, every later one the second's, byte for byte.
+use Prim.Native.Nat.{ℕ, zero, suc, _+_, _-_, _*_, _≤_}
+use mathlib.Core.Path.{_≡_, refl, sym, ap, _∙_, subst}
+use mathlib.Core.List.{List, [], _∷_, _++_}
+use mathlib.Core.Bool.{Bool, true, false, _&&_, false≢true}
+use native.Mathlib.Omega.{arith}
+use native.Mathlib.Nat.{zero-mul}
+use lib.ListN.{length, take, drop, getD}
+use lib.Seq.{length-take-le, take-at, drop-append-add, drop-drop, getD-drop}
+use lib.Dec.{eqb, leb}
+use borrow.Author.Tests.{eqb-true, leb-true, eq-eqb, ne-eqb}
+use Rattle.wire.specs.declared.Flow.{Flow}
+use Rattle.lists.specs.Bytes.{high, low}
+use Rattle.cutting.specs.Cutting.{segmentCount, dataOf, isFirst, isFinal, padOf, flagsOf, fieldOf, packetOf}
+use Rattle.sending.specs.Sending.{Sent, isLost, priorityOf, packetCount, lossesFrom, losses, Put, headingOf, putOf, putsFrom, flowPuts, FairPDU}
+use Rattle.sending.specs.OneFlow.{arriving}
+use Rattle.sending.specs.Joint.{isJoint, jointPDU, pairPackets, Pair, jointSent, JointUntold}
+use Rattle.sending.proofs.Cut.{bytes-append, bytes-take, bytes-drop}
+use Rattle.sending.proofs.Steps.{inner-size}
+use Rattle.sending.proofs.Losses.{no-losses, count-lost, none-lost, lost-counts}
+use Rattle.sending.proofs.Joint.{joint-length}
+
+-- what the test says
+record Joint (mtu : ℕ) (a b : Sent) : Type 0 where
+  two : packetCount mtu a ≡ 2
+  end-lost : isLost a 1 ≡ true
+  several : 2 ≤ packetCount mtu b
+  start-lost : isLost b 0 ≡ true
+
+is-joint : (mtu : ℕ) (a b : Sent) → isJoint mtu a b ≡ true → Joint mtu a b
+unfolding isJoint
+is-joint mtu a b e = go (eqb (packetCount mtu a) 2) (isLost a 1) (leb 2 (packetCount mtu b)) (isLost b 0) refl refl refl refl e
+  where
+    go : (p x q y : Bool) → eqb (packetCount mtu a) 2 ≡ p → isLost a 1 ≡ x → leb 2 (packetCount mtu b) ≡ q → isLost b 0 ≡ y → ((p && x) && (q && y)) ≡ true → Joint mtu a b
+    go true true true true ep ex eq ey e = record { two = eqb-true (packetCount mtu a) 2 ep; end-lost = ex; several = leb-true 2 (packetCount mtu b) eq; start-lost = ey }
+    go true true true false ep ex eq ey e = absurd (false≢true e)
+    go true true false y ep ex eq ey e = absurd (false≢true e)
+    go true false q y ep ex eq ey e = absurd (false≢true e)
+    go false x q y ep ex eq ey e = absurd (false≢true e)
+
+-- n packets from number k on
+abbrev packetsFrom : (device mtu : ℕ) → Flow → Sent → (k n : ℕ) → List (List ℕ)
+packetsFrom device mtu flow s k zero = []
+packetsFrom device mtu flow s k (suc n) = packetOf (headingOf device flow s k) mtu (s .pdu .bytes) k ∷ packetsFrom device mtu flow s (suc k) n
+
+-- none of them lost, they all arrive
+module _ (device mtu : ℕ) (flow : Flow) (s : Sent) (more : List Put) where
+  arriving-lost : (k : ℕ) (xs : List Put) → isLost s k ≡ true → arriving (putOf device mtu flow s k ∷ xs) ≡ arriving xs
+  unfolding putOf
+  arriving-lost k xs e = rw e
+
+  arriving-seen : (k : ℕ) (xs : List Put) → isLost s k ≡ false → arriving (putOf device mtu flow s k ∷ xs) ≡ packetOf (headingOf device flow s k) mtu (s .pdu .bytes) k ∷ arriving xs
+  unfolding putOf
+  arriving-seen k xs e = rw e
+
+  all-arrive : (n k : ℕ) → lossesFrom (s .lost) k n ≡ 0 → arriving (putsFrom device mtu flow s k n ++ more) ≡ packetsFrom device mtu flow s k n ++ arriving more
+  all-arrive zero k e = refl
+  all-arrive (suc n) k e =
+      let h = none-lost (s .lost) k n e in
+      arriving-seen k (putsFrom device mtu flow s (suc k) n ++ more) (h .0) ∙ ap (λ (l : List (List ℕ)). packetOf (headingOf device flow s k) mtu (s .pdu .bytes) k ∷ l) (all-arrive n (suc k) (h .1))
+
+-- ---- Two packets are the same by their parts
+
+abbrev parts : (device : ℕ) → Flow → (k priority : ℕ) → (final : Bool) → (field bytes : List ℕ) → List ℕ
+parts device flow k priority final field bytes =
+    (priority * 64 + 0b01 * 16 + 9)
+    ∷ high device ∷ low device
+    ∷ high (flow .source) ∷ low (flow .source)
+    ∷ flow .cos
+    ∷ flagsOf (isFirst k) final (length bytes)
+    ∷ (field ++ bytes ++ padOf (length bytes))
+
+same-parts : (device : ℕ) (flow : Flow) (k q q′ : ℕ) (l l′ : Bool) (f f′ d d′ : List ℕ) → q ≡ q′ → l ≡ l′ → f ≡ f′ → d ≡ d′ → parts device flow k q l f d ≡ parts device flow k q′ l′ f′ d′
+same-parts device flow k q q′ l l′ f f′ d d′ e₁ e₂ e₃ e₄ = rw (e₁, e₂, e₃, e₄)
+
+-- the k-th of two PDUs
+abbrev fieldAt : ℕ → Sent → ℕ → List ℕ
+fieldAt mtu s k = fieldOf (isFirst k) (isFinal mtu (s .pdu .bytes) k) (s .pdu .stream) (length (s .pdu .bytes))
+
+same-packet : (device mtu : ℕ) (flow : Flow) (s s′ : Sent) (k : ℕ) → priorityOf s k ≡ priorityOf s′ k → isFinal mtu (s .pdu .bytes) k ≡ isFinal mtu (s′ .pdu .bytes) k
+    → fieldAt mtu s k ≡ fieldAt mtu s′ k → dataOf mtu (s .pdu .bytes) k ≡ dataOf mtu (s′ .pdu .bytes) k
+    → packetOf (headingOf device flow s k) mtu (s .pdu .bytes) k ≡ packetOf (headingOf device flow s′ k) mtu (s′ .pdu .bytes) k
+unfolding packetOf
+same-packet device mtu flow s s′ k e₁ e₂ e₃ e₄ = same-parts device flow k _ _ _ _ _ _ _ _ e₁ e₂ e₃ e₄
+
+-- ---- The joint's packets
+
+module _ (device mtu R : ℕ) (flow : Flow) (a b : Sent) (pair : Pair device mtu R flow a b) (test : isJoint mtu a b ≡ true) where
+  j : Joint mtu a b
+  j = is-joint mtu a b test
+
+  pub front-length : length (take mtu (a .pdu .bytes)) ≡ mtu
+  front-length =
+      let size = inner-size device mtu R flow (pair .ranges) a (pair .first-fair) 0 (omega (arith, j .two)) in
+      length-take-le mtu (a .pdu .bytes) (omega arith)
+
+  same-length : length (jointPDU mtu a b .bytes) ≡ length (b .pdu .bytes)
+  same-length = joint-length device mtu R flow a b pair test
+
+  later-data : (k : ℕ) → dataOf mtu (jointPDU mtu a b .bytes) (suc k) ≡ dataOf mtu (b .pdu .bytes) (suc k)
+  unfolding dataOf
+  later-data k = ap (take mtu) (
+      ap (λ (n : ℕ). drop n (jointPDU mtu a b .bytes)) (let e : suc k * mtu ≡ length (take mtu (a .pdu .bytes)) + k * mtu = omega (arith, front-length) in e)
+      ∙ drop-append-add (take mtu (a .pdu .bytes)) (drop mtu (b .pdu .bytes)) (k * mtu)
+      ∙ drop-drop (k * mtu) mtu (b .pdu .bytes)
+      ∙ ap (λ (n : ℕ). drop n (b .pdu .bytes)) (let e : mtu + k * mtu ≡ suc k * mtu = omega arith in e)
+      )
+
+  first-data : dataOf mtu (jointPDU mtu a b .bytes) 0 ≡ dataOf mtu (a .pdu .bytes) 0
+  unfolding dataOf
+  first-data = rw (zero-mul mtu) (take-at (take mtu (a .pdu .bytes)) (drop mtu (b .pdu .bytes)) mtu front-length)
+
+  first-packet : packetOf (headingOf device flow (jointSent mtu a b) 0) mtu (jointPDU mtu a b .bytes) 0 ≡ packetOf (headingOf device flow a 0) mtu (a .pdu .bytes) 0
+  unfolding isFirst isFinal fieldOf
+  first-packet =
+      same-packet device mtu flow (jointSent mtu a b) a 0 refl
+      (ne-eqb (0 + 1) (packetCount mtu (jointSent mtu a b)) (λ e. omega (arith, j .several, ap (segmentCount mtu) same-length)) ∙ sym (ne-eqb (0 + 1) (packetCount mtu a) (λ e. omega (arith, j .two))))
+      refl first-data
+
+  later-packet : (k : ℕ) → packetOf (headingOf device flow (jointSent mtu a b) (suc k)) mtu (jointPDU mtu a b .bytes) (suc k) ≡ packetOf (headingOf device flow b (suc k)) mtu (b .pdu .bytes) (suc k)
+  unfolding isFirst isFinal
+  later-packet k =
+      let final : isFinal mtu (jointPDU mtu a b .bytes) (suc k) ≡ isFinal mtu (b .pdu .bytes) (suc k) = ap (λ (n : ℕ). eqb (suc k + 1) (segmentCount mtu n)) same-length in
+      same-packet device mtu flow (jointSent mtu a b) b (suc k)
+      (getD-drop 1 (b .priorities) k 0 ∙ ap (λ (n : ℕ). getD (b .priorities) n 0) (let e : 1 + k ≡ suc k = omega arith in e))
+      final (field (isFinal mtu (jointPDU mtu a b .bytes) (suc k)) (isFinal mtu (b .pdu .bytes) (suc k)) final) (later-data k)
+    where
+      field : (l l′ : Bool) → l ≡ l′ → fieldOf (isFirst (suc k)) l (a .pdu .stream) (length (jointPDU mtu a b .bytes)) ≡ fieldOf (isFirst (suc k)) l′ (b .pdu .stream) (length (b .pdu .bytes))
+      field l l′ e = unfold fieldOf in rw (ne-eqb (suc k) 0 (λ z. omega arith), e, same-length)
+
+  later-packets : (n k : ℕ) → packetsFrom device mtu flow (jointSent mtu a b) (suc k) n ≡ packetsFrom device mtu flow b (suc k) n
+  later-packets zero k = refl
+  later-packets (suc n) k =
+      ap (λ (p : List ℕ). p ∷ packetsFrom device mtu flow (jointSent mtu a b) (suc (suc k)) n) (later-packet k)
+      ∙ ap (λ (l : List (List ℕ)). packetOf (headingOf device flow b (suc k)) mtu (b .pdu .bytes) (suc k) ∷ l) (later-packets n (suc k))
+
+  -- the first's start arrives, since its end is the one that is lost
+  start-arrives : isLost a 0 ≡ false
+  start-arrives = go (isLost a 0) refl
+    where
+      one : lossesFrom (a .lost) 0 2 ≡ 1
+      one = subst (λ (c : ℕ). lossesFrom (a .lost) 0 c ≡ 1) (j .two) (pair .first-loses)
+
+      go : (t : Bool) → isLost a 0 ≡ t → t ≡ false
+      go true e = absurd (omega (arith, count-lost (a .lost) 0 1 0 e one, lost-counts (a .lost) 1 1 1 (j .end-lost) (omega arith) (omega arith)))
+      go false e = refl
+
+  first-left : (more : List Put) → arriving (putsFrom device mtu flow a 0 (packetCount mtu a) ++ more) ≡ packetOf (headingOf device flow a 0) mtu (a .pdu .bytes) 0 ∷ arriving more
+  first-left more =
+      subst (λ (c : ℕ). arriving (putsFrom device mtu flow a 0 c ++ more) ≡ packetOf (headingOf device flow a 0) mtu (a .pdu .bytes) 0 ∷ arriving more) (sym (j .two))
+      (arriving-seen device mtu flow a more 0 (putOf device mtu flow a 1 ∷ more) start-arrives
+      ∙ ap (λ (l : List (List ℕ)). packetOf (headingOf device flow a 0) mtu (a .pdu .bytes) 0 ∷ l) (arriving-lost device mtu flow a more 1 more (j .end-lost)))
+
+  second-left : (n : ℕ) → packetCount mtu b ≡ suc n → arriving (putsFrom device mtu flow b 0 (packetCount mtu b) ++ []) ≡ packetsFrom device mtu flow b 1 n ++ []
+  second-left n e =
+      let one : lossesFrom (b .lost) 0 (suc n) ≡ 1 = subst (λ (c : ℕ). lossesFrom (b .lost) 0 c ≡ 1) e (pair .second-loses) in
+      subst (λ (c : ℕ). arriving (putsFrom device mtu flow b 0 c ++ []) ≡ packetsFrom device mtu flow b 1 n ++ []) (sym e)
+      (arriving-lost device mtu flow b [] 0 (putsFrom device mtu flow b 1 n ++ []) (j .start-lost)
+      ∙ all-arrive device mtu flow b [] n 1 (count-lost (b .lost) 0 n 0 (j .start-lost) one))
+
+  joint-left : (n : ℕ) → packetCount mtu b ≡ suc n
+      → arriving (flowPuts device mtu flow (jointSent mtu a b ∷ [])) ≡ packetOf (headingOf device flow (jointSent mtu a b) 0) mtu (jointPDU mtu a b .bytes) 0 ∷ (packetsFrom device mtu flow (jointSent mtu a b) 1 n ++ [])
+  joint-left n e =
+      let count : packetCount mtu (jointSent mtu a b) ≡ suc n = ap (segmentCount mtu) same-length ∙ e in
+      all-arrive device mtu flow (jointSent mtu a b) [] (packetCount mtu (jointSent mtu a b)) 0 (no-losses 0 (packetCount mtu (jointSent mtu a b)))
+      ∙ ap (λ (c : ℕ). packetsFrom device mtu flow (jointSent mtu a b) 0 c ++ []) count
+
+  same-packets : pairPackets device mtu flow a b ≡ arriving (flowPuts device mtu flow (jointSent mtu a b ∷ []))
+  same-packets = go (packetCount mtu b) refl
+    where
+      go : (c : ℕ) → packetCount mtu b ≡ c → pairPackets device mtu flow a b ≡ arriving (flowPuts device mtu flow (jointSent mtu a b ∷ []))
+      go zero e = absurd (omega (arith, j .several))
+      go (suc n) e =
+          first-left (putsFrom device mtu flow b 0 (packetCount mtu b) ++ [])
+          ∙ ap (λ (l : List (List ℕ)). packetOf (headingOf device flow a 0) mtu (a .pdu .bytes) 0 ∷ l) (second-left n e ∙ ap (λ (l : List (List ℕ)). l ++ []) (sym (later-packets n 0)))
+          ∙ ap (λ (p : List ℕ). p ∷ (packetsFrom device mtu flow (jointSent mtu a b) 1 n ++ [])) (sym first-packet)
+          ∙ sym (joint-left n e)
+
+  joint-fair : FairPDU R (jointSent mtu a b)
+  joint-fair = record {
+    stream = pair .first-fair .stream;
+    bytes = bytes-append (take mtu (a .pdu .bytes)) (drop mtu (b .pdu .bytes)) (bytes-take mtu (a .pdu .bytes) (pair .first-fair .bytes)) (bytes-drop mtu (b .pdu .bytes) (pair .second-fair .bytes));
+    some-byte = omega (arith, same-length, pair .second-fair .some-byte);
+    fits = omega (arith, same-length, pair .second-fair .fits);
+    priorities = priority;
+  }
+    where
+      priority : (k : ℕ) → priorityOf (jointSent mtu a b) k ≤ 3
+      priority zero = pair .first-fair .priorities 0
+      priority (suc k) = subst (λ (q : ℕ). q ≤ 3) (sym (getD-drop 1 (b .priorities) k 0)) (pair .second-fair .priorities (1 + k))
+
+pub joint-untold : JointUntold
+joint-untold device mtu R flow a b pair test = record {
+  fair = joint-fair device mtu R flow a b pair test;
+  intact = eq-eqb (losses mtu (jointSent mtu a b)) 0 (no-losses 0 (packetCount mtu (jointSent mtu a b)));
+  same-packets = same-packets device mtu R flow a b pair test;
+}

@@ -1,0 +1,74 @@
+-- THE JOINT: what demand 3 does not say. Two PDUs next to each other on one flow that both lose a packet (document 01, example 9).
+use Prim.Native.Nat.{ℕ}
+use mathlib.Core.Path.{_≡_}
+use mathlib.Core.Logic.{_↔_}
+use mathlib.Core.List.{List, [], _∷_, _++_}
+use mathlib.Core.Bool.{Bool, true, cond, _&&_}
+use mathlib.Core.Option.{none}
+use lib.ListN.{length, take, drop}
+use lib.Dec.{eqb, leb}
+use Rattle.wire.specs.declared.Flow.{Flow}
+use Rattle.flows.specs.OneFlow.{PDU, pdu}
+use Rattle.flows.specs.Board.{Board, delivery}
+use Rattle.sending.specs.Sending.{Sent, isLost, priorityOf, packetCount, losses, isWhole, flowPuts, deliveries, Ranges, FairPDU}
+use Rattle.sending.specs.OneFlow.{flowDeliveries, arriving}
+use Rattle.sending.specs.Statements.{Begins}
+
+-- the first has exactly two packets and loses its end; the second, of two or more, loses its start
+unfoldable pub isJoint : ℕ → Sent → Sent → Bool
+isJoint mtu first second = (eqb (packetCount mtu first) 2 && isLost first 1) && (leb 2 (packetCount mtu second) && isLost second 0)
+
+-- the first's streamID, its first MTU bytes, and the second's bytes from MTU on: a PDU that nobody sent
+abbrev pub jointPDU : ℕ → Sent → Sent → PDU
+jointPDU mtu first second = pdu (first .pdu .stream) (take mtu (first .pdu .bytes) ++ drop mtu (second .pdu .bytes))
+
+-- what is left of the two
+abbrev pub pairPackets : (device mtu : ℕ) → Flow → Sent → Sent → List (List ℕ)
+pairPackets device mtu flow first second = arriving (flowPuts device mtu flow (first ∷ second ∷ []))
+
+-- two PDUs of 1 to R bytes on one flow, each of which loses exactly one packet
+pub record Pair (device mtu R : ℕ) (flow : Flow) (first second : Sent) : Type 0 where
+  pub ranges : Ranges device mtu R flow
+  pub first-fair : FairPDU R first
+  pub second-fair : FairPDU R second
+  pub first-loses : losses mtu first ≡ 1
+  pub second-loses : losses mtu second ≡ 1
+
+-- from a closed flow, nothing is delivered of the two, but for the joint, which delivers exactly that PDU
+abbrev pub JointExactly : Type 0
+JointExactly =
+    (device mtu R : ℕ) (flow : Flow) (first second : Sent) → Pair device mtu R flow first second
+    → flowDeliveries mtu R none (pairPackets device mtu flow first second) ≡ cond (isJoint mtu first second) (jointPDU mtu first second ∷ []) []
+
+-- so something is delivered exactly if the two are a joint
+abbrev pub JointOnly : Type 0
+JointOnly =
+    (device mtu R : ℕ) (flow : Flow) (first second : Sent) → Pair device mtu R flow first second
+    → (flowDeliveries mtu R none (pairPackets device mtu flow first second) ≡ [] → ⊥) ↔ (isJoint mtu first second ≡ true)
+
+-- and what it delivers has the second's length
+abbrev pub JointLength : Type 0
+JointLength =
+    (device mtu R : ℕ) (flow : Flow) (first second : Sent) → Pair device mtu R flow first second
+    → isJoint mtu first second ≡ true → length (jointPDU mtu first second .bytes) ≡ length (second .pdu .bytes)
+
+-- the same of the endpoint, from a board with no open flow
+abbrev pub JointDelivered : Type 1
+JointDelivered =
+    (device mtu R : ℕ) (flow : Flow) (first second : Sent) (b : Board) → Pair device mtu R flow first second → Begins device mtu R (flow ∷ []) b
+    → deliveries b (pairPackets device mtu flow first second) ≡ cond (isJoint mtu first second) (delivery flow (jointPDU mtu first second) ∷ []) []
+
+-- NO RECEIVER CAN TELL: the packets that a joint leaves are those of another sending, in which that PDU is sent, fair and whole.
+-- So the premise of demand 3 that no two neighbours both lose a packet cannot be left out.
+abbrev pub jointSent : ℕ → Sent → Sent → Sent
+jointSent mtu first second = record { pdu = jointPDU mtu first second; lost = []; priorities = priorityOf first 0 ∷ drop 1 (second .priorities) }
+
+pub record Untold (device mtu R : ℕ) (flow : Flow) (first second : Sent) : Type 0 where
+  pub fair : FairPDU R (jointSent mtu first second)
+  pub intact : isWhole mtu (jointSent mtu first second) ≡ true
+  pub same-packets : pairPackets device mtu flow first second ≡ arriving (flowPuts device mtu flow (jointSent mtu first second ∷ []))
+
+abbrev pub JointUntold : Type 0
+JointUntold =
+    (device mtu R : ℕ) (flow : Flow) (first second : Sent) → Pair device mtu R flow first second → isJoint mtu first second ≡ true
+    → Untold device mtu R flow first second

@@ -1,0 +1,61 @@
+-- The premises can be met: two flows, a loss, and messages between. MTU 32, R 64, device 1.
+use Prim.Native.Nat.{ℕ}
+use mathlib.Core.Path.{_≡_}
+use mathlib.Core.List.{List, [], _∷_}
+use lib.ListN.{replicate}
+use Rattle.wire.specs.declared.Flow.{Flow}
+use Rattle.flows.specs.OneFlow.{pdu}
+use Rattle.flows.specs.Board.{delivery, freshBoard}
+use Rattle.sending.specs.Sending.{Sent, next, message, Sending, losses, packets, whole, deliveries, Fair}
+
+abbrev pub five : Flow
+five = record { source = 5; cos = 1 }
+
+abbrev pub six : Flow
+six = record { source = 6; cos = 2 }
+
+-- 40 bytes of 7 on stream 1, a start and an end, of which the end is lost
+abbrev pub lossy : Sent
+lossy = record { pdu = pdu 1 (replicate 40 7); lost = 1 ∷ []; priorities = 3 ∷ 3 ∷ [] }
+
+-- 40 bytes of 9 on stream 2
+abbrev pub sound : Sent
+sound = record { pdu = pdu 2 (replicate 40 9); lost = []; priorities = [] }
+
+-- 33 bytes of 3 on stream 3: the end has one byte of data, and a pad
+abbrev pub odd : Sent
+odd = record { pdu = pdu 3 (replicate 33 3); lost = []; priorities = 1 ∷ [] }
+
+-- the message of document 01's log; and a packet of type 11 with a reserved ssize, which the endpoint refuses
+abbrev pub letterOne : List ℕ
+letterOne = 0x1B ∷ 0x00 ∷ 0x01 ∷ 0x00 ∷ 0x02 ∷ 0x09 ∷ 0x60 ∷ 0x11 ∷ 0x12 ∷ 0x13 ∷ 0x14 ∷ 0x15 ∷ 0x16 ∷ 0x17 ∷ 0x18 ∷ []
+
+abbrev pub reservedSize : List ℕ
+reservedSize = 0x1B ∷ 0x00 ∷ 0x01 ∷ 0x00 ∷ 0x02 ∷ 0x00 ∷ 0x60 ∷ []
+
+abbrev pub mixture : Sending
+mixture = record {
+  flows = record { flow = five; sent = lossy ∷ sound ∷ [] } ∷ record { flow = six; sent = odd ∷ [] } ∷ [];
+  turns =
+      next five ∷ next six ∷ message letterOne ∷ next five ∷ next five ∷ message reservedSize
+      ∷ next six ∷ next five ∷ next six ∷ [];
+}
+
+-- it is fair; a packet of it is lost; these are left, to the byte; and these are whole, in the order of their last packets
+pub record MixtureIsFair : Type 0 where
+  pub fair : Fair 1 32 64 mixture
+  pub loses : losses 32 lossy ≡ 1
+  pub left : packets 1 32 mixture
+      ≡ (0xD9 ∷ 0x00 ∷ 0x01 ∷ 0x00 ∷ 0x05 ∷ 0x01 ∷ 0x80 ∷ 0x00 ∷ 0x01 ∷ replicate 32 7)
+      ∷ (0x59 ∷ 0x00 ∷ 0x01 ∷ 0x00 ∷ 0x06 ∷ 0x02 ∷ 0x80 ∷ 0x00 ∷ 0x03 ∷ replicate 32 3)
+      ∷ letterOne
+      ∷ (0x19 ∷ 0x00 ∷ 0x01 ∷ 0x00 ∷ 0x05 ∷ 0x01 ∷ 0x80 ∷ 0x00 ∷ 0x02 ∷ replicate 32 9)
+      ∷ reservedSize
+      ∷ (0x19 ∷ 0x00 ∷ 0x01 ∷ 0x00 ∷ 0x06 ∷ 0x02 ∷ 0x43 ∷ 0x00 ∷ 0x21 ∷ 0x03 ∷ 0x00 ∷ [])
+      ∷ (0x19 ∷ 0x00 ∷ 0x01 ∷ 0x00 ∷ 0x05 ∷ 0x01 ∷ 0x40 ∷ 0x00 ∷ 0x28 ∷ replicate 8 9)
+      ∷ []
+  pub complete : whole 1 32 mixture ≡ delivery six (pdu 3 (replicate 33 3)) ∷ delivery five (pdu 2 (replicate 40 9)) ∷ []
+
+-- and the endpoint, read packet by packet from a board that was just set up, delivers them
+abbrev pub MixtureDelivered : Type 0
+MixtureDelivered = deliveries (freshBoard 1 32 64 (replicate 1024 0) (replicate 32768 0) (replicate 7 0)) (packets 1 32 mixture) ≡ whole 1 32 mixture

@@ -1,0 +1,34 @@
+-- One flow by itself, packet by packet, and what it delivers.
+use Prim.Native.Nat.{ℕ}
+use mathlib.Core.List.{List, [], _∷_}
+use mathlib.Core.Bool.{cond}
+use mathlib.Core.Option.{Option, none, some}
+use Rattle.wire.specs.Type9.{segmentOf}
+use Rattle.stream_rooms.specs.Placing.{dataOf}
+use Rattle.flows.specs.OneFlow.{PDU, Told, held, delivered, refused, Outcome, flowStep}
+use Rattle.sending.specs.Sending.{Put}
+
+-- what the one-flow endpoint does at a packet
+abbrev pub packetStep : (mtu R : ℕ) → Option PDU → List ℕ → Outcome
+packetStep mtu R before p = flowStep mtu R before (segmentOf p) (dataOf p (segmentOf p))
+
+-- the PDU that an answer delivers, if one
+abbrev pub deliveredPDU : Told → Option PDU
+deliveredPDU held = none
+deliveredPDU (delivered p) = some p
+deliveredPDU (refused number) = none
+
+-- in front of others
+abbrev pub also : Option PDU → List PDU → List PDU
+also none ps = ps
+also (some p) ps = p ∷ ps
+
+-- what it delivers over packets, each with what the one before left
+abbrev pub flowDeliveries : (mtu R : ℕ) → Option PDU → List (List ℕ) → List PDU
+flowDeliveries mtu R before [] = []
+flowDeliveries mtu R before (p ∷ ps) = also (deliveredPDU (packetStep mtu R before p .told)) (flowDeliveries mtu R (packetStep mtu R before p .next) ps)
+
+-- those that are not lost
+abbrev pub arriving : List Put → List (List ℕ)
+arriving [] = []
+arriving (x ∷ xs) = cond (x .lost) (arriving xs) (x .packet ∷ arriving xs)

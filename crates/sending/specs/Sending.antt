@@ -1,0 +1,217 @@
+-- What boards send, what is left of it on the backplane, which PDUs are whole, and what the endpoint delivers (document 01, demand 3).
+use Prim.Native.Nat.{ℕ, zero, suc, _+_, _≤_, _<_}
+use mathlib.Core.Path.{_≡_}
+use mathlib.Core.List.{List, [], _∷_, _++_, map, tail}
+use mathlib.Core.Bool.{Bool, true, false, cond, _||_, _&&_}
+use mathlib.Core.Option.{Option, none, some}
+use lib.ListN.{length, getD}
+use lib.Dec.{eqb}
+use Rattle.wire.specs.Packet.{packetType}
+use Rattle.wire.specs.declared.Flow.{Flow}
+use Rattle.wire.specs.Type9.{sameFlow}
+use Rattle.sizes.specs.Sizes.{badMTU}
+use Rattle.cutting.specs.declared.Heading.{Heading}
+use Rattle.cutting.specs.Cutting.{segmentCount, isFinal, packetOf}
+use Rattle.flows.specs.OneFlow.{PDU}
+use Rattle.flows.specs.Board.{Board, Delivery, delivery, deliveredBy, read, after, room}
+use Rattle.flows.specs.ByFlow.{AreBytes}
+
+-- ---- What one flow sends
+
+-- a PDU, the numbers (from 0) of its packets that are lost, and the priorities of its packets (0 where the list ends)
+pub record Sent : Type 0 where
+  pub pdu : PDU
+  pub lost : List ℕ
+  pub priorities : List ℕ
+
+-- whether a number is in a list
+abbrev pub has : ℕ → List ℕ → Bool
+has k [] = false
+has k (x ∷ xs) = eqb k x || has k xs
+
+abbrev pub isLost : Sent → ℕ → Bool
+isLost s k = has k (s .lost)
+
+abbrev pub priorityOf : Sent → ℕ → ℕ
+priorityOf s k = getD (s .priorities) k 0
+
+-- how many packets it makes
+abbrev pub packetCount : ℕ → Sent → ℕ
+packetCount mtu s = segmentCount mtu (length (s .pdu .bytes))
+
+-- how many of n packets from number k on are lost
+abbrev pub lossesFrom : List ℕ → (k n : ℕ) → ℕ
+lossesFrom lost k zero = 0
+lossesFrom lost k (suc n) = cond (has k lost) 1 0 + lossesFrom lost (suc k) n
+
+-- how many of its packets are lost; whole: none is
+abbrev pub losses : ℕ → Sent → ℕ
+losses mtu s = lossesFrom (s .lost) 0 (packetCount mtu s)
+
+abbrev pub isWhole : ℕ → Sent → Bool
+isWhole mtu s = eqb (losses mtu s) 0
+
+-- a packet as its board puts it on: its bytes, whether it is lost, and the PDU that is whole with it, if one is
+pub record Put : Type 0 where
+  pub packet : List ℕ
+  pub lost : Bool
+  pub whole : Option PDU
+
+abbrev pub headingOf : (device : ℕ) → Flow → Sent → ℕ → Heading
+headingOf device flow s k = record {
+  destination = device;
+  source = flow .source;
+  cos = flow .cos;
+  stream = s .pdu .stream;
+  priority = priorityOf s k;
+}
+
+-- packet k of a PDU. The PDU is whole with its last packet, if no packet is lost
+unfoldable pub putOf : (device mtu : ℕ) → Flow → Sent → ℕ → Put
+putOf device mtu flow s k = record {
+  packet = packetOf (headingOf device flow s k) mtu (s .pdu .bytes) k;
+  lost = isLost s k;
+  whole = cond (isFinal mtu (s .pdu .bytes) k && isWhole mtu s) (some (s .pdu)) none;
+}
+
+-- n packets from number k on
+abbrev pub putsFrom : (device mtu : ℕ) → Flow → Sent → (k n : ℕ) → List Put
+putsFrom device mtu flow s k zero = []
+putsFrom device mtu flow s k (suc n) = putOf device mtu flow s k ∷ putsFrom device mtu flow s (suc k) n
+
+-- all that a flow puts on, in order
+abbrev pub flowPuts : (device mtu : ℕ) → Flow → List Sent → List Put
+flowPuts device mtu flow [] = []
+flowPuts device mtu flow (s ∷ ss) = putsFrom device mtu flow s 0 (packetCount mtu s) ++ flowPuts device mtu flow ss
+
+-- ---- A sending: what each flow sends, and whose turn it is
+
+pub record FlowSent : Type 0 where
+  pub flow : Flow
+  pub sent : List Sent
+
+-- a flow puts its next packet on (where it has none left, the turn passes); or a board sends a packet of type 11, whatever it holds
+pub data Turn : Type 0 where
+  next : Flow → Turn
+  message : List ℕ → Turn
+
+pub record Sending : Type 0 where
+  pub flows : List FlowSent
+  pub turns : List Turn
+
+-- what a flow has to send: its first entry; nothing where it has none
+abbrev pub sentOn : List FlowSent → Flow → List Sent
+sentOn [] flow = []
+sentOn (x ∷ xs) flow = cond (sameFlow flow (x .flow)) (x .sent) (sentOn xs flow)
+
+abbrev pub flowsOf : Sending → List Flow
+flowsOf s = map (λ (x : FlowSent). x .flow) (s .flows)
+
+-- ---- What happens on the backplane, a line for each turn
+
+pub data Event : Type 0 where
+  put : Flow → Put → Event
+  sent : List ℕ → Event
+
+abbrev pub headOf : Flow → List Put → List Event
+headOf flow [] = []
+headOf flow (x ∷ xs) = put flow x ∷ []
+
+-- the queues after a flow's turn
+abbrev pub advance : (Flow → List Put) → Flow → Flow → List Put
+advance queue flow other = cond (sameFlow other flow) (tail (queue other)) (queue other)
+
+abbrev pub events : (Flow → List Put) → List Turn → List Event
+events queue [] = []
+events queue (next flow ∷ ts) = headOf flow (queue flow) ++ events (advance queue flow) ts
+events queue (message p ∷ ts) = sent p ∷ events queue ts
+
+abbrev pub queues : (device mtu : ℕ) → Sending → Flow → List Put
+queues device mtu s flow = flowPuts device mtu flow (sentOn (s .flows) flow)
+
+-- ---- Two readings of it: the packets that are left, and the PDUs that are whole
+
+abbrev pub left : List Event → List (List ℕ)
+left [] = []
+left (put flow x ∷ es) = cond (x .lost) (left es) (x .packet ∷ left es)
+left (sent p ∷ es) = p ∷ left es
+
+abbrev pub tell : Flow → Option PDU → List Delivery → List Delivery
+tell flow none ds = ds
+tell flow (some p) ds = delivery flow p ∷ ds
+
+abbrev pub wholes : List Event → List Delivery
+wholes [] = []
+wholes (put flow x ∷ es) = tell flow (x .whole) (wholes es)
+wholes (sent p ∷ es) = wholes es
+
+-- what a sending leaves on the backplane
+abbrev pub packets : (device mtu : ℕ) → Sending → List (List ℕ)
+packets device mtu s = left (events (queues device mtu s) (s .turns))
+
+-- its whole PDUs, in the order of their last packets
+abbrev pub whole : (device mtu : ℕ) → Sending → List Delivery
+whole device mtu s = wholes (events (queues device mtu s) (s .turns))
+
+-- ---- What the endpoint delivers: a call for each packet, with the state and the memories that the call before left
+
+abbrev pub deliveries : Board → List (List ℕ) → List Delivery
+deliveries b [] = []
+deliveries b (p ∷ ps) = deliveredBy (room (after b p)) (after b p .streamMemory) (read b p .says) ++ deliveries (after b p) ps
+
+-- ---- The premises
+
+-- it holds of each
+abbrev pub Each : {A : Type 0} → (A → Type 0) → List A → Type 0
+Each P [] = Unit {0}
+Each P (x ∷ xs) = P x × Each P xs
+
+-- what all PDUs of a flow share is in its range
+pub record Ranges (device mtu R : ℕ) (flow : Flow) : Type 0 where
+  pub device-ID : device < 65536
+  pub allowed-MTU : badMTU mtu ≡ false
+  pub allowed-R : R ≤ 65536
+  pub source : flow .source < 65536
+  pub cos : flow .cos < 256
+
+-- a PDU of 1 to R bytes
+pub record FairPDU (R : ℕ) (s : Sent) : Type 0 where
+  pub stream : s .pdu .stream < 65536
+  pub bytes : AreBytes (s .pdu .bytes)
+  pub some-byte : 1 ≤ length (s .pdu .bytes)
+  pub fits : length (s .pdu .bytes) ≤ R
+  pub priorities : (k : ℕ) → priorityOf s k ≤ 3
+
+-- of two PDUs next to each other at least one is whole
+abbrev pub Apart : ℕ → List Sent → Type 0
+Apart mtu [] = Unit {0}
+Apart mtu (s ∷ []) = Unit {0}
+Apart mtu (s ∷ s′ ∷ ss) = ((isWhole mtu s || isWhole mtu s′) ≡ true) × Apart mtu (s′ ∷ ss)
+
+pub record FairFlow (mtu R : ℕ) (x : FlowSent) : Type 0 where
+  pub source : x .flow .source < 65536
+  pub cos : x .flow .cos < 256
+  pub PDUs : Each (FairPDU R) (x .sent)
+  pub apart : Apart mtu (x .sent)
+
+-- a message packet: of type 11, and made of bytes
+abbrev pub FairTurn : Turn → Type 0
+FairTurn (next flow) = Unit {0}
+FairTurn (message p) = (packetType p ≡ 11) × AreBytes p
+
+-- the demand's premises, and no word of how many packets of a PDU are lost
+pub record FairAnyLoss (device mtu R : ℕ) (s : Sending) : Type 0 where
+  pub device-ID : device < 65536
+  pub allowed-MTU : badMTU mtu ≡ false
+  pub allowed-R : R ≤ 65536
+  pub sixteen : length (s .flows) ≤ 16
+  pub flows : Each (FairFlow mtu R) (s .flows)
+  pub turns : Each FairTurn (s .turns)
+
+-- at most one packet of each PDU is lost
+abbrev pub OneLoss : ℕ → Sent → Type 0
+OneLoss mtu s = losses mtu s ≤ 1
+
+pub record Fair (device mtu R : ℕ) (s : Sending) : Type 0 where
+  pub but-losses : FairAnyLoss device mtu R s
+  pub one-loss : Each (λ (x : FlowSent). Each (OneLoss mtu) (x .sent)) (s .flows)
