@@ -1,8 +1,8 @@
 -- One packet of a burst: its slot is a response buffer that row 12 allows, what reading leaves goes where the definition says,
 -- and the state stays good.
-use Prim.Native.Nat.{ℕ, _+_, _-_, _*_, _≤_, _<_}
-use mathlib.Core.Path.{_≡_, refl, ap, ap₂, sym, _∙_}
-use mathlib.Core.List.{List, _++_, append-assoc}
+use Prim.Native.Nat.{ℕ, _+_, _-_, _*_, _<_}
+use mathlib.Core.Path.{_≡_, ap, ap₂, sym, _∙_}
+use mathlib.Core.List.{List, _++_}
 use native.Mathlib.Omega.{arith}
 use lib.ListN.{length, getD, take, drop, length-take, length-drop}
 use lib.Seq.{drop-drop}
@@ -12,14 +12,13 @@ use Rattle.lists.proofs.Written.{written-is}
 use Rattle.answers.specs.declared.Reading.{Reading}
 use Rattle.answers.specs.Answers.{said}
 use Rattle.contexts.specs.Words.{stateOf}
-use Rattle.reading.specs.Table.{Lent}
 use Rattle.reading.specs.Read.{Left, lent, reading, ReadPromise}
 use Rattle.reading.specs.Good.{StillGood}
 use Rattle.reading.specs.Step.{Ready}
 use Rattle.reading.proofs.Kept.{stays-good}
 use Rattle.reports.specs.declared.Report.{Report}
 use Rattle.reports.specs.Reports.{reportOf, wordsOfReport}
-use Rattle.bursts.specs.Bursts.{Run, run, slot, placed, behind, Fit, Room, PacketPromise}
+use Rattle.bursts.specs.Bursts.{run, slot, placed, Fit, Room, PacketPromise}
 
 -- the 8 bytes that are lent
 slot-size : (n : ℕ) → 8 * n + 8 - 8 * n ≡ 8

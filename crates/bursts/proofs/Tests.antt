@@ -1,7 +1,7 @@
 -- The tests before a burst: rows 19 and 12; and the room that the lent buffers give.
-use Prim.Native.Nat.{ℕ, _+_, _*_, _/_, _%_, _≤_, _<_}
-use mathlib.Core.Path.{_≡_, refl, ap, sym, _∙_}
-use mathlib.Core.List.{List, []}
+use Prim.Native.Nat.{ℕ, _/_, _≤_}
+use mathlib.Core.Path.{_≡_, refl}
+use mathlib.Core.List.{List}
 use mathlib.Core.Bool.{Bool, true, false, cond}
 use native.Mathlib.Omega.{arith}
 use lib.Dec.{ltb}
@@ -12,7 +12,7 @@ use Rattle.contexts.specs.Words.{stateOf, stateWords}
 use Rattle.refusal19.specs.Refusal19.{namedBy19}
 use Rattle.reading.specs.Table.{wrongSizes}
 use Rattle.reading.proofs.Left.{sizes-fit}
-use Rattle.bursts.specs.Bursts.{Run, Finished, finished, answering, refusedAll, burstBy, readBurst, lentTable, ran, lesser, roomFor, Fit, Room}
+use Rattle.bursts.specs.Bursts.{Run, Finished, finished, answering, refusedAll, readBurst, lentTable, ran, lesser, roomFor, Fit, Room}
 
 module _ (pause : ℕ) (r : Run) (burst : List ℕ) where
   abbrev refusing : ℕ → Finished

@@ -1,6 +1,6 @@
 -- Which words are no state, by the tests of the code; and a room's place in a small memory.
-use Prim.Native.Nat.{ℕ, _*_, _≤_, _<_}
-use mathlib.Core.Path.{_≡_, refl}
+use Prim.Native.Nat.{ℕ, _*_, _≤_}
+use mathlib.Core.Path.{_≡_}
 use mathlib.Core.List.{List}
 use mathlib.Core.Bool.{true, false}
 use native.Mathlib.Omega.{arith}
@@ -9,7 +9,7 @@ use lib.ListN.{length}
 use borrow.Author.Tests.{eq-eqb, ne-eqb}
 use Rattle.contexts.specs.Words.{stateOf, stateWords}
 use Rattle.refusal19.specs.Refusal19.{namedBy19}
-use Rattle.endpoint.specs.Calls.{Part, part, noState, roomPart, streamRoom, messageRoom}
+use Rattle.endpoint.specs.Calls.{part, noState, roomPart, streamRoom, messageRoom}
 
 module _ (words : List ℕ) where
   no-words : (length words ≡ stateWords → ⊥) → noState words ≡ true

@@ -1,28 +1,21 @@
+-- `bursts::pausing` meets its contract: each return follows from the tests on the way.
 use Rattle.bursts.specs.Bursts.{pauseOf}
 use borrow.Author.Tests.{eq-eqb, ne-eqb}
-use borrow.Author.Needs.{needs}
-use native.Mathlib.Omega.{arith}
 use Rattle.bursts.proofs.pausing.Statement.{statement}
 use Rattle.bursts.proofs.pausing.Tie as tie
-use Rattle.bursts.proofs.pausing.Reads as reads
-use Rattle.bursts.proofs.pausing.Lts as lts
 
--- src/lib.rt:71:9
 returns : tie.Need-returns
 unfolding pauseOf
 returns c = simp (eq-eqb _ _ (c .if1 .taken))
 
--- src/lib.rt:74:9
 returns-2 : tie.Need-returns-2
 unfolding pauseOf
 returns-2 c = simp (ne-eqb _ _ (c .before .if1 .left), eq-eqb _ _ (c .if2 .taken))
 
--- src/lib.rt:77:9
 returns-3 : tie.Need-returns-3
 unfolding pauseOf
 returns-3 c = simp (ne-eqb _ _ (c .before .before .if1 .left), ne-eqb _ _ (c .before .if2 .left), eq-eqb _ _ (c .if3 .taken))
 
--- src/lib.rt:67:1
 returns-4 : tie.Need-returns-4
 unfolding pauseOf
 returns-4 c = simp (ne-eqb _ _ (c .before .before .if1 .left), ne-eqb _ _ (c .before .if2 .left), ne-eqb _ _ (c .if3 .left))

@@ -4,107 +4,78 @@ use Rattle.bursts.specs.declared.Burst.{Burst}
 use Rattle.bursts.specs.Bursts.{run, finished, ran, Room}
 use Prim.Native.Nat.{ℕ}
 use mathlib.Core.Path.{ap, sym, subst, _∙_}
-use native.Mathlib.Omega.{arith}
 use borrow.Author.Needs.{needs}
 use Rattle.bursts.proofs.read_burst.Statement.{statement}
 use Rattle.bursts.proofs.read_burst.Tie as tie
-use Rattle.bursts.proofs.read_burst.Reads as reads
-use Rattle.bursts.proofs.read_burst.Lts as lts
-use Rattle.bursts.proofs.refused.Reads as refused-reads
-use Rattle.bursts.proofs.room_for.Reads as room-for-reads
-use Rattle.bursts.proofs.run_over.Reads as run-over-reads
-use Rattle.reading.proofs.wrong_memory.Reads as wrong-memory-reads
-use Rattle.refusal19.proofs.named_by_19.Reads as named-by-19-reads
 
--- src/lib.rt:199:9
 refused-requires : tie.Need-refused-requires
 refused-requires c κs = search needs
 
--- src/lib.rt:199:9
 returns : tie.Need-returns
 returns c =
     let s = c .before .before .before .before .before .before .before .before in
     ap (λ (b : Burst). finished b (s .args .state .now) (s .args .stream-memory .now) (s .args .message-memory .now) (s .args .responses .now) (s .args .reports .now)) (c .refused .ensures) ∙ short (s .args .pause) (run (s .args .state .now) (s .args .stream-memory .now) (s .args .message-memory .now) (s .args .responses .now) (s .args .reports .now) 0 0) (s .args .burst .now) (c .before .if1 .taken)
 
--- src/lib.rt:201:8
 named-by-19-requires : tie.Need-named-by-19-requires
 named-by-19-requires c κs = search needs
 
--- src/lib.rt:202:9
 refused-requires-2 : tie.Need-refused-requires-2
 refused-requires-2 c κs = search needs
 
--- src/lib.rt:202:9
 same-length : tie.Need-same-length
 same-length c = search needs
 
--- src/lib.rt:202:9
 returns-2 : tie.Need-returns-2
 returns-2 c =
     let s = c .before .before .before .before .before .before .before .before .before .before .before in
     ap (λ (b : Burst). finished b (s .args .state .now) (s .args .stream-memory .now) (s .args .message-memory .now) (s .args .responses .now) (s .args .reports .now)) (c .refused2 .ensures) ∙ named (s .args .pause) (run (s .args .state .now) (s .args .stream-memory .now) (s .args .message-memory .now) (s .args .responses .now) (s .args .reports .now) 0 0) (s .args .burst .now) (c .before .before .before .before .if1 .left) (sym (c .before .before .named-by-19 .ensures) ∙ c .before .if2 .taken)
 
--- src/lib.rt:204:8
 wrong-memory-requires : tie.Need-wrong-memory-requires
 wrong-memory-requires c κs = ((c .before .before .before .before .before .before .before .if1 .left), (sym (c .before .before .before .before .before .named-by-19 .ensures) ∙ c .before .before .before .before .if2 .left))
 
--- src/lib.rt:205:9
 refused-requires-3 : tie.Need-refused-requires-3
 refused-requires-3 c κs = search needs
 
--- src/lib.rt:205:9
 same-length-2 : tie.Need-same-length-2
 same-length-2 c = search needs
 
--- src/lib.rt:205:9
 same-length-3 : tie.Need-same-length-3
 same-length-3 c = search needs
 
--- src/lib.rt:205:9
 same-length-4 : tie.Need-same-length-4
 same-length-4 c = search needs
 
--- src/lib.rt:205:9
 same-length-5 : tie.Need-same-length-5
 same-length-5 c = search needs
 
--- src/lib.rt:205:9
 returns-3 : tie.Need-returns-3
 returns-3 c =
     let s = c .before .before .before .before .before .before .before .before .before .before .before .before .before .before .before .before .before in
     ap (λ (b : Burst). finished b (s .args .state .now) (s .args .stream-memory .now) (s .args .message-memory .now) (s .args .responses .now) (s .args .reports .now)) (c .refused3 .ensures) ∙ missized (s .args .pause) (run (s .args .state .now) (s .args .stream-memory .now) (s .args .message-memory .now) (s .args .responses .now) (s .args .reports .now) 0 0) (s .args .burst .now) (c .before .before .before .before .before .before .before .before .before .before .if1 .left) (sym (c .before .before .before .before .before .before .before .before .named-by-19 .ensures) ∙ c .before .before .before .before .before .before .before .if2 .left) (sym (c .before .before .wrong-memory .ensures) ∙ c .before .if3 .taken)
 
--- src/lib.rt:207:9
 room-for-requires : tie.Need-room-for-requires
 room-for-requires c κs = search needs
 
--- src/lib.rt:208:5
 run-over-requires : tie.Need-run-over-requires
 run-over-requires c κs =
     let s = c .before .before .before .before .before .before .before .before .before .before .before .before .before .before .before .before .before .before .before .before .before .before in
     (fits (s .args .pause) (run (s .args .state .now) (s .args .stream-memory .now) (s .args .message-memory .now) (s .args .responses .now) (s .args .reports .now) 0 0) (s .args .burst .now) (c .before .before .before .before .before .before .before .before .before .before .before .before .before .before .before .if1 .left) (sym (c .before .before .before .before .before .before .before .before .before .before .before .before .before .named-by-19 .ensures) ∙ c .before .before .before .before .before .before .before .before .before .before .before .before .if2 .left) (sym (c .before .before .before .before .before .before .before .wrong-memory .ensures) ∙ c .before .before .before .before .before .before .if3 .left), subst (λ (n : ℕ). Room (s .args .responses .now) (s .args .reports .now) 0 n) (sym (c .before .before .before .before .before .room-for .ensures)) (has-room (s .args .responses .now) (s .args .reports .now)))
 
--- src/lib.rt:188:1
 same-length-6 : tie.Need-same-length-6
 same-length-6 c = search needs
 
--- src/lib.rt:188:1
 same-length-7 : tie.Need-same-length-7
 same-length-7 c = search needs
 
--- src/lib.rt:188:1
 same-length-8 : tie.Need-same-length-8
 same-length-8 c = search needs
 
--- src/lib.rt:188:1
 same-length-9 : tie.Need-same-length-9
 same-length-9 c = search needs
 
--- src/lib.rt:188:1
 same-length-10 : tie.Need-same-length-10
 same-length-10 c = search needs
 
--- src/lib.rt:188:1
 returns-4 : tie.Need-returns-4
 returns-4 c =
     let s = c .before .before .before .before .before .before .before .before .before .before .before .before .before .before .before .before .before .before .before .before .before .before .before .before .before .before .before .before .before .before .before .before .before in

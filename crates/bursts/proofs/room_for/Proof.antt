@@ -1,18 +1,13 @@
+-- `bursts::room_for` meets its contract: the lesser of two quotients.
 use Rattle.bursts.specs.Bursts.{roomFor}
 use borrow.Author.Tests.{le-ltb, lt-ltb}
-use borrow.Author.Needs.{needs}
-use native.Mathlib.Omega.{arith}
 use Rattle.bursts.proofs.room_for.Statement.{statement}
 use Rattle.bursts.proofs.room_for.Tie as tie
-use Rattle.bursts.proofs.room_for.Reads as reads
-use Rattle.bursts.proofs.room_for.Lts as lts
 
--- src/lib.rt:170:9
 returns : tie.Need-returns
 unfolding roomFor
 returns c = simp (lt-ltb _ _ (c .if1 .taken))
 
--- src/lib.rt:164:1
 returns-2 : tie.Need-returns-2
 unfolding roomFor
 returns-2 c = simp (le-ltb _ _ (c .if1 .left))

@@ -3,13 +3,9 @@
 use Rattle.bursts.proofs.Turns.{Going, begins, stops, had-room, keeps-going}
 use Rattle.bursts.specs.Bursts.{run, turned}
 use mathlib.Core.Path.{_≡_, _∙_}
-use borrow.Author.Needs.{needs}
 use native.Mathlib.Omega.{arith}
 use Rattle.bursts.proofs.run_over.Statement.{statement}
 use Rattle.bursts.proofs.run_over.Tie as tie
-use Rattle.bursts.proofs.run_over.Reads as reads
-use Rattle.bursts.proofs.run_over.Lts as lts
-use Rattle.bursts.proofs.turn_at.Reads as turn-at-reads
 
 abbrev Inv-loop : tie.InvT-loop
 Inv-loop state₀ stream-memory₀ message-memory₀ responses₀ reports₀ burst pause room left₀ count₀ at₀ state stream-memory message-memory responses reports left count at =
@@ -19,39 +15,31 @@ abbrev μ-loop : tie.MeasureT-loop
 μ-loop state₀ stream-memory₀ message-memory₀ responses₀ reports₀ burst pause room left₀ count₀ at₀ state stream-memory message-memory responses reports left count at =
     left
 
--- src/lib.rt:137:5
 loop-holds : tie.Need-loop-holds Inv-loop μ-loop
 loop-holds c =
     let s = c .before .before .before .before .before .before in
     begins (s .args .pause) (s .args .burst .now) (s .args .room) (run (s .args .state .now) (s .args .stream-memory .now) (s .args .message-memory .now) (s .args .responses .now) (s .args .reports .now) 0 0) (s .pre .0) (s .pre .1)
 
--- src/lib.rt:138:13
 turn-at-requires : tie.Need-turn-at-requires Inv-loop μ-loop
 turn-at-requires c κs =
     let g = c .before .before .before .before .before .loop .inv in
     (g .fit, g .space)
 
--- src/lib.rt:150:13
 same-length : tie.Need-same-length Inv-loop μ-loop
 same-length c = c .before .before .before .before .before .before .before .before .before .before .before .before .turn-at .kept .0 ∙ c .before .before .before .before .before .before .before .before .before .before .before .before .before .before .before .before .before .before .loop .inv .words
 
--- src/lib.rt:150:13
 same-length-2 : tie.Need-same-length-2 Inv-loop μ-loop
 same-length-2 c = c .before .before .before .before .before .before .before .before .before .before .before .before .turn-at .kept .1 .0 ∙ c .before .before .before .before .before .before .before .before .before .before .before .before .before .before .before .before .before .before .loop .inv .streams
 
--- src/lib.rt:150:13
 same-length-3 : tie.Need-same-length-3 Inv-loop μ-loop
 same-length-3 c = c .before .before .before .before .before .before .before .before .before .before .before .before .turn-at .kept .1 .1 .0 ∙ c .before .before .before .before .before .before .before .before .before .before .before .before .before .before .before .before .before .before .loop .inv .messages
 
--- src/lib.rt:150:13
 same-length-4 : tie.Need-same-length-4 Inv-loop μ-loop
 same-length-4 c = c .before .before .before .before .before .before .before .before .before .before .before .before .turn-at .kept .1 .1 .1 .0 ∙ c .before .before .before .before .before .before .before .before .before .before .before .before .before .before .before .before .before .before .loop .inv .responses
 
--- src/lib.rt:150:13
 same-length-5 : tie.Need-same-length-5 Inv-loop μ-loop
 same-length-5 c = c .before .before .before .before .before .before .before .before .before .before .before .before .turn-at .kept .1 .1 .1 .1 .0 ∙ c .before .before .before .before .before .before .before .before .before .before .before .before .before .before .before .before .before .before .loop .inv .reports
 
--- src/lib.rt:150:13
 returns : tie.Need-returns Inv-loop μ-loop
 returns c =
     let s = c .before .before .before .before .before .before .before .before .before .before .before .before .before .before .before .before .before .before .before .before .before .before .before .before .before in
@@ -59,7 +47,6 @@ returns c =
     let t = c .before .before .before .before .before .before .before .before .before .before .before .before .turn-at in
     stops (s .args .pause) (l .left) (s .args .burst .now) (run (l .state) (l .stream-memory) (l .message-memory) (l .responses) (l .reports) (l .count) (l .at)) (turned (t .result .stop) (run (t .last .0) (t .last .1 .0) (t .last .1 .1 .0) (t .last .1 .1 .1 .0) (t .last .1 .1 .1 .1 .0) (t .result .count) (t .result .next))) (t .ensures .0) (c .if1 .taken) ∙ l .inv .same
 
--- src/lib.rt:157:9
 sub-left : tie.Need-sub-left Inv-loop μ-loop
 sub-left c =
     let s = c .before .before .before .before .before .before .before .before .before .before .before .before .before .before .before .before .before .before .before .before .before .before .before .before .before in
@@ -68,7 +55,6 @@ sub-left c =
     let some : l .left ≡ 0 → ⊥ = had-room (s .args .pause) (l .left) (s .args .burst .now) (run (l .state) (l .stream-memory) (l .message-memory) (l .responses) (l .reports) (l .count) (l .at)) (turned (t .result .stop) (run (t .last .0) (t .last .1 .0) (t .last .1 .1 .0) (t .last .1 .1 .1 .0) (t .last .1 .1 .1 .1 .0) (t .result .count) (t .result .next))) (t .ensures .0) (c .if1 .left) in
     omega (arith, some)
 
--- src/lib.rt:137:5
 loop-less : tie.Need-loop-less Inv-loop μ-loop
 loop-less c =
     let s = c .before .before .before .before .before .before .before .before .before .before .before .before .before .before .before .before .before .before .before .before .before .before .before .before .before in
@@ -77,7 +63,6 @@ loop-less c =
     let some : l .left ≡ 0 → ⊥ = had-room (s .args .pause) (l .left) (s .args .burst .now) (run (l .state) (l .stream-memory) (l .message-memory) (l .responses) (l .reports) (l .count) (l .at)) (turned (t .result .stop) (run (t .last .0) (t .last .1 .0) (t .last .1 .1 .0) (t .last .1 .1 .1 .0) (t .last .1 .1 .1 .1 .0) (t .result .count) (t .result .next))) (t .ensures .0) (c .if1 .left) in
     omega (arith, some)
 
--- src/lib.rt:137:5
 loop-again : tie.Need-loop-again Inv-loop μ-loop
 loop-again c =
     let s = c .before .before .before .before .before .before .before .before .before .before .before .before .before .before .before .before .before .before .before .before .before .before .before .before .before in

@@ -8,106 +8,82 @@ use native.Mathlib.Omega.{arith}
 use borrow.Author.Needs.{needs}
 use Rattle.bursts.proofs.turn_at.Statement.{statement}
 use Rattle.bursts.proofs.turn_at.Tie as tie
-use Rattle.bursts.proofs.turn_at.Reads as reads
-use Rattle.bursts.proofs.turn_at.Lts as lts
-use Rattle.bursts.proofs.pausing.Reads as pausing-reads
-use Rattle.bursts.proofs.read_packet.Reads as read-packet-reads
-use Rattle.records.proofs.next_record.Reads as next-record-reads
 
--- src/lib.rt:100:11
 next-record-requires : tie.Need-next-record-requires
 next-record-requires c κs = search needs
 
--- src/lib.rt:101:22
 enum-told : tie.Need-enum-told
 enum-told c = search needs
 
--- src/lib.rt:106:22
 enum-told-2 : tie.Need-enum-told-2
 enum-told-2 c = search needs
 
--- src/lib.rt:112:13
 enum-known-from : tie.Need-enum-known-from
 enum-known-from c = search needs
 
--- src/lib.rt:117:17
 returns : tie.Need-returns
 returns c =
     let s = c .before .before .before .before .before .before .before .before .before .before .before in
     (at-full (s .args .burst .now) (s .args .pause) (s .args .room) (run (s .args .state .now) (s .args .stream-memory .now) (s .args .message-memory .now) (s .args .responses .now) (s .args .reports .now) (s .args .count) (s .args .at)) _ _ _ (sym (c .before .before .before .before .next-record .ensures) ∙ c .before .before .from .given .1) (c .if1 .taken), s .pre .0)
 
--- src/lib.rt:129:17
 sub-read-packet : tie.Need-sub-read-packet
 sub-read-packet c =
     let s = c .before .before .before .before .before .before .before .before .before .before .before .before .before .before .before .before in
     let r = inside (s .args .burst .now) (s .args .at) _ _ _ (sym (c .before .before .before .before .before .before .before .before .before .next-record .ensures) ∙ c .before .before .before .before .before .before .before .from .given .1) in
     omega (arith, r .behind)
 
--- src/lib.rt:129:17
 part-read-packet-start : tie.Need-part-read-packet-start
 part-read-packet-start c =
     let s = c .before .before .before .before .before .before .before .before .before .before .before .before .before .before .before .before in
     let r = inside (s .args .burst .now) (s .args .at) _ _ _ (sym (c .before .before .before .before .before .before .before .before .before .next-record .ensures) ∙ c .before .before .before .before .before .before .before .from .given .1) in
     omega (arith, r .behind)
 
--- src/lib.rt:129:17
 part-read-packet-end : tie.Need-part-read-packet-end
 part-read-packet-end c =
     let s = c .before .before .before .before .before .before .before .before .before .before .before .before .before .before .before .before in
     let r = inside (s .args .burst .now) (s .args .at) _ _ _ (sym (c .before .before .before .before .before .before .before .before .before .next-record .ensures) ∙ c .before .before .before .before .before .before .before .from .given .1) in
     r .within
 
--- src/lib.rt:123:17
 read-packet-requires : tie.Need-read-packet-requires
 read-packet-requires c κs =
     let s = c .before .before .before .before .before .before .before .before .before .before .before .before .before .before .before .before .before in
     let some : 1 ≤ s .args .room = omega (arith, c .before .before .before .before .before .before .if1 .left) in
     (s .pre .0, record { replies = omega (arith, s .pre .1 .replies); answers = omega (arith, s .pre .1 .answers) })
 
--- src/lib.rt:133:23
 pausing-requires : tie.Need-pausing-requires
 pausing-requires c κs = search needs
 
--- src/lib.rt:134:24
 add-t31 : tie.Need-add-t31
 add-t31 c =
     let s = c .before .before .before .before .before .before .before .before .before .before .before .before .before .before .before .before .before .before .before .before .before .before .before .before .before .before .before .before .before in
     let some : 1 ≤ s .args .room = omega (arith, c .before .before .before .before .before .before .before .before .before .before .before .before .before .before .before .before .before .before .if1 .left) in
     omega (arith, s .pre .1 .replies)
 
--- src/lib.rt:83:1
 returns-2 : tie.Need-returns-2
 returns-2 c =
     let s = c .before .before .before .before .before .before .before .before .before in
     (at-end (s .args .burst .now) (s .args .pause) (s .args .room) (run (s .args .state .now) (s .args .stream-memory .now) (s .args .message-memory .now) (s .args .responses .now) (s .args .reports .now) (s .args .count) (s .args .at)) (sym (c .before .before .next-record .ensures) ∙ c .enum-told .given .1), s .pre .0)
 
--- src/lib.rt:83:1
 returns-3 : tie.Need-returns-3
 returns-3 c =
     let s = c .before .before .before .before .before .before .before .before .before in
     (at-bad (s .args .burst .now) (s .args .pause) (s .args .room) (run (s .args .state .now) (s .args .stream-memory .now) (s .args .message-memory .now) (s .args .responses .now) (s .args .reports .now) (s .args .count) (s .args .at)) (sym (c .before .before .next-record .ensures) ∙ c .enum-told2 .given .1), s .pre .0)
 
--- src/lib.rt:83:1
 same-length : tie.Need-same-length
 same-length c = search needs
 
--- src/lib.rt:83:1
 same-length-2 : tie.Need-same-length-2
 same-length-2 c = search needs
 
--- src/lib.rt:83:1
 same-length-3 : tie.Need-same-length-3
 same-length-3 c = search needs
 
--- src/lib.rt:83:1
 same-length-4 : tie.Need-same-length-4
 same-length-4 c = search needs
 
--- src/lib.rt:83:1
 same-length-5 : tie.Need-same-length-5
 same-length-5 c = search needs
 
--- src/lib.rt:83:1
 returns-4 : tie.Need-returns-4
 returns-4 c =
     let s = c .before .before .before .before .before .before .before .before .before .before .before .before .before .before .before .before .before .before .before .before .before .before .before .before .before .before .before .before .before in

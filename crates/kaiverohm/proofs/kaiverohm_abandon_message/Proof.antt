@@ -2,28 +2,19 @@
 use mathlib.Core.Path.{ap, _∙_}
 use Rattle.endpoint.specs.Calls.{Stands}
 use Rattle.reports.specs.Reports.{numbersOf}
-use native.Mathlib.Omega.{arith}
 use borrow.Author.Needs.{needs}
 use Rattle.kaiverohm.proofs.kaiverohm_abandon_message.Statement.{statement}
 use Rattle.kaiverohm.proofs.kaiverohm_abandon_message.Tie as tie
-use Rattle.kaiverohm.proofs.kaiverohm_abandon_message.Reads as reads
-use Rattle.kaiverohm.proofs.kaiverohm_abandon_message.Lts as lts
-use Rattle.endpoint.proofs.abandon_message.Reads as abandon-message-reads
-use Rattle.reports.proofs.of_abandon.Reads as of-abandon-reads
 
--- src/lib.rt:95:25
 abandon-message-requires : tie.Need-abandon-message-requires
 abandon-message-requires c κs = search needs
 
--- src/lib.rt:95:5
 of-abandon-requires : tie.Need-of-abandon-requires
 of-abandon-requires c κs = search needs
 
--- src/lib.rt:91:1
 same-length : tie.Need-same-length
 same-length c = search needs
 
--- src/lib.rt:91:1
 returns : tie.Need-returns
 returns c = record { answer = c .of-abandon .ensures ∙ ap (λ (x : Stands). numbersOf (x .says)) (c .before .before .before .abandon-message .ensures); state = ap (λ (x : Stands). x .words) (c .before .before .before .abandon-message .ensures) }
 

@@ -2,28 +2,19 @@
 use mathlib.Core.Path.{ap, _∙_}
 use Rattle.endpoint.specs.Calls.{Stands}
 use Rattle.reports.specs.Reports.{numbersOf}
-use native.Mathlib.Omega.{arith}
 use borrow.Author.Needs.{needs}
 use Rattle.kaiverohm.proofs.kaiverohm_abandon_stream.Statement.{statement}
 use Rattle.kaiverohm.proofs.kaiverohm_abandon_stream.Tie as tie
-use Rattle.kaiverohm.proofs.kaiverohm_abandon_stream.Reads as reads
-use Rattle.kaiverohm.proofs.kaiverohm_abandon_stream.Lts as lts
-use Rattle.endpoint.proofs.abandon_stream.Reads as abandon-stream-reads
-use Rattle.reports.proofs.of_abandon.Reads as of-abandon-reads
 
--- src/lib.rt:87:25
 abandon-stream-requires : tie.Need-abandon-stream-requires
 abandon-stream-requires c κs = search needs
 
--- src/lib.rt:87:5
 of-abandon-requires : tie.Need-of-abandon-requires
 of-abandon-requires c κs = search needs
 
--- src/lib.rt:83:1
 same-length : tie.Need-same-length
 same-length c = search needs
 
--- src/lib.rt:83:1
 returns : tie.Need-returns
 returns c = record { answer = c .of-abandon .ensures ∙ ap (λ (x : Stands). numbersOf (x .says)) (c .before .before .before .abandon-stream .ensures); state = ap (λ (x : Stands). x .words) (c .before .before .before .abandon-stream .ensures) }
 

@@ -2,40 +2,28 @@
 use mathlib.Core.Path.{ap, _∙_}
 use Rattle.reading.specs.Read.{Left}
 use Rattle.reports.specs.Reports.{reportOf}
-use native.Mathlib.Omega.{arith}
 use borrow.Author.Needs.{needs}
 use Rattle.kaiverohm.proofs.kaiverohm_read.Statement.{statement}
 use Rattle.kaiverohm.proofs.kaiverohm_read.Tie as tie
-use Rattle.kaiverohm.proofs.kaiverohm_read.Reads as reads
-use Rattle.kaiverohm.proofs.kaiverohm_read.Lts as lts
-use Rattle.endpoint.proofs.read.Reads as read-reads
-use Rattle.reports.proofs.reported.Reads as reported-reads
 
--- src/lib.rt:56:9
 read-requires : tie.Need-read-requires
 read-requires c κs = search needs
 
--- src/lib.rt:57:5
 reported-requires : tie.Need-reported-requires
 reported-requires c κs = search needs
 
--- src/lib.rt:46:1
 same-length : tie.Need-same-length
 same-length c = search needs
 
--- src/lib.rt:46:1
 same-length-2 : tie.Need-same-length-2
 same-length-2 c = search needs
 
--- src/lib.rt:46:1
 same-length-3 : tie.Need-same-length-3
 same-length-3 c = search needs
 
--- src/lib.rt:46:1
 same-length-4 : tie.Need-same-length-4
 same-length-4 c = search needs
 
--- src/lib.rt:46:1
 returns : tie.Need-returns
 returns c =
     let s = c .before .before .before .before .before .before .before .before .before .before .before .before .before .before .before .before .before .before .before in

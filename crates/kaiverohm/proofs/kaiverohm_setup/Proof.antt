@@ -2,28 +2,19 @@
 use mathlib.Core.Path.{ap, _∙_}
 use Rattle.endpoint.specs.Calls.{Stands}
 use Rattle.reports.specs.Reports.{numbersOf}
-use native.Mathlib.Omega.{arith}
 use borrow.Author.Needs.{needs}
 use Rattle.kaiverohm.proofs.kaiverohm_setup.Statement.{statement}
 use Rattle.kaiverohm.proofs.kaiverohm_setup.Tie as tie
-use Rattle.kaiverohm.proofs.kaiverohm_setup.Reads as reads
-use Rattle.kaiverohm.proofs.kaiverohm_setup.Lts as lts
-use Rattle.endpoint.proofs.setup.Reads as setup-reads
-use Rattle.reports.proofs.of_setup.Reads as of-setup-reads
 
--- src/lib.rt:42:23
 setup-requires : tie.Need-setup-requires
 setup-requires c κs = search needs
 
--- src/lib.rt:42:5
 of-setup-requires : tie.Need-of-setup-requires
 of-setup-requires c κs = search needs
 
--- src/lib.rt:33:1
 same-length : tie.Need-same-length
 same-length c = search needs
 
--- src/lib.rt:33:1
 returns : tie.Need-returns
 returns c = record { answer = c .of-setup .ensures ∙ ap (λ (x : Stands). numbersOf (x .says)) (c .before .before .before .setup .ensures); state = ap (λ (x : Stands). x .words) (c .before .before .before .setup .ensures) }
 

@@ -2,28 +2,19 @@
 use mathlib.Core.Path.{ap, _∙_}
 use Rattle.segments.specs.Writer.{Wrote}
 use Rattle.reports.specs.Reports.{numbersOf}
-use native.Mathlib.Omega.{arith}
 use borrow.Author.Needs.{needs}
 use Rattle.kaiverohm.proofs.kaiverohm_write_segment.Statement.{statement}
 use Rattle.kaiverohm.proofs.kaiverohm_write_segment.Tie as tie
-use Rattle.kaiverohm.proofs.kaiverohm_write_segment.Reads as reads
-use Rattle.kaiverohm.proofs.kaiverohm_write_segment.Lts as lts
-use Rattle.reports.proofs.of_writer.Reads as of-writer-reads
-use Rattle.segments.proofs.write_segment.Reads as write-segment-reads
 
--- src/lib.rt:140:24
 write-segment-requires : tie.Need-write-segment-requires
 write-segment-requires c κs = search needs
 
--- src/lib.rt:140:5
 of-writer-requires : tie.Need-of-writer-requires
 of-writer-requires c κs = search needs
 
--- src/lib.rt:123:1
 same-length : tie.Need-same-length
 same-length c = search needs
 
--- src/lib.rt:123:1
 returns : tie.Need-returns
 returns c = record { answer = c .of-writer .ensures ∙ ap (λ (x : Wrote). numbersOf (x .says)) (c .before .before .before .write-segment .ensures); packet = ap (λ (x : Wrote). x .out) (c .before .before .before .write-segment .ensures) }
 

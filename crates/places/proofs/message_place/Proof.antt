@@ -2,45 +2,32 @@
 use Rattle.places.proofs.Laws.{message-short, message-named, message-there}
 use Rattle.places.specs.Places.{placeOf}
 use mathlib.Core.Path.{ap, sym, _∙_}
-use native.Mathlib.Omega.{arith}
 use borrow.Author.Needs.{needs}
 use Rattle.places.proofs.message_place.Statement.{statement}
 use Rattle.places.proofs.message_place.Tie as tie
-use Rattle.places.proofs.message_place.Reads as reads
-use Rattle.places.proofs.message_place.Lts as lts
-use Rattle.places.proofs.nowhere.Reads as nowhere-reads
-use Rattle.places.proofs.room_at.Reads as room-at-reads
-use Rattle.refusal19.proofs.named_by_19.Reads as named-by-19-reads
 
--- src/lib.rt:62:9
 nowhere-requires : tie.Need-nowhere-requires
 nowhere-requires c κs = search needs
 
--- src/lib.rt:62:9
 returns : tie.Need-returns
 returns c =
     let s = c .before .before .before in
     c .nowhere .ensures ∙ ap placeOf (message-short (s .args .state .now) (s .args .size) (s .args .n) (s .args .l) (c .before .if1 .taken))
 
--- src/lib.rt:64:8
 named-by-19-requires : tie.Need-named-by-19-requires
 named-by-19-requires c κs = search needs
 
--- src/lib.rt:65:9
 nowhere-requires-2 : tie.Need-nowhere-requires-2
 nowhere-requires-2 c κs = search needs
 
--- src/lib.rt:65:9
 returns-2 : tie.Need-returns-2
 returns-2 c =
     let s = c .before .before .before .before .before in
     c .nowhere2 .ensures ∙ ap placeOf (message-named (s .args .state .now) (s .args .size) (s .args .n) (s .args .l) (c .before .before .before .if1 .left) (sym (c .before .before .named-by-19 .ensures) ∙ c .before .if2 .taken))
 
--- src/lib.rt:67:5
 room-at-requires : tie.Need-room-at-requires
 room-at-requires c κs = search needs
 
--- src/lib.rt:58:1
 returns-3 : tie.Need-returns-3
 returns-3 c =
     let s = c .before .before .before .before .before in

@@ -10,48 +10,34 @@ use native.Mathlib.Omega.{arith}
 use borrow.Author.Needs.{needs}
 use Rattle.places.proofs.stream_place.Statement.{statement}
 use Rattle.places.proofs.stream_place.Tie as tie
-use Rattle.places.proofs.stream_place.Reads as reads
-use Rattle.places.proofs.stream_place.Lts as lts
-use Rattle.contexts.proofs.room.Reads as room-reads
-use Rattle.places.proofs.nowhere.Reads as nowhere-reads
-use Rattle.places.proofs.room_at.Reads as room-at-reads
-use Rattle.refusal19.proofs.named_by_19.Reads as named-by-19-reads
 
--- src/lib.rt:49:9
 nowhere-requires : tie.Need-nowhere-requires
 nowhere-requires c κs = search needs
 
--- src/lib.rt:49:9
 returns : tie.Need-returns
 returns c =
     let s = c .before .before .before in
     c .nowhere .ensures ∙ ap placeOf (stream-short (s .args .state .now) (s .args .size) (s .args .n) (s .args .l) (c .before .if1 .taken))
 
--- src/lib.rt:51:8
 named-by-19-requires : tie.Need-named-by-19-requires
 named-by-19-requires c κs = search needs
 
--- src/lib.rt:52:9
 nowhere-requires-2 : tie.Need-nowhere-requires-2
 nowhere-requires-2 c κs = search needs
 
--- src/lib.rt:52:9
 returns-2 : tie.Need-returns-2
 returns-2 c =
     let s = c .before .before .before .before .before in
     c .nowhere2 .ensures ∙ ap placeOf (stream-named (s .args .state .now) (s .args .size) (s .args .n) (s .args .l) (c .before .before .before .if1 .left) (sym (c .before .before .named-by-19 .ensures) ∙ c .before .if2 .taken))
 
--- src/lib.rt:54:17
 room-requires : tie.Need-room-requires
 room-requires c κs = search needs
 
--- src/lib.rt:54:5
 room-at-requires : tie.Need-room-at-requires
 room-at-requires c κs =
     let s = c .before .before .before .before .before in
     (omega arith, rw (c .room .ensures) (good (stateOf (s .args .state .now)) (sym (c .before .before .named-by-19 .ensures) ∙ c .before .if2 .left) .room))
 
--- src/lib.rt:45:1
 returns-3 : tie.Need-returns-3
 returns-3 c =
     let s = c .before .before .before .before .before .before in

@@ -1,25 +1,19 @@
+-- `reports::of_writer` meets its contract: each case of the answer has its numbers.
 use Rattle.lists.specs.Bytes.{written}
-use native.Mathlib.Omega.{arith}
 use borrow.Author.Needs.{needs}
 use Rattle.reports.proofs.of_writer.Statement.{statement}
 use Rattle.reports.proofs.of_writer.Tie as tie
-use Rattle.reports.proofs.of_writer.Reads as reads
-use Rattle.reports.proofs.of_writer.Lts as lts
 
--- src/lib.rt:208:25
 enum-known-written : tie.Need-enum-known-written
 enum-known-written c = search needs
 
--- src/lib.rt:212:26
 enum-known-written-2 : tie.Need-enum-known-written-2
 enum-known-written-2 c = search needs
 
--- src/lib.rt:204:1
 returns : tie.Need-returns
 unfolding written
 returns c = simp (c .before .written .given .1)
 
--- src/lib.rt:204:1
 returns-2 : tie.Need-returns-2
 unfolding written
 returns-2 c = simp (c .before .written2 .given .1)

@@ -1,121 +1,92 @@
+-- `reports::put` meets its contract: nine stores are one run of words.
 use Rattle.reports.proofs.Laws.{nine-stores}
 use lib.ListN.{length-set}
 use native.Mathlib.Omega.{arith}
 use borrow.Author.Needs.{needs}
 use Rattle.reports.proofs.put.Statement.{statement}
 use Rattle.reports.proofs.put.Tie as tie
-use Rattle.reports.proofs.put.Reads as reads
-use Rattle.reports.proofs.put.Lts as lts
 
--- src/lib.rt:161:5
 mul-words : tie.Need-mul-words
 mul-words c = search needs
 
--- src/lib.rt:161:5
 slice-write-words : tie.Need-slice-write-words
 slice-write-words c = search needs
 
--- src/lib.rt:162:11
 add-words : tie.Need-add-words
 add-words c = search needs
 
--- src/lib.rt:162:5
 mul-words-2 : tie.Need-mul-words-2
 mul-words-2 c = search needs
 
--- src/lib.rt:162:5
 slice-write-words-2 : tie.Need-slice-write-words-2
 slice-write-words-2 c = simp length-set (omega arith)
 
--- src/lib.rt:163:11
 add-words-2 : tie.Need-add-words-2
 add-words-2 c = search needs
 
--- src/lib.rt:163:5
 mul-words-3 : tie.Need-mul-words-3
 mul-words-3 c = search needs
 
--- src/lib.rt:163:5
 slice-write-words-3 : tie.Need-slice-write-words-3
 slice-write-words-3 c = simp length-set (omega arith)
 
--- src/lib.rt:164:11
 add-words-3 : tie.Need-add-words-3
 add-words-3 c = search needs
 
--- src/lib.rt:164:5
 mul-words-4 : tie.Need-mul-words-4
 mul-words-4 c = search needs
 
--- src/lib.rt:164:5
 slice-write-words-4 : tie.Need-slice-write-words-4
 slice-write-words-4 c = simp length-set (omega arith)
 
--- src/lib.rt:165:11
 add-words-4 : tie.Need-add-words-4
 add-words-4 c = search needs
 
--- src/lib.rt:165:5
 mul-words-5 : tie.Need-mul-words-5
 mul-words-5 c = search needs
 
--- src/lib.rt:165:5
 slice-write-words-5 : tie.Need-slice-write-words-5
 slice-write-words-5 c = simp length-set (omega arith)
 
--- src/lib.rt:166:11
 add-words-5 : tie.Need-add-words-5
 add-words-5 c = search needs
 
--- src/lib.rt:166:5
 mul-words-6 : tie.Need-mul-words-6
 mul-words-6 c = search needs
 
--- src/lib.rt:166:5
 slice-write-words-6 : tie.Need-slice-write-words-6
 slice-write-words-6 c = simp length-set (omega arith)
 
--- src/lib.rt:167:11
 add-words-6 : tie.Need-add-words-6
 add-words-6 c = search needs
 
--- src/lib.rt:167:5
 mul-words-7 : tie.Need-mul-words-7
 mul-words-7 c = search needs
 
--- src/lib.rt:167:5
 slice-write-words-7 : tie.Need-slice-write-words-7
 slice-write-words-7 c = simp length-set (omega arith)
 
--- src/lib.rt:168:11
 add-words-7 : tie.Need-add-words-7
 add-words-7 c = search needs
 
--- src/lib.rt:168:5
 mul-words-8 : tie.Need-mul-words-8
 mul-words-8 c = search needs
 
--- src/lib.rt:168:5
 slice-write-words-8 : tie.Need-slice-write-words-8
 slice-write-words-8 c = simp length-set (omega arith)
 
--- src/lib.rt:169:11
 add-words-8 : tie.Need-add-words-8
 add-words-8 c = search needs
 
--- src/lib.rt:169:5
 mul-words-9 : tie.Need-mul-words-9
 mul-words-9 c = search needs
 
--- src/lib.rt:169:5
 slice-write-words-9 : tie.Need-slice-write-words-9
 slice-write-words-9 c = simp length-set (omega arith)
 
--- src/lib.rt:157:1
 same-length : tie.Need-same-length
 same-length c = search needs
 
--- src/lib.rt:157:1
 returns : tie.Need-returns
 returns c = nine-stores (c .args .words .now) (c .args .at) (c .args .r) (c .pre)
 
