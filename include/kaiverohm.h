@@ -148,8 +148,9 @@ struct kaiverohm_answer kaiverohm_setup(uint64_t *state, size_t state_words,
      refused          19, 12, 1 to 5, 8, 10: all stays. 6, 7, 9, 11: the flow's
                       context is closed if it was open, all else stays.
                       20 to 25: the response is written, all else stays.
-   report.response says whether the response was written. A delivered room
-   keeps its bytes until its context is next used.
+   report.response says whether the response was written (crates/from_c/specs/
+   Statements.antt, ReportsReply). A delivered room keeps its bytes until its
+   context is next used.
    Promise: crates/kaiverohm/specs/Exports.antt, ReadPromise. */
 struct kaiverohm_report kaiverohm_read(uint64_t *state, size_t state_words,
                                        uint8_t *stream_memory, size_t stream_length,

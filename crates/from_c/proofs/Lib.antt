@@ -1,1 +1,2 @@
+mod Once
 mod Reply

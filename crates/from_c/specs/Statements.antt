@@ -1,0 +1,76 @@
+-- What holds of the functions that C calls, as statements. Each is proved in proofs/.
+use Prim.Native.Nat.{ℕ}
+use mathlib.Core.Path.{_≡_}
+use mathlib.Core.List.{List}
+use Rattle.responses.specs.Type13.{answered}
+use Rattle.reading.specs.Table.{Lent}
+use Rattle.reading.specs.Read.{reading}
+use Rattle.reports.specs.declared.Numbers.{Numbers}
+use Rattle.reports.specs.declared.Report.{Report}
+use Rattle.reports.specs.Reports.{responseOf}
+use Rattle.places.specs.declared.Place.{Place}
+use Rattle.places.specs.Places.{StreamPlacePromise, MessagePlacePromise}
+use Rattle.bursts.specs.declared.Burst.{Burst}
+use Rattle.bursts.specs.Bursts.{Run, BurstPromise}
+use Rattle.kaiverohm.specs.declared.Heading.{Heading}
+use Rattle.kaiverohm.specs.Exports.{SetupPromise, ReadPromise, AbandonStreamPromise, AbandonMessagePromise, WritePromise}
+
+-- ---- What a report says of the response is what reading wrote there.
+
+-- the bytes of response that a report names, and the response buffer as it is left: none and as it was, or seven and a response to the packet
+pub data Reply (x : Lent) : ℕ → List ℕ → Type 0 where
+  silent : Reply x 0 (x .response)
+  answers : (status : ℕ) → Reply x 7 (answered (x .response) (x .packet) status)
+
+abbrev pub ReportsReply : Type 0
+ReportsReply = (x : Lent) → Reply x (responseOf (reading x .says) (x .packet)) (reading x .response)
+
+-- ---- Determinism: any two outcomes that a promise allows are one, in the answer and in everything lent.
+
+abbrev pub SetupOnce : Type 0
+SetupOnce =
+    (words : List ℕ) (device mtu room : ℕ) (r r′ : Numbers) (after after′ : List ℕ)
+    → SetupPromise words device mtu room r after
+    → SetupPromise words device mtu room r′ after′
+    → (r ≡ r′) × (after ≡ after′)
+
+abbrev pub ReadOnce : Type 0
+ReadOnce =
+    (x : Lent) (r r′ : Report) (words words′ streams streams′ messages messages′ response response′ : List ℕ)
+    → ReadPromise x r words streams messages response
+    → ReadPromise x r′ words′ streams′ messages′ response′
+    → (r ≡ r′) × (words ≡ words′) × (streams ≡ streams′) × (messages ≡ messages′) × (response ≡ response′)
+
+abbrev pub BurstOnce : Type 0
+BurstOnce =
+    (pause : ℕ) (start : Run) (burst : List ℕ) (r r′ : Burst) (words words′ streams streams′ messages messages′ responses responses′ reports reports′ : List ℕ)
+    → BurstPromise pause start burst r words streams messages responses reports
+    → BurstPromise pause start burst r′ words′ streams′ messages′ responses′ reports′
+    → (r ≡ r′) × (words ≡ words′) × (streams ≡ streams′) × (messages ≡ messages′) × (responses ≡ responses′) × (reports ≡ reports′)
+
+abbrev pub AbandonStreamOnce : Type 0
+AbandonStreamOnce =
+    (words : List ℕ) (n : ℕ) (r r′ : Numbers) (after after′ : List ℕ)
+    → AbandonStreamPromise words n r after
+    → AbandonStreamPromise words n r′ after′
+    → (r ≡ r′) × (after ≡ after′)
+
+abbrev pub AbandonMessageOnce : Type 0
+AbandonMessageOnce =
+    (words : List ℕ) (n : ℕ) (r r′ : Numbers) (after after′ : List ℕ)
+    → AbandonMessagePromise words n r after
+    → AbandonMessagePromise words n r′ after′
+    → (r ≡ r′) × (after ≡ after′)
+
+abbrev pub StreamPlaceOnce : Type 0
+StreamPlaceOnce = (words : List ℕ) (size n l : ℕ) (r r′ : Place) → StreamPlacePromise words size n l r → StreamPlacePromise words size n l r′ → r ≡ r′
+
+abbrev pub MessagePlaceOnce : Type 0
+MessagePlaceOnce = (words : List ℕ) (size n l : ℕ) (r r′ : Place) → MessagePlacePromise words size n l r → MessagePlacePromise words size n l r′ → r ≡ r′
+
+abbrev pub WriteOnce : Type 0
+WriteOnce =
+    (out : List ℕ) (h : Heading) (mtu : ℕ) (pdu : List ℕ) (k : ℕ) (r r′ : Numbers) (after after′ : List ℕ)
+    → WritePromise out h mtu pdu k r after
+    → WritePromise out h mtu pdu k r′ after′
+    → (r ≡ r′) × (after ≡ after′)
