@@ -282,27 +282,39 @@ struct posting {
 static struct sending sendings[20];
 static struct posting postings[11];
 
-static void same_segment(uint8_t *packet, size_t room, const struct sending *s, uint64_t mtu,
-                         uint64_t number, size_t *length)
+static size_t same_segment(uint8_t *packet, size_t room, struct kaiverohm_heading h, uint64_t mtu,
+                           const uint8_t *pdu, size_t pdu_length, uint64_t number)
 {
     struct guarded out = guarded(room);
     uint8_t *theirs = malloc(room + 1);
     scatter(out.bytes, room);
     memcpy(theirs, out.bytes, room);
-    struct second_heading heading = {s->heading.priority, s->heading.destination,
-                                     s->heading.source, s->heading.cos, s->heading.stream};
-    struct kaiverohm_answer a = kaiverohm_write_segment(out.bytes, room, s->heading, mtu, s->pdu,
-                                                        s->length, number);
-    same_answer(a, second_write_segment(theirs, room, heading, mtu, s->pdu, s->length, number),
+    struct second_heading heading = {h.priority, h.destination, h.source, h.cos, h.stream};
+    struct kaiverohm_answer a =
+        kaiverohm_write_segment(out.bytes, room, h, mtu, pdu, pdu_length, number);
+    same_answer(a, second_write_segment(theirs, room, heading, mtu, pdu, pdu_length, number),
                 "write_segment");
-    if (kaiverohm_segment_count(mtu, s->length) != second_segment_count(mtu, s->length))
+    if (kaiverohm_segment_count(mtu, pdu_length) != second_segment_count(mtu, pdu_length))
         fail("segment_count");
     same_bytes(out.bytes, theirs, room, "a segment");
     unharmed(&out, "the segment's buffer");
-    *length = a.kind == KAIVEROHM_WRITTEN ? a.number : 0;
-    memcpy(packet, out.bytes, *length);
+    size_t length = a.kind == KAIVEROHM_WRITTEN ? a.number : 0;
+    memcpy(packet, out.bytes, length);
     free(out.whole);
     free(theirs);
+    return length;
+}
+
+/* The writer's refusals: any numbers, any room for the packet. */
+static void any_segment(void)
+{
+    uint8_t packet[400], pdu[600];
+    struct kaiverohm_heading h;
+    scatter((uint8_t *)&h, sizeof h);
+    h.priority %= 6;
+    scatter(pdu, sizeof pdu);
+    uint64_t mtu = one_in(4) ? below(300) : 32 + 4 * below(57);
+    same_segment(packet, below(300), h, mtu, pdu, below(sizeof pdu), below(20));
 }
 
 static size_t stream_packet(uint8_t *packet, uint64_t mtu, uint64_t room)
@@ -325,7 +337,7 @@ static size_t stream_packet(uint8_t *packet, uint64_t mtu, uint64_t room)
     }
     if (one_in(10))
         s->next++;
-    same_segment(packet, mtu + 9 + below(8), s, mtu, s->next, &length);
+    length = same_segment(packet, mtu + 9 + below(8), s->heading, mtu, s->pdu, s->length, s->next);
     s->next++;
     return length;
 }
@@ -390,11 +402,12 @@ static size_t damaged(uint8_t *packet, size_t length)
 /* Now and then seventeen starts on seventeen flows, so that no context is free. */
 static size_t flood_packet(uint8_t *packet, uint64_t mtu, unsigned number)
 {
-    struct sending s = {{1, (uint16_t)(100 + number), 7, 200, 0}, {0}, 2 * mtu, 0};
-    size_t length;
-    scatter(s.pdu, s.length);
-    same_segment(packet, mtu + 9, &s, mtu, 0, &length);
-    return length;
+    struct kaiverohm_heading h = {
+        .destination = 1, .source = (uint16_t)(100 + number), .stream = 7, .cos = 200, .priority = 0
+    };
+    uint8_t pdu[512];
+    scatter(pdu, sizeof pdu);
+    return same_segment(packet, mtu + 9, h, mtu, pdu, 2 * mtu, 0);
 }
 
 static size_t some_packet(uint8_t *packet, uint64_t mtu, uint64_t room)
@@ -557,6 +570,8 @@ static void singles(uint64_t mtu, uint64_t room, unsigned long long count)
         read_one(&b, state_words, streams, messages, response, packet, length);
         if (one_in(10))
             other_calls(&b);
+        if (one_in(10))
+            any_segment();
         /* Some odd states are gone on from, with our own device, MTU and R. */
         b.second.device = words(&b)[0] = 1;
         b.second.mtu = words(&b)[1] = mtu;
@@ -701,6 +716,27 @@ static void many_bursts(uint64_t mtu, uint64_t room, unsigned count)
     no_board(&b);
 }
 
+/* The longest PDU: 65,536 bytes, whose length is written as 0. */
+static void longest(void)
+{
+    static uint8_t pdu[KAIVEROHM_LARGEST_PDU];
+    struct board b = board(256, sizeof pdu);
+    struct kaiverohm_heading h = {.destination = 1, .source = 9, .stream = 3, .cos = 1, .priority = 1};
+    uint8_t packet[PACKET];
+    same_answer(kaiverohm_setup(words(&b), WORDS, 1, 256, sizeof pdu),
+                second_setup(&b.second, 1, 256, sizeof pdu), "setup");
+    scatter(pdu, sizeof pdu);
+    unsigned long long before = kinds[KAIVEROHM_DELIVERED];
+    for (uint64_t k = 0; k < 256; k++) {
+        size_t length = same_segment(packet, 265, h, 256, pdu, sizeof pdu, k);
+        read_one(&b, WORDS, 16 * sizeof pdu, KAIVEROHM_MESSAGE_MEMORY, 7, packet, length);
+    }
+    if (kinds[KAIVEROHM_DELIVERED] != before + 1)
+        fail("the longest PDU is not delivered");
+    same_bytes(b.streams.bytes, pdu, sizeof pdu, "the longest PDU");
+    no_board(&b);
+}
+
 int main(int argc, char **argv)
 {
     static const struct {
@@ -719,6 +755,8 @@ int main(int argc, char **argv)
         many_bursts(sizes[i].mtu, sizes[i].room, (unsigned)(total * sizes[i].share / 200 / 15));
     }
 
+    longest();
+
     printf("packets %llu, bursts %llu, other calls %llu, states that 19 names %llu\n", packets,
            bursts, calls, states19);
     printf("held %llu, delivered %llu, messages %llu, refused:", kinds[KAIVEROHM_HELD],
@@ -730,8 +768,8 @@ int main(int argc, char **argv)
            stops[1], stops[2], stops[3], stops[4]);
 
     /* Every answer has to occur, or the traffic is too tame. */
-    static const unsigned needed[] = {1,  2,  3,  4,  5,  6,  7,  8,  9,  10, 11, 12, 13,
-                                      15, 18, 19, 20, 21, 22, 23, 24, 25};
+    static const unsigned needed[] = {1,  2,  3,  4,  5,  6,  7,  8,  9,  10, 11, 12,
+                                      13, 14, 15, 16, 17, 18, 19, 20, 21, 22, 23, 24, 25};
     for (size_t i = 0; i < sizeof needed / sizeof needed[0] && total >= 10000; i++)
         if (refusals[needed[i]] == 0)
             fail("refusal %u did not occur", needed[i]);
