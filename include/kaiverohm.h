@@ -15,8 +15,9 @@
         is not NULL, and nothing is read or written there.
      2. What a call may write overlaps nothing else that it is lent.
      3. A pointer to uint64_t is a multiple of 8.
-     4. Nothing else writes to what is lent while the call runs. Two calls may
-        run at once if they share no buffer that either of them writes.
+     4. While the call runs, nobody else writes to what is lent, or reads what
+        the call may write. Two calls may run at once if they share no buffer
+        that either of them may write.
      5. No buffer ends past the end of the address space, and none is longer
         than 2^63 - 1 bytes.
 

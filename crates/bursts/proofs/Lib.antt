@@ -1,3 +1,3 @@
 mod Packets
-mod Turns
+pub mod Turns
 mod Tests

@@ -1,2 +1,3 @@
 mod Once
 mod Reply
+mod Whole

@@ -1,5 +1,5 @@
 -- Each promise is an equation with one side that the inputs fix, so two outcomes are equal.
-use mathlib.Core.Path.{_≡_, ap, sym, _∙_}
+use mathlib.Core.Path.{ap, sym, _∙_}
 use Rattle.bursts.specs.Bursts.{Finished}
 use Rattle.from_c.specs.Statements.{SetupOnce, ReadOnce, BurstOnce, AbandonStreamOnce, AbandonMessageOnce, StreamPlaceOnce, MessagePlaceOnce, WriteOnce}
 

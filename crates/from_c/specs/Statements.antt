@@ -1,17 +1,21 @@
 -- What holds of the functions that C calls, as statements. Each is proved in proofs/.
-use Prim.Native.Nat.{ℕ}
+use Prim.Native.Nat.{ℕ, _≤_}
 use mathlib.Core.Path.{_≡_}
-use mathlib.Core.List.{List}
+use mathlib.Core.List.{List, [], _∷_}
+use mathlib.Core.Bool.{true}
+use lib.ListN.{length}
+use Rattle.answers.specs.Refusals.{accept, verdict}
 use Rattle.responses.specs.Type13.{answered}
 use Rattle.reading.specs.Table.{Lent}
-use Rattle.reading.specs.Read.{reading}
+use Rattle.reading.specs.Read.{lent, reading}
 use Rattle.reports.specs.declared.Numbers.{Numbers}
 use Rattle.reports.specs.declared.Report.{Report}
 use Rattle.reports.specs.Reports.{responseOf}
 use Rattle.places.specs.declared.Place.{Place}
 use Rattle.places.specs.Places.{StreamPlacePromise, MessagePlacePromise}
 use Rattle.bursts.specs.declared.Burst.{Burst}
-use Rattle.bursts.specs.Bursts.{Run, BurstPromise}
+use Rattle.records.specs.Records.{records, recordsOf}
+use Rattle.bursts.specs.Bursts.{Run, run, behind, turned, atEnd, stopped, lentTable, roomFor, readBurst, BurstPromise}
 use Rattle.kaiverohm.specs.declared.Heading.{Heading}
 use Rattle.kaiverohm.specs.Exports.{SetupPromise, ReadPromise, AbandonStreamPromise, AbandonMessagePromise, WritePromise}
 
@@ -24,6 +28,22 @@ pub data Reply (x : Lent) : ℕ → List ℕ → Type 0 where
 
 abbrev pub ReportsReply : Type 0
 ReportsReply = (x : Lent) → Reply x (responseOf (reading x .says) (x .packet)) (reading x .response)
+
+-- ---- A burst of whole records that has room for all its packets is read to its end: as many reports as packets, each packet read by what
+-- the one before left.
+
+-- the packets one after another; the next record then begins at `end`
+abbrev pub allRead : ℕ → Run → List (List ℕ) → Run
+allRead end r [] = run (r .words) (r .streamMemory) (r .messageMemory) (r .responses) (r .reports) (r .count) end
+allRead end r (packet ∷ packets) = allRead end (behind r packet end) packets
+
+abbrev pub BurstIsCalls : Type 0
+BurstIsCalls =
+    (r : Run) (burst : List ℕ) (packets : List (List ℕ)) → r .count ≡ 0 → r .next ≡ 0
+    → recordsOf burst ≡ records packets true
+    → verdict (lentTable (lent (r .words) (r .streamMemory) (r .messageMemory) (r .responses) [])) ≡ accept
+    → length packets ≤ roomFor (length (r .reports)) (length (r .responses))
+    → readBurst 0 r burst ≡ stopped (turned atEnd (allRead (length burst) r packets))
 
 -- ---- Determinism: any two outcomes that a promise allows are one, in the answer and in everything lent.
 

@@ -1,7 +1,6 @@
 -- `kaiverohm_read` meets its contract: what `endpoint::read` promises, its answer as a report.
-use mathlib.Core.Path.{ap, _∙_}
-use Rattle.reading.specs.Read.{Left}
-use Rattle.reports.specs.Reports.{reportOf}
+use Rattle.reading.specs.Read.{lent}
+use Rattle.kaiverohm.proofs.Laws.{handed}
 use borrow.Author.Needs.{needs}
 use Rattle.kaiverohm.proofs.kaiverohm_read.Statement.{statement}
 use Rattle.kaiverohm.proofs.kaiverohm_read.Tie as tie
@@ -27,14 +26,8 @@ same-length-4 c = search needs
 returns : tie.Need-returns
 returns c =
     let s = c .before .before .before .before .before .before .before .before .before .before .before .before .before .before .before .before .before .before .before in
-    let p = c .before .before .before .before .before .before .before .before .before .read .ensures in
-    record {
-      report = c .reported .ensures ∙ ap (λ (x : Left). reportOf (x .says) (x .dropped) (s .args .packet .now)) p;
-      state = ap (λ (x : Left). x .words) p;
-      streams = ap (λ (x : Left). x .streamMemory) p;
-      messages = ap (λ (x : Left). x .messageMemory) p;
-      reply = ap (λ (x : Left). x .response) p;
-    }
+    let t = c .before .before .before .before .before .before .before .before .before .read in
+    handed (lent (s .args .state .now) (s .args .stream-memory .now) (s .args .message-memory .now) (s .args .response .now) (s .args .packet .now)) (t .result) (c .reported .result) (t .last .0) (t .last .1 .0) (t .last .1 .1 .0) (t .last .1 .1 .1 .0) (t .ensures) (c .reported .ensures)
 
 pub kaiverohm-read-spec : {M : Type 1} → statement M
 kaiverohm-read-spec =
