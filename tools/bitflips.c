@@ -424,10 +424,11 @@ static void in_every_mixture(struct tally *t, struct packet *first, unsigned a,
     first[at].bytes[byte] ^= (uint8_t)(0x80 >> bit);
 }
 
-/* 1, 2 or 3 packets; odd for the first PDU of a flow, so that it has a pad. */
+/* 1, 2 or 3 packets. The first PDU of a flow is odd, so that it has a pad; a
+   second of one packet has MTU bytes, so that it could be a start. */
 static size_t size_of(unsigned packets, unsigned which)
 {
-    static const size_t first[] = { 19, 39, 71 }, second[] = { 20, 40, 72 };
+    static const size_t first[] = { 19, 39, 71 }, second[] = { 32, 40, 72 };
     return which ? second[packets - 1] : first[packets - 1];
 }
 
