@@ -13,7 +13,7 @@
 #include <stdlib.h>
 #include <string.h>
 
-enum { DEVICE = 1, MTU = 32, ROOM = 2048, MOST_SENT = 8, MOST_PACKETS = 40 };
+enum { DEVICE = 1, MTU = 32, ROOM = 2048, MOST_SENT = 12, MOST_PACKETS = 48 };
 
 /* ---- What is sent ------------------------------------------------------- */
 
@@ -129,6 +129,7 @@ struct run {
     bool stays_open;            /* a context is open at the end */
     bool passes_number;         /* wrong or twice, and the scan number at both ends agrees */
     bool passes_all;            /* wrong or twice, and all checks of the member agree */
+    unsigned wrongs, rights;    /* deliveries that nobody sent; PDUs that were delivered */
     struct second_answer watched;
 };
 
@@ -227,7 +228,6 @@ static struct run run(const struct packet *const *order, unsigned count, unsigne
         stream_memory, sizeof stream_memory, message_memory, sizeof message_memory,
         response, sizeof response
     };
-    bool wrong = false;
     second_setup(&state, DEVICE, MTU, ROOM);
     for (unsigned i = 0; i < count; i++) {
         struct second_answer answer =
@@ -245,7 +245,7 @@ static struct run run(const struct packet *const *order, unsigned count, unsigne
             which++;
         bool bad = which == sent_count || times[which] > 0;
         if (which == sent_count)
-            wrong = true;
+            r.wrongs++;
         else
             times[which]++;
         if (bad && ends_agree(&got) && flow_of(&got) != MOST_SENT)
@@ -254,6 +254,7 @@ static struct run run(const struct packet *const *order, unsigned count, unsigne
             r.passes_all = true;
     }
     for (unsigned i = 0; i < sent_count; i++) {
+        r.rights += times[i] > 0;
         if (times[i] == 0 && flows[i] == 1)
             r.other_hurt = true;
         if (times[i] == 0 && r.outcome == RIGHT)
@@ -261,7 +262,7 @@ static struct run run(const struct packet *const *order, unsigned count, unsigne
         if (times[i] > 1)
             r.outcome = TWICE;
     }
-    if (wrong)
+    if (r.wrongs)
         r.outcome = WRONG;
     for (int i = 0; i < SECOND_STREAM_CONTEXTS; i++)
         r.stays_open |= state.stream[i].open != 0;
@@ -866,7 +867,66 @@ static void sizes(bool messages)
         print_size_rows(kinds[k]);
 }
 
-/* ---- Table 5: the one bit between types 9 and 11 --------------------------- */
+/* ---- Table 5: how long one fault lasts --------------------------------------- */
+
+enum { TEN = 10 };
+
+/* Ten PDUs or messages of some packets each. */
+static void ten(bool messages, unsigned packets)
+{
+    sent_count = 0;
+    flow_count = 0;
+    for (unsigned i = 0; i < TEN; i++) {
+        unsigned which = messages ? add_sent(true, 2, 1, 2, i + 1, 16 * packets - 8)
+                                  : add_sent(false, 2, 5, 7 + i, i + 1, (packets - 1) * MTU + 18);
+        flow_count += messages ? cut_message(flow_packets + flow_count, 0, which)
+                               : cut(flow_packets + flow_count, 0, which);
+    }
+}
+
+static unsigned least_right, most_wrong;
+
+/* Packet `from` of the first is lost (`behind` under it), or comes again. */
+static void one_fault(unsigned from, int behind)
+{
+    const struct packet *order[MOST_PACKETS];
+    unsigned n = 0;
+    for (unsigned i = 0; i < flow_count; i++) {
+        if (i != from || behind >= 0)
+            order[n++] = &flow_packets[i];
+        if ((int)i == behind)
+            order[n++] = &flow_packets[from];
+    }
+    struct run r = run(order, n, 0);
+    least_right = r.rights < least_right ? r.rights : least_right;
+    most_wrong = r.wrongs > most_wrong ? r.wrongs : most_wrong;
+}
+
+static void lasting(bool messages, const char *fault_name, bool lost, bool inside)
+{
+    least_right = TEN;
+    most_wrong = 0;
+    for (unsigned packets = 2; packets <= 4; packets++) {
+        ten(messages, packets);
+        for (unsigned from = 0; from < packets; from++)
+            one_fault(from, lost ? -1 : (int)(inside ? packets : packets - 1));
+    }
+    printf("| %s | %s | %u |", messages ? "message" : "PDU", fault_name, least_right);
+    print_bad(most_wrong);
+    printf("\n");
+}
+
+static void how_long(void)
+{
+    begin("how-long", "| ten are sent, and the first one's | fault | of ten right, at least | wrong, at most |");
+    for (int messages = 0; messages < 2; messages++) {
+        lasting(messages, "packet is lost", true, false);
+        lasting(messages, "packet comes again behind its last", false, false);
+        lasting(messages, "packet comes again behind the first packet of the second", false, true);
+    }
+}
+
+/* ---- Table 6: the one bit between types 9 and 11 --------------------------- */
 
 static struct second_answer alone(const uint8_t *packet, size_t length)
 {
@@ -947,6 +1007,7 @@ int main(void)
     faults(true);
     sizes(false);
     sizes(true);
+    how_long();
     type_bit();
     return 0;
 }
