@@ -13,7 +13,18 @@
 #include <stdlib.h>
 #include <string.h>
 
-enum { DEVICE = 1, MTU = 32, ROOM = 2048, MOST_SENT = 12, MOST_PACKETS = 48 };
+enum { DEVICE = 1, ROOM = 2048, TEN = 10, MOST_SENT = 12, MOST_PACKETS = 48 };
+
+static size_t mtu = 32;
+
+/* The page says so; if it is not so, the program ends. */
+static void claim(bool holds, const char *words)
+{
+    if (holds)
+        return;
+    fprintf(stderr, "not so: %s\n", words);
+    exit(1);
+}
 
 /* ---- What is sent ------------------------------------------------------- */
 
@@ -22,7 +33,7 @@ struct sent {
     unsigned source, cos_or_letter, stream_or_mailbox;
     unsigned number;            /* the scan number, 0 to 255 */
     size_t length;
-    uint8_t bytes[256];
+    uint8_t bytes[800];
 };
 
 struct packet {
@@ -89,10 +100,10 @@ static unsigned cut(struct packet *out, unsigned flow, unsigned which)
         .priority = 1, .destination = DEVICE, .source = (uint16_t)s->source,
         .cos = (uint8_t)s->cos_or_letter, .stream_id = (uint16_t)s->stream_or_mailbox
     };
-    unsigned count = (unsigned)second_segment_count(MTU, s->length);
+    unsigned count = (unsigned)second_segment_count(mtu, s->length);
     for (unsigned k = 0; k < count; k++) {
         out[k] = (struct packet){ .flow = flow, .sent = which };
-        out[k].length = second_write_segment(out[k].bytes, sizeof out[k].bytes, heading, MTU,
+        out[k].length = second_write_segment(out[k].bytes, sizeof out[k].bytes, heading, mtu,
                                              s->bytes, s->length, k).length;
     }
     return count;
@@ -228,7 +239,7 @@ static struct run run(const struct packet *const *order, unsigned count, unsigne
         stream_memory, sizeof stream_memory, message_memory, sizeof message_memory,
         response, sizeof response
     };
-    second_setup(&state, DEVICE, MTU, ROOM);
+    second_setup(&state, DEVICE, mtu, ROOM);
     for (unsigned i = 0; i < count; i++) {
         struct second_answer answer =
             second_read(&state, lent, order[i]->bytes, order[i]->length);
@@ -425,12 +436,30 @@ static void in_every_mixture(struct tally *t, struct packet *first, unsigned a,
     first[at].bytes[byte] ^= (uint8_t)(0x80 >> bit);
 }
 
+/* At another MTU, one flow behind the other: the touched packet is answered as
+   at MTU 32, and nothing wrong comes where nothing did. */
+static bool other_mtu;
+
+static void as_at_32(const struct tally *t, struct packet *first, unsigned a,
+                     const struct packet *second, unsigned b, unsigned at, size_t byte,
+                     unsigned bit)
+{
+    const struct packet *order[MOST_PACKETS];
+    interleave(order, first, a, second, b, (1ul << a) - 1);
+    first[at].bytes[byte] ^= (uint8_t)(0x80 >> bit);
+    struct run r = run(order, a + b, at);
+    claim(t->runs > 0 && t->answers[answer_code(r.watched)], "every MTU answers as 32 does");
+    claim(r.outcome != WRONG || t->outcomes[WRONG] > 0, "no MTU delivers wrong where 32 does not");
+    first[at].bytes[byte] ^= (uint8_t)(0x80 >> bit);
+}
+
 /* 1, 2 or 3 packets. The first PDU of a flow is odd, so that it has a pad; a
    second of one packet has MTU bytes, so that it could be a start. */
 static size_t size_of(unsigned packets, unsigned which)
 {
-    static const size_t first[] = { 19, 39, 71 }, second[] = { 32, 40, 72 };
-    return which ? second[packets - 1] : first[packets - 1];
+    if (packets == 1)
+        return which ? mtu : mtu - 13;
+    return (packets - 1) * mtu + (which ? 8 : 7);
 }
 
 /* The other flow differs from the first in the flipped bit, where that is a
@@ -457,7 +486,10 @@ static void stream_mixtures(const unsigned *shape, size_t byte, unsigned bit, un
         return;
     char name[96];
     snprintf(name, sizeof name, "%s | %s", kind_name(&first[at]), stream_field(&first[at], byte, bit));
-    in_every_mixture(row(name), first, a, second, b, at, byte, bit);
+    if (other_mtu)
+        as_at_32(row(name), first, a, second, b, at, byte, bit);
+    else
+        in_every_mixture(row(name), first, a, second, b, at, byte, bit);
 }
 
 static void each_shape(void (*what)(const unsigned *, size_t, unsigned, unsigned), size_t bytes)
@@ -522,10 +554,20 @@ static void print_total(void)
     print_row(&all);
 }
 
+static void other_mtus(void)
+{
+    other_mtu = true;
+    for (mtu = 36; mtu <= 256; mtu += 4)
+        each_shape(stream_mixtures, 10);
+    mtu = 32;
+    other_mtu = false;
+}
+
 static void stream_flips(void)
 {
     begin("stream-flips", flip_head);
-    each_shape(stream_mixtures, 9 + MTU);
+    each_shape(stream_mixtures, 9 + mtu);
+    other_mtus();
     print_rows_of("single");
     print_rows_of("start");
     print_rows_of("continuation");
@@ -608,14 +650,45 @@ static void three(bool messages, unsigned n)
                 add_sent(true, 2, 1, 2, i + 1, 16 * packets - (packets > 1 || i != 1 ? 8 : 0)));
         else
             flow_count += cut(flow_packets + flow_count, 0,
-                add_sent(false, 2, 5, 7 + i, i + 1, (packets - 1) * MTU + 18 + 2 * i));
+                add_sent(false, 2, 5, 7 + i, i + 1, (packets - 1) * mtu + 18 + 2 * i));
     }
 }
 
-static void fault(const char *name, const struct packet *const *order, unsigned n, unsigned watch)
+static bool fault(const char *name, const struct packet *const *order, unsigned n, unsigned watch)
 {
     struct run r = run(order, n, watch);
     count(row(name), &r);
+    return r.outcome == WRONG;
+}
+
+static unsigned packets_in(unsigned which)
+{
+    unsigned n = 0;
+    for (unsigned i = 0; i < flow_count; i++)
+        n += flow_packets[i].sent == which;
+    return n;
+}
+
+/* How many packets of the PDU of packet `behind` have come with it. */
+static unsigned come(unsigned behind)
+{
+    unsigned n = 0;
+    for (unsigned i = 0; i <= behind; i++)
+        n += flow_packets[i].sent == flow_packets[behind].sent;
+    return n;
+}
+
+/* A start or end that lands inside another PDU, behind packet `behind`: when
+   it is joined. A continuation never is. */
+static void claim_joined(const struct packet *p, unsigned its_packets, unsigned behind, bool wrong)
+{
+    unsigned kind = p->bytes[6] >> 6;
+    if (kind == 2)
+        claim(wrong == (come(behind) == 1), "a strange start is joined exactly directly behind a start");
+    if (kind == 1)
+        claim(wrong == (come(behind) == its_packets - 1), "a strange end is joined exactly if as many packets have come");
+    if (kind == 0)
+        claim(!wrong, "a strange continuation is never delivered");
 }
 
 /* Where a copy or a late packet comes: behind packet `behind` of the flow. */
@@ -655,7 +728,11 @@ static void move(const char *what, bool messages, unsigned from, unsigned behind
             order[n++] = &flow_packets[from];
         }
     }
-    fault(moved_name(what, messages, from, behind, copy), order, n, watch);
+    bool wrong = fault(moved_name(what, messages, from, behind, copy), order, n, watch);
+    const struct packet *p = &flow_packets[from];
+    bool inside = behind + 1 < flow_count && flow_packets[behind + 1].sent == flow_packets[behind].sent;
+    if (!messages && inside && flow_packets[behind].sent != p->sent)
+        claim_joined(p, packets_in(p->sent), behind, wrong);
 }
 
 static void lose(bool messages)
@@ -699,7 +776,8 @@ static void swap_continuations(void)
             continue;
         for (unsigned i = 0; i < flow_count; i++)
             order[i] = &flow_packets[i == x ? x + 1 : i == x + 1 ? x : i];
-        fault("swapped | two continuations | of one PDU", order, flow_count, x);
+        claim(fault("swapped | two continuations | of one PDU", order, flow_count, x),
+              "two swapped continuations are delivered wrong");
     }
 }
 
@@ -719,7 +797,12 @@ static void swap_neighbours(bool messages)
         else
             snprintf(name, sizeof name, "swapped | %s and %s | %s", kind_name(&flow_packets[x]),
                      kind_name(&flow_packets[x + 1]), one ? "of one PDU" : "of two PDUs");
-        fault(name, order, flow_count, x);
+        bool wrong = fault(name, order, flow_count, x);
+        if (!messages) {
+            bool end_and_start = !one && flow_packets[x].bytes[6] >> 6 == 1 && flow_packets[x + 1].bytes[6] >> 6 == 2;
+            claim(wrong == (end_and_start && packets_in(flow_packets[x].sent) == 2),
+                  "an end and a start that change places are joined exactly if the first PDU has two packets");
+        }
     }
 }
 
@@ -731,7 +814,7 @@ static void put_in(bool messages)
     for (unsigned packets = 1; packets <= 4; packets++) {
         struct packet forged[4];
         unsigned which = messages ? add_sent(true, 2, 1, 2, 77, 16 * packets - 8)
-                                  : add_sent(false, 2, 5, 99, 77, (packets - 1) * MTU + 12);
+                                  : add_sent(false, 2, 5, 99, 77, (packets - 1) * mtu + 12);
         unsigned count_forged = messages ? cut_message(forged, 0, which) : cut(forged, 0, which);
         sent_count--;       /* nobody of ours sent it */
         for (unsigned f = 0; f < count_forged; f++) {
@@ -750,7 +833,9 @@ static void put_in(bool messages)
                          messages ? segment_name(&forged[f]) : kind_name(&forged[f]),
                          messages ? (inside ? "inside a message" : "between messages")
                                   : (inside ? "inside a PDU" : "between PDUs"));
-                fault(name, order, n, at);
+                bool wrong = fault(name, order, n, at);
+                if (!messages && inside && packets > 1)
+                    claim_joined(&forged[f], packets, at - 1, wrong);
             }
         }
     }
@@ -806,6 +891,73 @@ static void faults(bool messages)
     for (size_t i = 0; i < sizeof moved / sizeof moved[0]; i++)
         for (size_t k = 0; k < sizeof kinds / sizeof kinds[0]; k++)
             print_fault_rows(moved[i], kinds[k]);
+}
+
+/* ---- What the page says of two faults, and of messages ------------------------ */
+
+static void send_one(struct packet *out, unsigned *n, const struct packet *p)
+{
+    out[(*n)++] = *p;
+}
+
+static struct run run_these(const struct packet *packets, unsigned n, unsigned watch)
+{
+    const struct packet *order[MOST_PACKETS];
+    for (unsigned i = 0; i < n; i++)
+        order[i] = &packets[i];
+    return run(order, n, watch);
+}
+
+static void two_faults(void)
+{
+    struct packet a[4], b[4], sent[MOST_PACKETS];
+    sent_count = 0;
+    cut(a, 0, add_sent(false, 2, 5, 7, 1, 3 * mtu + 8));
+    cut(b, 0, add_sent(false, 2, 5, 8, 2, 3 * mtu + 8));
+    unsigned n = 0;
+    send_one(sent, &n, &a[0]);
+    send_one(sent, &n, &a[1]);
+    send_one(sent, &n, &a[1]);
+    send_one(sent, &n, &a[3]);
+    claim(run_these(sent, n, 3).wrongs == 1, "a continuation twice makes up for a lost one");
+    n = 0;
+    for (unsigned k = 0; k < 4; k++)
+        send_one(sent, &n, &a[k]);
+    send_one(sent, &n, &a[0]);
+    for (unsigned k = 1; k < 4; k++)
+        send_one(sent, &n, &b[k]);
+    claim(run_these(sent, n, 7).wrongs == 1, "a start that comes again is joined to a PDU that lost its start");
+}
+
+/* The page's example, and the fault that does not heal. */
+static void message_examples(void)
+{
+    struct packet m[TEN][2], sent[MOST_PACKETS];
+    sent_count = 0;
+    for (unsigned i = 0; i < TEN; i++)
+        cut_message(m[i], 0, add_sent(true, 2, 1, 2, i + 1, 32));
+    unsigned n = 0;
+    send_one(sent, &n, &m[0][0]);
+    send_one(sent, &n, &m[1][0]);
+    send_one(sent, &n, &m[1][1]);
+    claim(run_these(sent, n, 1).watched.refusal == 24, "N's segment 0 is refused 24");
+    claim(run_these(sent, n, 2).watched.kind == SECOND_MESSAGE, "N's segment 1 delivers");
+    claim(run_these(sent, n, 2).wrongs == 1, "and what it delivers nobody sent");
+    n = 0;
+    for (unsigned i = 0; i < TEN; i++)
+        for (unsigned k = i == 0; k < 2; k++)
+            send_one(sent, &n, &m[i][k]);
+    struct run r = run_these(sent, n, 0);
+    claim(r.wrongs == TEN - 1 && r.rights == 0 && r.quiet, "a lost segment 0 spoils every message, and nothing is refused");
+    n = 0;
+    for (unsigned i = 0; i < TEN; i++) {
+        send_one(sent, &n, &m[i][0]);
+        send_one(sent, &n, &m[i][1]);
+        if (i == 0)
+            send_one(sent, &n, &m[i][1]);
+    }
+    r = run_these(sent, n, 0);
+    claim(r.wrongs == TEN - 1 && r.rights == 1 && r.quiet, "a last segment that comes again does so too");
 }
 
 /* ---- Table 4: a packet cut short, or with bytes behind it -------------------- */
@@ -869,8 +1021,6 @@ static void sizes(bool messages)
 
 /* ---- Table 5: how long one fault lasts --------------------------------------- */
 
-enum { TEN = 10 };
-
 /* Ten PDUs or messages of some packets each. */
 static void ten(bool messages, unsigned packets)
 {
@@ -878,7 +1028,7 @@ static void ten(bool messages, unsigned packets)
     flow_count = 0;
     for (unsigned i = 0; i < TEN; i++) {
         unsigned which = messages ? add_sent(true, 2, 1, 2, i + 1, 16 * packets - 8)
-                                  : add_sent(false, 2, 5, 7 + i, i + 1, (packets - 1) * MTU + 18);
+                                  : add_sent(false, 2, 5, 7 + i, i + 1, (packets - 1) * mtu + 18);
         flow_count += messages ? cut_message(flow_packets + flow_count, 0, which)
                                : cut(flow_packets + flow_count, 0, which);
     }
@@ -935,7 +1085,7 @@ static struct second_answer alone(const uint8_t *packet, size_t length)
         stream_memory, sizeof stream_memory, message_memory, sizeof message_memory,
         response, sizeof response
     };
-    second_setup(&state, DEVICE, MTU, ROOM);
+    second_setup(&state, DEVICE, mtu, ROOM);
     return second_read(&state, lent, packet, length);
 }
 
@@ -959,9 +1109,9 @@ static void type_9_as_11(void)
     uint8_t pdu[256] = { 0 }, packet[300];
     for (unsigned cos = 0; cos < 256; cos++)
         for (size_t length = 1; length <= 96; length++)
-            for (unsigned k = 0; k < second_segment_count(MTU, length); k++) {
+            for (unsigned k = 0; k < second_segment_count(mtu, length); k++) {
                 const struct second_heading heading = { 1, DEVICE, 2, (uint8_t)cos, 7 };
-                size_t bytes = second_write_segment(packet, sizeof packet, heading, MTU, pdu, length, k).length;
+                size_t bytes = second_write_segment(packet, sizeof packet, heading, mtu, pdu, length, k).length;
                 packet[0] ^= 2;
                 bool reserved = cos % 16 < 9 || cos % 16 == 15;
                 (reserved ? safe : unsafe)[kind_of(alone(packet, bytes))]++;
@@ -1005,6 +1155,8 @@ int main(void)
     message_flips();
     faults(false);
     faults(true);
+    two_faults();
+    message_examples();
     sizes(false);
     sizes(true);
     how_long();
