@@ -12,6 +12,7 @@ use Rattle.sizes.specs.Sizes.{badMTU}
 use Rattle.contexts.specs.State.{State, fresh, streamIn, closedStream, isFreeStream, isFreeMessage, isOfFlow, flowContext}
 use Rattle.contexts.specs.Words.{stateOf, wordsOf, stateWords}
 use Rattle.contexts.proofs.Words.{sixteen, state-of, length-words}
+use Rattle.refusal19.proofs.Kept.{fresh-good}
 use Rattle.refusal19.specs.Refusal19.{badRoom, badStream, badMessage, namedBy19}
 use Rattle.refusal19.proofs.Good.{good, stream-holds}
 use Rattle.reading.specs.Read.{Left}
@@ -73,10 +74,6 @@ module _ {device mtu room : ℕ} {flows : List Flow} {b : Board} (f : Fine devic
   }
 
 -- ---- a board that was just set up
-fresh-good : (device mtu room : ℕ) → badMTU mtu ≡ false → badRoom mtu room ≡ false → namedBy19 (fresh device mtu room) ≡ false
-unfolding namedBy19 any firstOf badStream badMessage isFreeStream isFreeMessage
-fresh-good device mtu room m r = rw (m, r)
-
 fresh-at : (n i : ℕ) → at (replicate n closedStream) i ≡ closedStream
 fresh-at ℕ.zero i = refl
 fresh-at (ℕ.suc n) ℕ.zero = refl

@@ -1,4 +1,4 @@
--- A type 11 packet from row 20 on, in the order of the code; the refusal table (crate endpoint) says the same by rows.
+-- A type 11 packet from row 20 on, in the order of the code; the refusal table (crate reading) says the same by rows.
 use Prim.Native.Nat.{ℕ}
 use mathlib.Core.List.{List}
 use mathlib.Core.Bool.{cond}

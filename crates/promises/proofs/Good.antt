@@ -14,7 +14,7 @@ use Rattle.contexts.specs.State.{State, fresh, withStream, withMessage, closedS
 use Rattle.contexts.specs.Words.{stateOf, wordsOf}
 use Rattle.refusal19.specs.Refusal19.{badRoom, badStream, badMessage, namedBy19}
 use Rattle.contexts.proofs.Words.{state-of, length-words}
-use Rattle.refusal19.proofs.Kept.{stream-kept, message-kept, closed-stream, closed-message}
+use Rattle.refusal19.proofs.Kept.{fresh-good, stream-kept, message-kept, closed-stream, closed-message}
 use Rattle.reading.specs.Good.{GoodWords, StillGood}
 use Rattle.reading.proofs.Kept.{settled, unchanged, stays-good}
 use Rattle.endpoint.specs.Calls.{Stands, stands, SetupLeaves, setupTable, setup, setupBy, abandonTable, abandonBy, abandonStream, abandonMessage}
@@ -24,10 +24,6 @@ pub read-good : ReadGood
 read-good x g bytes = stays-good x (g .whole) (g .good) (bytes 5)
 
 -- ---- setup
-fresh-good : (device mtu room : ℕ) → badMTU mtu ≡ false → badRoom mtu room ≡ false → namedBy19 (fresh device mtu room) ≡ false
-unfolding namedBy19 any firstOf badStream badMessage isFreeStream isFreeMessage
-fresh-good device mtu room m r = rw (m, r)
-
 good-words : (device mtu room : ℕ) → namedBy19 (fresh device mtu room) ≡ false → GoodWords (wordsOf (fresh device mtu room))
 good-words device mtu room g = record { whole = length-words (fresh device mtu room) refl refl; good = ap namedBy19 (state-of (fresh device mtu room) refl refl) ∙ g }
 

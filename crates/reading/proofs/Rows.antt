@@ -14,8 +14,6 @@ use Rattle.contexts.specs.Words.{stateWords}
 use Rattle.refusal19.specs.Refusal19.{namedBy19}
 use Rattle.rules.specs.Segments.{malformed}
 use Rattle.rules.specs.Messages.{reservedSize, badLength, pastLast}
-use Rattle.rules.specs.Segments.{malformed}
-use Rattle.rules.specs.Messages.{reservedSize, badLength, pastLast}
 use Rattle.streams.specs.Rows as stream
 use Rattle.messages.specs.Rows as message
 use Rattle.reading.specs.Table.{Lent, stateIn, segmentIn, messageSegmentIn, under, is9, is11, isState, wrongMemory, table}

@@ -15,8 +15,6 @@ use Rattle.contexts.specs.Words.{stateOf, stateWords}
 use Rattle.refusal19.specs.Refusal19.{namedBy19}
 use Rattle.rules.specs.Segments.{malformed}
 use Rattle.rules.specs.Messages.{reservedSize, badLength, pastLast}
-use Rattle.rules.specs.Segments.{malformed}
-use Rattle.rules.specs.Messages.{reservedSize, badLength, pastLast}
 use Rattle.streams.specs.Rows as stream
 use Rattle.messages.specs.Rows as message
 

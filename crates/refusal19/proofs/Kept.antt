@@ -9,12 +9,12 @@ use lib.Dec.{eqb, ltb, leb}
 use lib.ListN.{length, getD, set, length-set}
 use lib.Seq.{getD-set-same, getD-set-other, set-out}
 use borrow.Author.Tests.{ne-eqb, le-ltb, lt-leb}
-use Rattle.lists.specs.First.{any}
+use Rattle.lists.specs.First.{firstOf, any}
 use Rattle.lists.proofs.First.{none-passes, all-fail}
 use Rattle.sizes.specs.Sizes.{badMTU, bytesOf}
 use Rattle.contexts.specs.declared.StreamContext.{StreamContext}
 use Rattle.contexts.specs.declared.MessageContext.{MessageContext}
-use Rattle.contexts.specs.State.{State, withStream, withMessage, closedStream, closedMessage, isFreeStream, isFreeMessage}
+use Rattle.contexts.specs.State.{State, fresh, withStream, withMessage, closedStream, closedMessage, isFreeStream, isFreeMessage}
 use Rattle.contexts.specs.Marks.{allMarked}
 use Rattle.refusal19.specs.Refusal19.{badRoom, badStream, badLast, badMarks, badMessage, namedBy19}
 use Rattle.refusal19.proofs.Good.{neither}
@@ -64,3 +64,8 @@ unfolding namedBy19
 message-kept s n c e f =
     let a = neither (badMTU (s .mtu) || badRoom (s .mtu) (s .room) || any (badStream (s .room)) (s .streams)) (any badMessage (s .messages)) e in
     rw (a .0, none-put badMessage closedMessage (s .messages) n c (a .1) f)
+
+-- a state as setup makes it is good
+pub fresh-good : (device mtu room : ℕ) → badMTU mtu ≡ false → badRoom mtu room ≡ false → namedBy19 (fresh device mtu room) ≡ false
+unfolding namedBy19 any firstOf badStream badMessage isFreeStream isFreeMessage
+fresh-good device mtu room m r = rw (m, r)

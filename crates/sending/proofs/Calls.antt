@@ -13,13 +13,10 @@ use Rattle.flows.specs.Board.{Board, Delivery, delivery, deliveredBy, read, aft
 use Rattle.flows.specs.ByFlow.{among, Tells, OwnFlow, ByFlow}
 use Rattle.sending.specs.Sending.{tell, deliveries, Each}
 use Rattle.sending.specs.OneFlow.{packetStep, deliveredPDU, also, flowDeliveries}
+use Rattle.flows.proofs.Flows.{same-refl}
 use Rattle.sending.proofs.OneFlow.{Proper}
 
 -- a flow is itself, so it is among itself
-same-refl : (flow : Flow) → sameFlow flow flow ≡ true
-unfolding sameFlow
-same-refl flow = rw (eq-eqb (flow .source) (flow .source) refl, eq-eqb (flow .cos) (flow .cos) refl)
-
 pub among-itself : (flow : Flow) → among flow (flow ∷ []) ≡ true
 among-itself flow = rw (same-refl flow)
 

@@ -22,25 +22,13 @@ use Rattle.flows.specs.Board.{Board, Delivery, deliveredBy, read, after, room, 
 use Rattle.flows.specs.ByFlow.{among, AreBytes, NoFlow, ByFlow}
 use Rattle.sending.specs.Sending.{Put, flowPuts, FlowSent, Turn, next, message, sentOn, flowsOf, Event, sent, headOf, advance, events, queues, left, tell, wholes, whole, deliveries, Each, FairFlow, FairTurn}
 use Rattle.sending.specs.OneFlow.{packetStep, deliveredPDU}
+use Rattle.flows.proofs.Flows.{same-true}
 use Rattle.sending.specs.Statements.{DeliveredIsWhole, DeliveredIsWholeAnyLoss, firstTurns, DeliveredAtEveryTurn, SamePacketsSameWhole}
 use Rattle.sending.proofs.OneFlow.{afterPut, Good, one-flow}
 use Rattle.sending.proofs.Rooms.{carried}
 use Rattle.sending.proofs.Calls.{Own, by-own}
 
 -- ---- Flows and messages
-
--- two flows that are one are equal
-pub same-true : (a b : Flow) → sameFlow a b ≡ true → a ≡ b
-unfolding sameFlow
-same-true a b e = go (eqb (a .source) (b .source)) (eqb (a .cos) (b .cos)) refl refl e
-  where
-    make : (s s′ c c′ : ℕ) → s ≡ s′ → c ≡ c′ → _≡_ {A = Flow} (record { source = s; cos = c }) (record { source = s′; cos = c′ })
-    make s s′ c c′ p q = rw (p, q)
-
-    go : (x y : Bool) → eqb (a .source) (b .source) ≡ x → eqb (a .cos) (b .cos) ≡ y → (x && y) ≡ true → a ≡ b
-    go true true p q e = make (a .source) (b .source) (a .cos) (b .cos) (eqb-true (a .source) (b .source) p) (eqb-true (a .cos) (b .cos) q)
-    go true false p q e = absurd (false≢true e)
-    go false y p q e = absurd (false≢true e)
 
 -- a packet of type 11 is a message or refused
 pub type-11 : (device : ℕ) (p : List ℕ) → packetType p ≡ 11 → ((m : MessageSegment) × (parsed device p ≡ Message m)) ⊎ ((number : ℕ) × (parsed device p ≡ Refused number))

@@ -1,4 +1,4 @@
--- A type 9 packet from row 6 on, in the order of the code; the refusal table (crate endpoint) says the same by rows.
+-- A type 9 packet from row 6 on, in the order of the code; the refusal table (crate reading) says the same by rows.
 use Prim.Native.Nat.{ℕ, _≤_}
 use mathlib.Core.Path.{_≡_}
 use mathlib.Core.List.{List}

@@ -1,4 +1,4 @@
--- Reading a packet before any context is looked at, in the order of the code; the refusal table (crate endpoint) says the same by rows.
+-- Reading a packet before any context is looked at, in the order of the code; the refusal table (crate reading) says the same by rows.
 use Prim.Native.Nat.{ℕ}
 use mathlib.Core.List.{List}
 use mathlib.Core.Bool.{Bool, cond}

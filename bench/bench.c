@@ -1,0 +1,211 @@
+/* One kind of traffic through one endpoint, a number of times: bench TRAFFIC ENDPOINT ROUNDS.
+ * The packets are made once. A round reads them all and leaves every context closed, so rounds are alike,
+ * and the instructions of two runs of N and 2 N rounds differ by exactly N rounds.
+ * Prints packets and payload bytes of a round, the rounds, and nanoseconds for a packet. */
+#include "kaiverohm.h"
+#include "twin.h"
+
+#include <stdio.h>
+#include <stdlib.h>
+#include <string.h>
+#include <time.h>
+
+enum { PACKETS = 2048, LONGEST = 300, STATE = 147, ROOM = 4096 };
+
+static uint8_t packets[PACKETS][LONGEST];
+static size_t lengths[PACKETS];
+static size_t count, payload;
+static size_t mtu = 32;
+
+static uint8_t burst[PACKETS * (LONGEST + 2)];
+static size_t burst_length;
+
+static uint8_t streams[16 * ROOM], messages[32768];
+static uint64_t state[STATE], reports[PACKETS * 9];
+static uint8_t responses[PACKETS * 8], response[7];
+static struct twin twin;
+
+static void add(const uint8_t *packet, size_t length)
+{
+    memcpy(packets[count], packet, length);
+    lengths[count++] = length;
+}
+
+/* sixteen flows in turn, each with PDUs of eight segments */
+static void make_streams(void)
+{
+    static uint8_t pdu[8 * 256];
+    uint8_t out[LONGEST];
+    for (size_t i = 0; i < sizeof pdu; i++)
+        pdu[i] = (uint8_t)(7 * i + i / 256);
+    for (int round = 0; count + 128 <= PACKETS; round++)
+        for (uint64_t k = 0; k < 8; k++)
+            for (int flow = 0; flow < 16; flow++) {
+                struct kaiverohm_heading h = {
+                    .destination = 1, .source = (uint16_t)(flow + 2), .stream = (uint16_t)round, .cos = 5};
+                struct kaiverohm_answer a =
+                    kaiverohm_write_segment(out, sizeof out, h, mtu, pdu, 8 * mtu, k);
+                payload += mtu;
+                add(out, a.number);
+            }
+}
+
+/* messages of sixteen segments of 64 bytes, four senders in turn */
+static void make_messages(void)
+{
+    uint8_t p[7 + 64] = {0x1b, 0, 1, 0, 0, 0xfc, 0};
+    for (size_t i = 7; i < sizeof p; i++)
+        p[i] = (uint8_t)(3 * i);
+    while (count + 64 <= PACKETS)
+        for (unsigned k = 0; k < 16; k++)
+            for (unsigned sender = 0; sender < 4; sender++) {
+                p[4] = (uint8_t)(sender + 2);
+                p[6] = (uint8_t)(sender << 4 | k);
+                payload += 64;
+                add(p, sizeof p);
+            }
+}
+
+/* packets that rows 1, 2, 3, 4, 5, 6, 7, 8 and 20 to 22 refuse */
+static void make_refused(void)
+{
+    static const uint8_t heads[11][9] = {
+        {0x19, 0, 1, 0},                    /* 1 */
+        {0x09, 0, 1, 0, 2, 5, 0x80, 0, 1},  /* 2 */
+        {0x19, 0, 9, 0, 2, 5, 0x80, 0, 1},  /* 3 */
+        {0x15, 0, 1, 0, 2, 5, 0x80, 0, 1},  /* 4 */
+        {0x19, 0, 1, 0, 2, 5, 0x84, 0, 1},  /* 5 */
+        {0x19, 0, 1, 0, 2, 5, 0x82, 0, 1},  /* 6 */
+        {0x19, 0, 1, 0, 2, 5, 0x81, 0, 1},  /* 7 */
+        {0x19, 0, 1, 0, 2, 5, 0x40, 0, 32}, /* 8 */
+        {0x1b, 0, 1, 0, 2, 0x00, 0x00},     /* 20 */
+        {0x1b, 0, 1, 0, 2, 0x0c, 0x00},     /* 21 */
+        {0x1b, 0, 1, 0, 2, 0x1b, 0x02},     /* 22 */
+    };
+    uint8_t p[9 + 32] = {0};
+    for (int i = 0; count < PACKETS; i++) {
+        int kind = i % 11;
+        memcpy(p, heads[kind], 9);
+        payload += 32;
+        add(p, kind == 0 ? 4 : kind == 9 ? 7 + 30 : kind == 10 ? 7 + 32 : sizeof p);
+    }
+}
+
+static void make_burst(void)
+{
+    for (size_t i = 0; i < count; i++) {
+        size_t n = lengths[i];
+        if (n < 128)
+            burst[burst_length++] = (uint8_t)n;
+        else {
+            burst[burst_length++] = (uint8_t)(n % 128 + 128);
+            burst[burst_length++] = (uint8_t)(n / 128);
+        }
+        memcpy(burst + burst_length, packets[i], n);
+        burst_length += n;
+    }
+}
+
+/* what was answered goes in here, so that no call can be left out */
+static uint64_t sum;
+
+static void round_single(void)
+{
+    for (size_t i = 0; i < count; i++) {
+        struct kaiverohm_report r = kaiverohm_read(state, STATE, streams, 16 * ROOM, messages, 32768, response, 7,
+                                                   packets[i], lengths[i]);
+        sum += r.kind + r.length;
+    }
+}
+
+static void round_burst(void)
+{
+    struct kaiverohm_burst b = kaiverohm_read_burst(state, STATE, streams, 16 * ROOM, messages, 32768, responses,
+                                                    sizeof responses, reports, PACKETS * 9, burst, burst_length);
+    sum += b.count;
+}
+
+static void round_twin(void)
+{
+    for (size_t i = 0; i < count; i++) {
+        struct twin_report r =
+            twin_read(&twin, streams, 16 * ROOM, messages, 32768, response, 7, packets[i], lengths[i]);
+        sum += r.kind + r.length;
+    }
+}
+
+static void round_unchecked(void)
+{
+    for (size_t i = 0; i < count; i++) {
+        struct twin_report r =
+            twin_read_unchecked(&twin, streams, 16 * ROOM, messages, 32768, response, 7, packets[i], lengths[i]);
+        sum += r.kind + r.length;
+    }
+}
+
+static void round_memcpy(void)
+{
+    for (size_t i = 0; i < count; i++) {
+        size_t head = lengths[i] < 9 ? lengths[i] : 9;
+        memcpy(streams + i % 16 * ROOM, packets[i] + head, lengths[i] - head);
+        sum += streams[i % 16 * ROOM];
+    }
+}
+
+static const struct {
+    const char *name;
+    void (*round)(void);
+} endpoints[] = {{"single", round_single},
+                 {"burst", round_burst},
+                 {"twin", round_twin},
+                 {"unchecked", round_unchecked},
+                 {"memcpy", round_memcpy}};
+
+/* library and twin give the same answers */
+static void agree(void)
+{
+    for (size_t i = 0; i < count; i++) {
+        struct kaiverohm_report a = kaiverohm_read(state, STATE, streams, 16 * ROOM, messages, 32768, response, 7,
+                                                   packets[i], lengths[i]);
+        struct twin_report b =
+            twin_read(&twin, streams, 16 * ROOM, messages, 32768, response, 7, packets[i], lengths[i]);
+        if (a.kind != b.kind || a.number != b.number || a.dropped != b.dropped || a.context != b.context ||
+            a.source != b.source || a.length != b.length || memcmp(state, &twin, sizeof twin) != 0) {
+            fprintf(stderr, "bench: library and twin differ at packet %zu\n", i);
+            exit(1);
+        }
+    }
+}
+
+int main(int argc, char **argv)
+{
+    if (argc != 4)
+        return 2;
+    if (strcmp(argv[1], "streams256") == 0)
+        mtu = 256;
+    kaiverohm_setup(state, STATE, 1, mtu, ROOM);
+    twin_setup(&twin, 1, mtu, ROOM);
+    if (strcmp(argv[1], "messages") == 0)
+        make_messages();
+    else if (strcmp(argv[1], "refused") == 0)
+        make_refused();
+    else
+        make_streams();
+    make_burst();
+    agree();
+    int rounds = atoi(argv[3]);
+    for (size_t e = 0; e < sizeof endpoints / sizeof *endpoints; e++) {
+        if (strcmp(argv[2], endpoints[e].name) != 0)
+            continue;
+        struct timespec from, to;
+        clock_gettime(CLOCK_MONOTONIC, &from);
+        for (int i = 0; i < rounds; i++)
+            endpoints[e].round();
+        clock_gettime(CLOCK_MONOTONIC, &to);
+        double ns = (double)(to.tv_sec - from.tv_sec) * 1e9 + (double)(to.tv_nsec - from.tv_nsec);
+        printf("%zu %zu %d %.1f %llu\n", count, payload, rounds, rounds ? ns / rounds / (double)count : 0.0,
+               (unsigned long long)sum);
+        return 0;
+    }
+    return 2;
+}

@@ -1,0 +1,88 @@
+#!/usr/bin/env python3
+"""Writes docs/layers.svg, the picture of docs/ARCHITECTURE.md: the crates as layers. It stops if crates.txt has another set of crates,
+or if a crate stands on one in its own layer or above.
+
+Run it from anywhere: python3 docs/pictures/layers.py
+"""
+import pathlib
+
+ROOT = pathlib.Path(__file__).resolve().parents[2]
+
+# Rows from above. A crate: from which of twelve columns on, and over how many. Below it in its columns stands much of what it uses;
+# it uses nothing beside or above it.
+ROWS = [
+    {"racklog": (0, 1.4), "samples": (1.4, 1.4), "outside_logs": (2.8, 1.8), "outside_responses": (4.6, 2.2), "outside_segments": (6.8, 2.2), "promises": (9.2, 2.8)},
+    {"printing": (0, 9), "sending": (9.2, 1.4), "examples": (10.6, 1.4)},
+    {"logrun": (6.8, 2.2)},
+    {"endpoint": (0, 4.8), "segments": (4.8, 2), "logreader": (6.8, 2.2), "flows": (9.2, 2.8)},
+    {"reading": (0, 4.8), "records": (6.8, 1.1), "lines": (7.9, 1.1)},
+    {"streams": (0, 2.4), "messages": (2.4, 2.4)},
+    {"stream_rooms": (0, 2.4), "message_rooms": (2.4, 2.4)},
+    {"refusal19": (0, 4.8)},
+    {"contexts": (0, 1.6), "rules": (1.6, 1.6), "responses": (3.2, 1.6), "cutting": (4.8, 2)},
+    {"sizes": (0, 6.8)},
+    {"wire": (0, 6.8)},
+    {"lists": (0, 9), "answers": (9.2, 2.8)},
+]
+HEADS = [(0, 4.8, "reading packets"), (4.8, 2, "writing segments"), (6.8, 2.2, "the log"), (9.2, 2.8, "theorems")]
+PUBLIC = {"endpoint", "segments", "records", "lines", "logrun", "logreader"}
+THEOREMS = {"promises", "sending", "examples", "flows"}
+PROGRAMS = {"racklog", "samples", "outside_logs", "outside_responses", "outside_segments"}
+
+WIDTH, ROW, TOP, LEFT, COLUMN = 900, 46, 48, 18, 72
+INK, SOFT, PANEL, EDGE = "#22272e", "#5c6670", "#fdfcf8", "#c9c6bb"
+CODE = ("#e9e6dc", "#8a8674")
+CALLS = ("#cfe3f7", "#2b6cb0")
+PROVED = ("#d9ecd5", "#3f7d3a")
+RUN = ("#fbe0bd", "#b7651b")
+
+
+def colour(crate):
+    return CALLS if crate in PUBLIC else PROVED if crate in THEOREMS else RUN if crate in PROGRAMS else CODE
+
+
+def test():
+    below = {}
+    for line in (ROOT / "crates.txt").read_text(encoding="utf-8").splitlines():
+        name, colon, deps = line.split("#")[0].partition(":")
+        if colon:
+            below[name.strip()] = deps.split()
+    place = {crate: i for i, crates in enumerate(ROWS) for crate in crates}
+    if set(place) != set(below):
+        raise SystemExit(f"layers.py: not the crates of crates.txt: {sorted(set(place) ^ set(below))}")
+    for crate, deps in below.items():
+        for dep in deps:
+            if dep in place and place[dep] <= place[crate]:
+                raise SystemExit(f"layers.py: {crate} stands on {dep}, which is not below it")
+
+
+def text(x, y, words, size=14, fill=INK, anchor="middle", weight="normal"):
+    return f'<text x="{x:g}" y="{y:g}" font-size="{size}" fill="{fill}" text-anchor="{anchor}" font-weight="{weight}">{words}</text>'
+
+
+def box(x, y, width, pair, words):
+    fill, line = pair
+    return [f'<rect x="{x:g}" y="{y:g}" width="{width:g}" height="{ROW - 10}" rx="5" fill="{fill}" stroke="{line}" stroke-width="1.5"/>',
+            text(x + width / 2, y + 23, words)]
+
+
+def picture():
+    height = TOP + len(ROWS) * ROW + 44
+    parts = [f'<svg xmlns="http://www.w3.org/2000/svg" viewBox="0 0 {WIDTH} {height}" font-family="Helvetica, Arial, sans-serif" role="img" '
+             f'aria-label="The crates as layers, from lists and answers at the bottom to the programs and the page of statements at the top">',
+             f'<rect x="1" y="1" width="{WIDTH - 2}" height="{height - 2}" rx="10" fill="{PANEL}" stroke="{EDGE}"/>']
+    for start, width, words in HEADS:
+        parts.append(text(LEFT + (start + width / 2) * COLUMN, 30, words, 14, SOFT, weight="bold"))
+    for i, crates in enumerate(ROWS):
+        for crate, (start, width) in crates.items():
+            parts += box(LEFT + start * COLUMN + 3, TOP + i * ROW, width * COLUMN - 6, colour(crate), crate)
+    y = height - 32
+    for k, (pair, words) in enumerate([(CALLS, "public functions"), (CODE, "code with contracts"), (PROVED, "theorems, no code"), (RUN, "programs")]):
+        x = LEFT + 3 + k * 180
+        parts += [f'<rect x="{x}" y="{y}" width="18" height="18" rx="3" fill="{pair[0]}" stroke="{pair[1]}" stroke-width="1.5"/>',
+                  text(x + 26, y + 14, words, 13, SOFT, "start")]
+    return "\n".join(parts + ["</svg>"]) + "\n"
+
+
+test()
+(ROOT / "docs" / "layers.svg").write_text(picture(), encoding="utf-8")
