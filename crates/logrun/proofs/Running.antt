@@ -236,7 +236,7 @@ inside-log (suc most) b log at count room h = go (ltb room 128) (nextRecord log 
         (omega (arith, r .0, i .onward), r .1)
 
 -- with room for a line, and not over: past the place
-comes-on : (b : Board) (log : List ℕ) (at count room : ℕ) → 128 ≤ room → rest b log at count room .over ≡ false
+pub comes-on : (b : Board) (log : List ℕ) (at count room : ℕ) → 128 ≤ room → rest b log at count room .over ≡ false
     → (at < rest b log at count room .at) × (rest b log at count room .at ≤ length log)
 comes-on b log at count room h o = go (nextRecord log at) refl
   where
