@@ -18,7 +18,8 @@ use Rattle.records.specs.Records.{Records, records, before, byNext, nextRecord,
 use Rattle.records.proofs.Found.{inside}
 use Rattle.lines.specs.Lines.{lineOf, endLine, badLog}
 use Rattle.logrun.specs.Output.{logBoard, linesOf, outputOf, output}
-use Rattle.logrun.specs.Running.{Running, running, behind, ranBy, ranFrom, ranOf, Left, left, leftBy, leaves, onRun, runs, RunsMakeOutput}
+use Rattle.logrun.specs.Running.{Running, running, behind, ranBy, ranFrom, ranOf, Left, left, leftBy, leaves, RunPromise, onRun, runs, RunsMakeOutput}
+use Rattle.logrun.specs.declared.Ran.{Ran}
 use Rattle.logrun.proofs.Pieces.{one-more}
 use Rattle.logrun.proofs.Running.{rest, comes-on}
 
@@ -39,7 +40,7 @@ records-enough (suc m) (suc k) log at h g = go (nextRecord log at) refl (λ next
 
 -- ---- what a run puts is the front of what is still to come
 -- the output from a place on
-abbrev still : Board → List ℕ → ℕ → ℕ → List ℕ
+abbrev pub still : Board → List ℕ → ℕ → ℕ → List ℕ
 still b log at count = outputOf b count (recordsFrom (suc (length log)) log at)
 
 -- by what stands at the place
@@ -121,7 +122,7 @@ from-place zero b log at count out h few room = absurd (omega arith)
 from-place (suc most) b log at count out h few room =
     ap (λ (x : Left). onRun (runs most (x .board) log (x .ran .at) (x .ran .count) (x .out)) x) (leaves-is b log at count out few)
     ∙ (go (rest b log at count (length out)) (comes-on b log at count (length out) room) (few-still (suc (length log)) b log at count (length out) few)
-        (λ b′ at′ count′ out′ h′ few′ room′. from-place most b′ log at′ count′ out′ h′ few′ room′)
+    (λ b′ at′ count′ out′ h′ few′ room′. from-place most b′ log at′ count′ out′ h′ few′ room′)
     ∙ front-of (suc (length log)) b log at count (length out))
   where
     go : (x : Running) → (x .over ≡ false → (at < x .at) × (x .at ≤ length log)) → x .count ≤ x .at
@@ -140,3 +141,26 @@ unfolding output recordsOf
 runs-make-output log out small room =
     from-place (suc (length log)) logBoard log 0 0 out (omega arith) (omega arith) room
     ∙ sym (rw (le-ltb 65536 (length log) small))
+
+-- ---- what a caller's loop adds up: the bytes put and those still to come
+pub still-first : (log : List ℕ) → length log ≤ 65536 → still logBoard log 0 0 ≡ output log
+unfolding output recordsOf
+still-first log small = sym (rw (le-ltb 65536 (length log) small))
+
+module _ (b : Board) (log : List ℕ) (at count : ℕ) (out : List ℕ) (r : Ran) (b′ : Board) (out′ : List ℕ) (p : RunPromise b log at count out r b′ out′) (few : count ≤ at) where
+  adds : r .used + length (cond (r .over) [] (still b′ log (r .at) (r .count))) ≡ length (still b log at count)
+  adds =
+      let x : Running = rest b log at count (length out) in
+      ap (λ (l : Left). l .ran .used + length (cond (l .ran .over) [] (still (l .board) log (l .ran .at) (l .ran .count)))) (p ∙ leaves-is b log at count out few)
+      ∙ (sym (length-append (x .lines) (cond (x .over) [] (still (x .board) log (x .at) (x .count)))) ∙ ap length (front-of (suc (length log)) b log at count (length out)))
+
+  -- a run that is over put all that was still to come
+  pub adds-last : r .over ≡ true → r .used ≡ length (still b log at count)
+  adds-last e = sym (add-zero (r .used)) ∙ (ap (λ (t : Bool). r .used + length (cond t [] (still b′ log (r .at) (r .count)))) (sym e) ∙ adds)
+
+  -- a run that is not over leaves the rest
+  pub adds-more : r .over ≡ false → r .used + length (still b′ log (r .at) (r .count)) ≡ length (still b log at count)
+  adds-more e = ap (λ (t : Bool). r .used + length (cond t [] (still b′ log (r .at) (r .count)))) (sym e) ∙ adds
+
+  pub few-behind : r .count ≤ r .at
+  few-behind = subst (λ (l : Left). l .ran .count ≤ l .ran .at) (sym (p ∙ leaves-is b log at count out few)) (few-still (suc (length log)) b log at count (length out) few)
