@@ -1,6 +1,6 @@
 -- The board that the runs begin with is the log program's; what a log that is too long prints.
 use Prim.Native.Nat.{ℕ, _+_, _≤_, _<_}
-use mathlib.Core.Path.{_≡_, refl, ap, sym, _∙_}
+use mathlib.Core.Path.{_≡_, refl, ap, _∙_}
 use mathlib.Core.List.{List}
 use native.Mathlib.Nat.{zero-add}
 use lib.ListN.{length, replicate}
@@ -12,9 +12,8 @@ use Rattle.contexts.specs.State.{fresh}
 use Rattle.contexts.specs.Words.{wordsOf}
 use Rattle.refusal19.specs.Refusal19.{badRoom}
 use Rattle.endpoint.specs.Calls.{Stands, setup, setupTable, SetupPromise}
-use Rattle.lines.specs.Text.{text}
 use Rattle.lines.specs.Lines.{badLog}
-use Rattle.logrun.specs.Output.{logBoard, output}
+use Rattle.logrun.specs.Output.{output}
 use Rattle.logrun.specs.Printing.{board}
 use Rattle.logrun.proofs.Runs.{still, still-first}
 

@@ -2,7 +2,7 @@
 use Prim.Native.Nat.{ℕ, zero, suc, _+_, _-_, _≤_, _<_}
 use mathlib.Core.Path.{_≡_, refl, ap, ap₂, sym, subst, _∙_}
 use mathlib.Core.Bool.{Bool, true, false, cond, false≢true}
-use mathlib.Core.List.{List, [], _∷_, _++_, append-assoc, append-nil}
+use mathlib.Core.List.{List, [], _++_, append-assoc, append-nil}
 use native.Mathlib.Omega.{arith}
 use lib.ListN.{length, take, drop, length-append, length-take, length-drop}
 use lib.Dec.{ltb}
@@ -14,7 +14,7 @@ use Rattle.flows.specs.Board.{Board, read, after}
 use Rattle.records.specs.declared.Next.{Next}
 use Rattle.records.specs.declared.Next.the-variants.{Record, End, Bad}
 use Rattle.records.specs.Records.{nextRecord}
-use Rattle.records.proofs.Found.{Inside, inside}
+use Rattle.records.proofs.Found.{inside}
 use Rattle.lines.specs.Lines.{lineOf, endLine, badLog}
 use Rattle.lines.specs.Puts.{Put, put, putLine}
 use Rattle.logrun.specs.declared.Piece.{Piece}

@@ -2,23 +2,23 @@
 use Prim.Native.Nat.{ℕ, zero, suc, _+_, _-_, _≤_, _<_}
 use mathlib.Core.Path.{_≡_, refl, ap, ap₂, sym, subst, _∙_}
 use mathlib.Core.Bool.{Bool, true, false, cond}
-use mathlib.Core.List.{List, [], _∷_, _++_, append-assoc, append-nil}
+use mathlib.Core.List.{List, [], _++_, append-assoc, append-nil}
 use native.Mathlib.Omega.{arith}
 use native.Mathlib.Nat.{add-zero}
 use lib.ListN.{length, take, drop, length-append, length-drop}
 use lib.Seq.{take-at}
 use lib.Dec.{ltb}
-use borrow.Author.Tests.{le-ltb, lt-ltb, ltb-true, ltb-false}
+use borrow.Author.Tests.{le-ltb}
 use Rattle.lists.specs.Bytes.{written}
 use Rattle.lists.proofs.Written.{written-front}
 use Rattle.flows.specs.Board.{Board, read, after}
 use Rattle.records.specs.declared.Next.{Next}
 use Rattle.records.specs.declared.Next.the-variants.{Record, End, Bad}
-use Rattle.records.specs.Records.{Records, records, before, byNext, nextRecord, recordsFrom, recordsOf}
+use Rattle.records.specs.Records.{Records, before, byNext, nextRecord, recordsFrom, recordsOf}
 use Rattle.records.proofs.Found.{inside}
 use Rattle.lines.specs.Lines.{lineOf, endLine, badLog}
-use Rattle.logrun.specs.Output.{logBoard, linesOf, outputOf, output}
-use Rattle.logrun.specs.Running.{Running, running, behind, ranBy, ranFrom, ranOf, Left, left, leftBy, leaves, RunPromise, onRun, runs, RunsMakeOutput}
+use Rattle.logrun.specs.Output.{logBoard, outputOf, output}
+use Rattle.logrun.specs.Running.{Running, running, ranBy, ranFrom, ranOf, Left, leftBy, leaves, RunPromise, onRun, runs, RunsMakeOutput}
 use Rattle.logrun.specs.declared.Ran.{Ran}
 use Rattle.logrun.proofs.Pieces.{one-more}
 use Rattle.logrun.proofs.Running.{rest, comes-on}

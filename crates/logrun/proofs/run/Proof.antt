@@ -78,7 +78,7 @@ loop-again c =
       n .kept .1 .0 ∙ i .1,
       n .kept .1 .1 .0 ∙ i .2,
       n .kept .1 .1 .1 .0 ∙ i .3,
-      turn _ _ _ _ _ _ _ _ _ _ (i .4) _ _ _ _ _ (c .before .piece .given .1) (c .before .before .before .before .before .before .before .before .before .before .before .before .before .before .before .before .before .before .before .loop-test .taken) (n .ensures .1) (n .ensures .0),
+      turn _ _ _ _ _ _ _ _ _ _ (i .4) _ _ _ (board (n .last .0) (n .last .1 .0) (n .last .1 .1 .0) (n .last .1 .1 .1 .0)) _ (c .before .piece .given .1) (c .before .before .before .before .before .before .before .before .before .before .before .before .before .before .before .before .before .before .before .loop-test .taken) (n .ensures .1) (n .ensures .0),
     )
 
 enum-known-piece-2 : tie.Need-enum-known-piece-2 Inv-loop μ-loop
@@ -109,9 +109,9 @@ returns-2 : tie.Need-returns-2 Inv-loop μ-loop
 returns-2 c =
     let i = c .before .before .before .before .before .before .before .before .before .before .before .before .before .before .before .before .before .before .before .before .loop .inv in
     let n = c .before .before .before .before .before .before .before .before .before .before .before .before .before .next-line in
-    let p = ends _ _ _ _ _ _ _ _ _ _ (i .4) _ _ _ _ (c .before .piece2 .given .1) (c .before .before .before .before .before .before .before .before .before .before .before .before .before .before .before .before .before .before .before .loop-test .taken) (n .ensures .1) (n .ensures .0) in
+    let p = ends _ _ _ _ _ _ _ _ _ _ (i .4) _ _ (board (n .last .0) (n .last .1 .0) (n .last .1 .1 .0) (n .last .1 .1 .1 .0)) _ (c .before .piece2 .given .1) (c .before .before .before .before .before .before .before .before .before .before .before .before .before .before .before .before .before .before .before .loop-test .taken) (n .ensures .1) (n .ensures .0) in
     let o = of-last _ _ _ _ (c .before .before .before .before .before .before .before .before .before .before .before .before .before .next-line .ensures .1) (c .before .piece2 .given .1) in
-    (p, onward-by _ _ _ _ _ _ _ _ p (omega (arith, o, i .4 .fits, i .4 .same)))
+    (p, onward-by _ _ _ _ _ _ (board (n .last .0) (n .last .1 .0) (n .last .1 .1 .0) (n .last .1 .1 .1 .0)) _ p (omega (arith, o, i .4 .fits, i .4 .same)))
 
 same-length-6 : tie.Need-same-length-6 Inv-loop μ-loop
 same-length-6 c = search needs
