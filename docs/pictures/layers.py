@@ -12,7 +12,7 @@ ROOT = pathlib.Path(__file__).resolve().parents[2]
 # it uses nothing beside or above it.
 ROWS = [
     {"racklog": (0, 1.4), "samples": (1.4, 1.4), "outside_logs": (2.8, 1.8), "outside_responses": (4.6, 2.2), "outside_segments": (6.8, 2.2), "promises": (9.2, 2.8)},
-    {"printing": (0, 9), "sending": (9.2, 1.4), "examples": (10.6, 1.4)},
+    {"logprint": (0, 9), "sending": (9.2, 1.4), "examples": (10.6, 1.4)},
     {"logrun": (6.8, 2.2)},
     {"endpoint": (0, 4.8), "segments": (4.8, 2), "logreader": (6.8, 2.2), "flows": (9.2, 2.8)},
     {"reading": (0, 4.8), "records": (6.8, 1.1), "lines": (7.9, 1.1)},

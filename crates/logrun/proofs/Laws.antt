@@ -1,6 +1,6 @@
 -- The piece at a place, by what stands there.
-use Prim.Native.Nat.{ℕ, _-_}
-use mathlib.Core.Path.{_≡_, refl, ap, ap₂, sym, _∙_}
+use Prim.Native.Nat.{ℕ, _-_, _≤_, _<_}
+use mathlib.Core.Path.{_≡_, refl, ap, ap₂, sym, subst, _∙_}
 use mathlib.Core.Bool.{Bool}
 use mathlib.Core.List.{List, [], _∷_}
 use native.Mathlib.Omega.{arith}
@@ -22,7 +22,7 @@ use Rattle.lines.specs.Lines.{lineOf, endLine, badLog}
 use Rattle.lines.specs.Puts.{Put, put, putLine}
 use Rattle.logrun.specs.declared.Piece.{Piece}
 use Rattle.logrun.specs.declared.Piece.the-variants.{Line, Last}
-use Rattle.logrun.specs.Printing.{Printing, printing, board, recordPrinted, lastPrinted, printedBy, printed, LinePromise}
+use Rattle.logrun.specs.Printing.{Printing, printing, board, recordPrinted, lastPrinted, printedBy, printed, LinePromise, Onward}
 
 module _ (b : Board) (log : List ℕ) (at count : ℕ) (out : List ℕ) where
   -- the end, and a log that is bad there
@@ -61,3 +61,10 @@ packet-size log at from size next e =
     let r = inside log at from size next e in
     let e : next - from ≡ size = omega (arith, r .behind) in
     ap (λ (k : ℕ). take k (drop from log)) e
+
+-- what a piece says of its size and of the next place, by its case
+pub of-line : (n at : ℕ) (p : Piece) (size next : ℕ) → Onward n at p → p ≡ Line size next → (size ≤ 128) × (at < next) × (next ≤ n)
+of-line n at p size next o e = subst (Onward n at) e o
+
+pub of-last : (n at : ℕ) (p : Piece) (size : ℕ) → Onward n at p → p ≡ Last size → size ≤ 128
+of-last n at p size o e = subst (Onward n at) e o

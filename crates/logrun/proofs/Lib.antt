@@ -1,2 +1,4 @@
 pub mod Laws
 pub mod Pieces
+pub mod Running
+pub mod Runs

@@ -35,7 +35,7 @@ module _ (out line : List ℕ) (room : 128 ≤ length out) where
   still-room = rw put-there (simp (length-append, length-drop) (omega arith))
 
 -- one record more
-one-more : (b : Board) (count : ℕ) (packet : List ℕ) (r : Records)
+pub one-more : (b : Board) (count : ℕ) (packet : List ℕ) (r : Records)
     → lineOf (read b packet .says) (read b packet .dropped) ++ outputOf (after b packet) (count + 1) r ≡ outputOf b count (before packet r)
 unfolding outputOf
 one-more b count packet r =

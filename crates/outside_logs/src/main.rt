@@ -1,14 +1,23 @@
 // Logs that the second program made, one behind the other: each a length of four bytes and the log.
 // Prints what the log program prints for each.
 use libc::STDIN_FILENO;
+use libc::STDOUT_FILENO;
 ghost use Prim.Native.Nat.{_+_, _<_, _≤_};
 ghost use lib.ListN.{length};
 
+fn print_text(text: &[u8]) {
+    io::write_all(STDOUT_FILENO, text);
+}
+
+fn print_number(n: usize) {
+    io::print_decimal(STDOUT_FILENO, n as u64);
+}
+
 fn print_one(log: &[u8]) {
-    printing::print_text(b"log ");
-    printing::print_number(log.len());
-    printing::print_text(b"\n");
-    printing::print_log(log);
+    print_text(b"log ");
+    print_number(log.len());
+    print_text(b"\n");
+    logprint::print_log(log);
 }
 
 // Prints the log whose length stands at that place, and answers the place behind it. A log that is cut is not printed.

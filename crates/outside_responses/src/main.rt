@@ -1,9 +1,27 @@
 // A log of packets that the second program made. Prints for each packet its line, and the response that it wrote, or `none`.
 use libc::STDIN_FILENO;
+use libc::STDOUT_FILENO;
 use records::Next;
 ghost use mathlib.Core.Path.{_≡_};
 ghost use Prim.Native.Nat.{_≤_};
 ghost use lib.ListN.{length};
+
+fn print_text(text: &[u8]) {
+    io::write_all(STDOUT_FILENO, text);
+}
+
+fn print_byte(b: u8) {
+    io::print_hex(STDOUT_FILENO, b as u64, 2);
+}
+
+// Bytes as pairs of hexadecimal digits.
+fn print_bytes(bytes: &[u8]) {
+    let mut i = 0;
+    while i < bytes.len() {
+        print_byte(bytes[i]);
+        i += 1;
+    }
+}
 
 // Every response has seven bytes, and none begins with 0.
 fn print_response(response: &[u8]) {
@@ -11,11 +29,11 @@ fn print_response(response: &[u8]) {
         return;
     }
     if response[0] == 0 {
-        printing::print_text(b"none\n");
+        print_text(b"none\n");
         return;
     }
-    printing::print_bytes(&response[..7]);
-    printing::print_text(b"\n");
+    print_bytes(&response[..7]);
+    print_text(b"\n");
 }
 
 // Reads one packet, with a response buffer of zeros.
@@ -29,7 +47,7 @@ fn print_packet(
     let mut line = [0u8; 128];
     let reading = endpoint::read(state, stream_memory, message_memory, &mut response, packet);
     let size = lines::write_line(&mut line, reading);
-    printing::print_text(&line[..size]);
+    print_text(&line[..size]);
     print_response(&response);
 }
 

@@ -2,9 +2,31 @@
 use answers::Written;
 use cutting::Heading;
 use libc::STDIN_FILENO;
+use libc::STDOUT_FILENO;
 ghost use mathlib.Core.Path.{_≡_};
 ghost use Prim.Native.Nat.{_+_, _<_, _≤_};
 ghost use lib.ListN.{length};
+
+fn print_text(text: &[u8]) {
+    io::write_all(STDOUT_FILENO, text);
+}
+
+fn print_number(n: usize) {
+    io::print_decimal(STDOUT_FILENO, n as u64);
+}
+
+fn print_byte(b: u8) {
+    io::print_hex(STDOUT_FILENO, b as u64, 2);
+}
+
+// Bytes as pairs of hexadecimal digits.
+fn print_bytes(bytes: &[u8]) {
+    let mut i = 0;
+    while i < bytes.len() {
+        print_byte(bytes[i]);
+        i += 1;
+    }
+}
 
 // Byte i of a PDU.
 fn pdu_byte(seed: u8, i: usize) -> u8 {
@@ -25,11 +47,11 @@ fn print_segment(heading: Heading, mtu: usize, pdu: &[u8], number: usize, out: &
     match segments::write_segment(out, heading, mtu, pdu, number) {
         Written::Length(size) => print_out(out, size),
         Written::Refused(n) => {
-            printing::print_text(b"refused ");
-            printing::print_number(n);
+            print_text(b"refused ");
+            print_number(n);
         }
     }
-    printing::print_text(b"\n");
+    print_text(b"\n");
 }
 
 // The first bytes of an output.
@@ -37,15 +59,15 @@ fn print_out(out: &[u8], size: usize) {
     if out.len() < size {
         return;
     }
-    printing::print_bytes(&out[..size]);
+    print_bytes(&out[..size]);
 }
 
 // Every segment of a PDU, and one number past the last.
 fn print_segments(heading: Heading, mtu: usize, pdu: &[u8], out: &mut [u8]) {
     let count = segments::segment_count(mtu, pdu.len());
-    printing::print_text(b"case ");
-    printing::print_number(count);
-    printing::print_text(b"\n");
+    print_text(b"case ");
+    print_number(count);
+    print_text(b"\n");
     let mut number = 0;
     while number < count {
         print_segment(heading, mtu, pdu, number, out);

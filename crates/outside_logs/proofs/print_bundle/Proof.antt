@@ -16,27 +16,21 @@ Inv-loop bundle at₀ at = at ≤ length bundle
 abbrev μ-loop : tie.MeasureT-loop
 μ-loop bundle at₀ at = length bundle - at
 
--- src/main.rt:30:5
 loop-holds : tie.Need-loop-holds Inv-loop μ-loop
 loop-holds c = search needs
 
--- src/main.rt:30:11
 add-loop : tie.Need-add-loop Inv-loop μ-loop
 add-loop c = search needs
 
--- src/main.rt:31:9
 print-at-requires : tie.Need-print-at-requires Inv-loop μ-loop
 print-at-requires c κs = search needs
 
--- src/main.rt:30:5
 loop-less : tie.Need-loop-less Inv-loop μ-loop
 loop-less c = search needs
 
--- src/main.rt:30:5
 loop-again : tie.Need-loop-again Inv-loop μ-loop
 loop-again c = search needs
 
--- src/main.rt:28:1
 returns : tie.Need-returns Inv-loop μ-loop
 returns c = search needs
 

@@ -9,57 +9,44 @@ use Rattle.outside_responses.proofs.print_packet.Lts as lts
 use Rattle.endpoint.proofs.read.Reads as read-reads
 use Rattle.lines.proofs.write_line.Reads as write-line-reads
 use Rattle.outside_responses.proofs.print_response.Reads as print-response-reads
-use Rattle.printing.proofs.print_text.Reads as print-text-reads
+use Rattle.outside_responses.proofs.print_text.Reads as print-text-reads
 
--- src/main.rt:30:72
 slice-aggregate-read : tie.Need-slice-aggregate-read
 slice-aggregate-read c = search needs
 
--- src/main.rt:30:9
 read-requires : tie.Need-read-requires
 read-requires c κs = search needs
 
--- src/main.rt:31:34
 slice-aggregate-write-line : tie.Need-slice-aggregate-write-line
 slice-aggregate-write-line c = search needs
 
--- src/main.rt:31:9
 write-line-requires : tie.Need-write-line-requires
 write-line-requires c κs = search needs
 
--- src/main.rt:32:26
 array-share-prefix-line : tie.Need-array-share-prefix-line
 array-share-prefix-line c = search needs
 
--- src/main.rt:32:26
 slice-aggregate-print-text : tie.Need-slice-aggregate-print-text
 slice-aggregate-print-text c = simp length-take (omega arith)
 
--- src/main.rt:32:5
 print-text-requires : tie.Need-print-text-requires
 print-text-requires c κs = search needs
 
--- src/main.rt:33:20
 slice-aggregate-print-response : tie.Need-slice-aggregate-print-response
 slice-aggregate-print-response c = search needs
 
--- src/main.rt:33:5
 print-response-requires : tie.Need-print-response-requires
 print-response-requires c κs = search needs
 
--- src/main.rt:22:1
 same-length : tie.Need-same-length
 same-length c = search needs
 
--- src/main.rt:22:1
 same-length-2 : tie.Need-same-length-2
 same-length-2 c = search needs
 
--- src/main.rt:22:1
 same-length-3 : tie.Need-same-length-3
 same-length-3 c = search needs
 
--- src/main.rt:22:1
 returns : tie.Need-returns
 returns c = search needs
 

@@ -19,63 +19,50 @@ Inv-loop state₀ stream-memory₀ message-memory₀ log at₀ state stream-memo
 abbrev μ-loop : tie.MeasureT-loop
 μ-loop state₀ stream-memory₀ message-memory₀ log at₀ state stream-memory message-memory at = length log - at
 
--- src/main.rt:44:5
 loop-holds : tie.Need-loop-holds Inv-loop μ-loop
 loop-holds c = search needs
 
--- src/main.rt:45:13
 next-record-requires : tie.Need-next-record-requires Inv-loop μ-loop
 next-record-requires c κs = search needs
 
--- src/main.rt:46:28
 enum-known-found : tie.Need-enum-known-found Inv-loop μ-loop
 enum-known-found c = search needs
 
--- src/main.rt:47:13
 same-length : tie.Need-same-length Inv-loop μ-loop
 same-length c = search needs
 
--- src/main.rt:47:13
 same-length-2 : tie.Need-same-length-2 Inv-loop μ-loop
 same-length-2 c = search needs
 
--- src/main.rt:47:13
 same-length-3 : tie.Need-same-length-3 Inv-loop μ-loop
 same-length-3 c = search needs
 
--- src/main.rt:47:13
 returns : tie.Need-returns Inv-loop μ-loop
 returns c = search needs
 
--- src/main.rt:49:60
 sub-print-packet : tie.Need-sub-print-packet Inv-loop μ-loop
 sub-print-packet c =
     let r = inside (c .before .before .before .before .before .before .before .before .before .before .before .before .args .log .now) _ _ _ _ (sym (c .before .before .before .before .before .before .next-record .ensures) ∙ c .before .before .before .before .found .given .1) in
     omega (arith, r .behind)
 
--- src/main.rt:49:60
 part-print-packet-start : tie.Need-part-print-packet-start Inv-loop μ-loop
 part-print-packet-start c =
     let r = inside (c .before .before .before .before .before .before .before .before .before .before .before .before .args .log .now) _ _ _ _ (sym (c .before .before .before .before .before .before .next-record .ensures) ∙ c .before .before .before .before .found .given .1) in
     omega (arith, r .behind)
 
--- src/main.rt:49:60
 part-print-packet-end : tie.Need-part-print-packet-end Inv-loop μ-loop
 part-print-packet-end c =
     let r = inside (c .before .before .before .before .before .before .before .before .before .before .before .before .args .log .now) _ _ _ _ (sym (c .before .before .before .before .before .before .next-record .ensures) ∙ c .before .before .before .before .found .given .1) in
     r .within
 
--- src/main.rt:49:9
 print-packet-requires : tie.Need-print-packet-requires Inv-loop μ-loop
 print-packet-requires c κs = search needs
 
--- src/main.rt:44:5
 loop-less : tie.Need-loop-less Inv-loop μ-loop
 loop-less c =
     let r = inside (c .before .before .before .before .before .before .before .before .before .before .before .before .before .before .before .before .before .before .before .before .args .log .now) _ _ _ _ (sym (c .before .before .before .before .before .before .before .before .before .before .before .before .before .before .next-record .ensures) ∙ c .before .before .before .before .before .before .before .before .before .before .before .before .found .given .1) in
     omega (arith, r .onward, r .within)
 
--- src/main.rt:44:5
 loop-again : tie.Need-loop-again Inv-loop μ-loop
 loop-again c =
     let r = inside (c .before .before .before .before .before .before .before .before .before .before .before .before .before .before .before .before .before .before .before .before .args .log .now) _ _ _ _ (sym (c .before .before .before .before .before .before .before .before .before .before .before .before .before .before .next-record .ensures) ∙ c .before .before .before .before .before .before .before .before .before .before .before .before .found .given .1) in

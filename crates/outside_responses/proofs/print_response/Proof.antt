@@ -6,46 +6,36 @@ use Rattle.outside_responses.proofs.print_response.Statement.{statement
 use Rattle.outside_responses.proofs.print_response.Tie as tie
 use Rattle.outside_responses.proofs.print_response.Reads as reads
 use Rattle.outside_responses.proofs.print_response.Lts as lts
-use Rattle.printing.proofs.print_bytes.Reads as print-bytes-reads
-use Rattle.printing.proofs.print_text.Reads as print-text-reads
+use Rattle.outside_responses.proofs.print_bytes.Reads as print-bytes-reads
+use Rattle.outside_responses.proofs.print_text.Reads as print-text-reads
 
--- src/main.rt:11:9
 returns : tie.Need-returns
 returns c = search needs
 
--- src/main.rt:13:8
 shared-slice-read-if2 : tie.Need-shared-slice-read-if2
 shared-slice-read-if2 c = search needs
 
--- src/main.rt:14:30
 slice-aggregate-print-text : tie.Need-slice-aggregate-print-text
 slice-aggregate-print-text c = search needs
 
--- src/main.rt:14:9
 print-text-requires : tie.Need-print-text-requires
 print-text-requires c κs = search needs
 
--- src/main.rt:15:9
 returns-2 : tie.Need-returns-2
 returns-2 c = search needs
 
--- src/main.rt:17:27
 slice-aggregate-print-bytes : tie.Need-slice-aggregate-print-bytes
 slice-aggregate-print-bytes c = simp length-take (omega arith)
 
--- src/main.rt:17:5
 print-bytes-requires : tie.Need-print-bytes-requires
 print-bytes-requires c κs = search needs
 
--- src/main.rt:18:26
 slice-aggregate-print-text-2 : tie.Need-slice-aggregate-print-text-2
 slice-aggregate-print-text-2 c = search needs
 
--- src/main.rt:18:5
 print-text-requires-2 : tie.Need-print-text-requires-2
 print-text-requires-2 c κs = search needs
 
--- src/main.rt:9:1
 returns-3 : tie.Need-returns-3
 returns-3 c = search needs
 

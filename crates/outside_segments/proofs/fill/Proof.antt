@@ -16,35 +16,27 @@ Inv-loop pdu₀ seed i₀ pdu i = (length pdu ≡ length pdu₀) × (i ≤ lengt
 abbrev μ-loop : tie.MeasureT-loop
 μ-loop pdu₀ seed i₀ pdu i = length pdu₀ - i
 
--- src/main.rt:17:5
 loop-holds : tie.Need-loop-holds Inv-loop μ-loop
 loop-holds c = search needs
 
--- src/main.rt:18:18
 pdu-byte-requires : tie.Need-pdu-byte-requires Inv-loop μ-loop
 pdu-byte-requires c κs = search needs
 
--- src/main.rt:18:9
 slice-write-pdu : tie.Need-slice-write-pdu Inv-loop μ-loop
 slice-write-pdu c = search needs
 
--- src/main.rt:19:9
 add-i : tie.Need-add-i Inv-loop μ-loop
 add-i c = search needs
 
--- src/main.rt:17:5
 loop-less : tie.Need-loop-less Inv-loop μ-loop
 loop-less c = search needs
 
--- src/main.rt:17:5
 loop-again : tie.Need-loop-again Inv-loop μ-loop
 loop-again c = search needs
 
--- src/main.rt:15:1
 same-length : tie.Need-same-length Inv-loop μ-loop
 same-length c = search needs
 
--- src/main.rt:15:1
 returns : tie.Need-returns Inv-loop μ-loop
 returns c = search needs
 

@@ -10,83 +10,63 @@ use Rattle.lists.proofs.word_at.Reads as word-at-reads
 use Rattle.outside_segments.proofs.long_at.Reads as long-at-reads
 use Rattle.outside_segments.proofs.print_pdu.Reads as print-pdu-reads
 
--- src/main.rt:76:9
 long-at-requires : tie.Need-long-at-requires
 long-at-requires c κs = search needs
 
--- src/main.rt:77:9
 word-at-requires : tie.Need-word-at-requires
 word-at-requires c κs = search needs
 
--- src/main.rt:79:9
 returns : tie.Need-returns
 returns c = search needs
 
--- src/main.rt:82:9
 returns-2 : tie.Need-returns-2
 returns-2 c = search needs
 
--- src/main.rt:85:22
 word-at-requires-2 : tie.Need-word-at-requires-2
 word-at-requires-2 c κs = search needs
 
--- src/main.rt:85:22
 cast-t9 : tie.Need-cast-t9
 cast-t9 c = search needs
 
--- src/main.rt:86:17
 word-at-requires-3 : tie.Need-word-at-requires-3
 word-at-requires-3 c κs = search needs
 
--- src/main.rt:86:17
 cast-t11 : tie.Need-cast-t11
 cast-t11 c = search needs
 
--- src/main.rt:87:14
 shared-slice-read-t13 : tie.Need-shared-slice-read-t13
 shared-slice-read-t13 c = search needs
 
--- src/main.rt:88:17
 word-at-requires-4 : tie.Need-word-at-requires-4
 word-at-requires-4 c κs = search needs
 
--- src/main.rt:88:17
 cast-t15 : tie.Need-cast-t15
 cast-t15 c = search needs
 
--- src/main.rt:89:19
 shared-slice-read-print-pdu : tie.Need-shared-slice-read-print-pdu
 shared-slice-read-print-pdu c = search needs
 
--- src/main.rt:91:24
 long-at-requires-2 : tie.Need-long-at-requires-2
 long-at-requires-2 c κs = search needs
 
--- src/main.rt:91:42
 shared-slice-read-print-pdu-2 : tie.Need-shared-slice-read-print-pdu-2
 shared-slice-read-print-pdu-2 c = search needs
 
--- src/main.rt:91:52
 array-borrow-prefix-pdu : tie.Need-array-borrow-prefix-pdu
 array-borrow-prefix-pdu c = search needs
 
--- src/main.rt:91:52
 slice-aggregate-print-pdu : tie.Need-slice-aggregate-print-pdu
 slice-aggregate-print-pdu c = simp length-take (omega arith)
 
--- src/main.rt:91:70
 array-borrow-prefix-out : tie.Need-array-borrow-prefix-out
 array-borrow-prefix-out c = search needs
 
--- src/main.rt:91:70
 slice-aggregate-print-pdu-2 : tie.Need-slice-aggregate-print-pdu-2
 slice-aggregate-print-pdu-2 c = simp length-take (omega arith)
 
--- src/main.rt:91:5
 print-pdu-requires : tie.Need-print-pdu-requires
 print-pdu-requires c κs = search needs
 
--- src/main.rt:71:1
 returns-3 : tie.Need-returns-3
 returns-3 c = search needs
 

@@ -16,47 +16,36 @@ Inv-loop cases at₀ at = at ≤ length cases
 abbrev μ-loop : tie.MeasureT-loop
 μ-loop cases at₀ at = length cases - at
 
--- src/main.rt:96:5
 loop-holds : tie.Need-loop-holds Inv-loop μ-loop
 loop-holds c = search needs
 
--- src/main.rt:96:11
 add-loop : tie.Need-add-loop Inv-loop μ-loop
 add-loop c = search needs
 
--- src/main.rt:97:31
 add-print-case : tie.Need-add-print-case Inv-loop μ-loop
 add-print-case c = search needs
 
--- src/main.rt:97:20
 sub-print-case : tie.Need-sub-print-case Inv-loop μ-loop
 sub-print-case c = search needs
 
--- src/main.rt:97:20
 part-print-case-start : tie.Need-part-print-case-start Inv-loop μ-loop
 part-print-case-start c = search needs
 
--- src/main.rt:97:20
 part-print-case-end : tie.Need-part-print-case-end Inv-loop μ-loop
 part-print-case-end c = search needs
 
--- src/main.rt:97:9
 print-case-requires : tie.Need-print-case-requires Inv-loop μ-loop
 print-case-requires c κs = search needs
 
--- src/main.rt:98:9
 add-at : tie.Need-add-at Inv-loop μ-loop
 add-at c = search needs
 
--- src/main.rt:96:5
 loop-less : tie.Need-loop-less Inv-loop μ-loop
 loop-less c = search needs
 
--- src/main.rt:96:5
 loop-again : tie.Need-loop-again Inv-loop μ-loop
 loop-again c = search needs
 
--- src/main.rt:94:1
 returns : tie.Need-returns Inv-loop μ-loop
 returns c = search needs
 

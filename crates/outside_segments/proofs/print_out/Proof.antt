@@ -6,21 +6,17 @@ use Rattle.outside_segments.proofs.print_out.Statement.{statement}
 use Rattle.outside_segments.proofs.print_out.Tie as tie
 use Rattle.outside_segments.proofs.print_out.Reads as reads
 use Rattle.outside_segments.proofs.print_out.Lts as lts
-use Rattle.printing.proofs.print_bytes.Reads as print-bytes-reads
+use Rattle.outside_segments.proofs.print_bytes.Reads as print-bytes-reads
 
--- src/main.rt:38:9
 returns : tie.Need-returns
 returns c = search needs
 
--- src/main.rt:40:27
 slice-aggregate-print-bytes : tie.Need-slice-aggregate-print-bytes
 slice-aggregate-print-bytes c = simp length-take (omega arith)
 
--- src/main.rt:40:5
 print-bytes-requires : tie.Need-print-bytes-requires
 print-bytes-requires c κs = search needs
 
--- src/main.rt:36:1
 returns-2 : tie.Need-returns-2
 returns-2 c = search needs
 

@@ -1,14 +1,12 @@
--- `printing::print_bytes` ends and stays inside the bytes.
+-- `outside_responses::print_bytes` ends and stays inside the bytes.
 use Prim.Native.Nat.{_≤_, _-_}
 use lib.ListN.{length}
 use borrow.Author.Needs.{needs}
-use borrow.Author.Needs.{needs}
-use native.Mathlib.Omega.{arith}
-use Rattle.printing.proofs.print_bytes.Statement.{statement}
-use Rattle.printing.proofs.print_bytes.Tie as tie
-use Rattle.printing.proofs.print_bytes.Reads as reads
-use Rattle.printing.proofs.print_bytes.Lts as lts
-use Rattle.printing.proofs.print_byte.Reads as print-byte-reads
+use Rattle.outside_responses.proofs.print_bytes.Statement.{statement}
+use Rattle.outside_responses.proofs.print_bytes.Tie as tie
+use Rattle.outside_responses.proofs.print_bytes.Reads as reads
+use Rattle.outside_responses.proofs.print_bytes.Lts as lts
+use Rattle.outside_responses.proofs.print_byte.Reads as print-byte-reads
 
 abbrev Inv-loop : tie.InvT-loop
 Inv-loop bytes i₀ i = i ≤ length bytes
@@ -16,31 +14,24 @@ Inv-loop bytes i₀ i = i ≤ length bytes
 abbrev μ-loop : tie.MeasureT-loop
 μ-loop bytes i₀ i = length bytes - i
 
--- src/lib.rt:20:5
 loop-holds : tie.Need-loop-holds Inv-loop μ-loop
 loop-holds c = search needs
 
--- src/lib.rt:21:20
 shared-slice-read-print-byte : tie.Need-shared-slice-read-print-byte Inv-loop μ-loop
 shared-slice-read-print-byte c = search needs
 
--- src/lib.rt:21:9
 print-byte-requires : tie.Need-print-byte-requires Inv-loop μ-loop
 print-byte-requires c κs = search needs
 
--- src/lib.rt:22:9
 add-i : tie.Need-add-i Inv-loop μ-loop
 add-i c = search needs
 
--- src/lib.rt:20:5
 loop-less : tie.Need-loop-less Inv-loop μ-loop
 loop-less c = search needs
 
--- src/lib.rt:20:5
 loop-again : tie.Need-loop-again Inv-loop μ-loop
 loop-again c = search needs
 
--- src/lib.rt:18:1
 returns : tie.Need-returns Inv-loop μ-loop
 returns c = search needs
 

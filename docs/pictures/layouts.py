@@ -1,0 +1,350 @@
+#!/usr/bin/env python3
+"""The pictures of docs/LAYOUTS.md, from the table of fields in layouts.txt.
+
+    docs/pictures/layouts.py           writes the pictures
+    docs/pictures/layouts.py --check   holds the table against stored packets, and the pictures against the table
+
+The check takes packets apart by the table's places: the paper's sample, and the second program's cases under
+crates/outside_segments, crates/outside_responses and crates/outside_logs. It compares every field with what the case
+says was meant, or with the line printed for the packet. It ends with 1 at the first difference.
+"""
+import collections
+import html
+import pathlib
+import sys
+
+HERE = pathlib.Path(__file__).resolve().parent
+ROOT = HERE.parent.parent
+
+Field = collections.namedtuple("Field", "name byte bit width value")
+
+
+class Layout:
+    """One packet: its picture's name, title and notes, its fields in order, where its data begin (None: no data)."""
+
+    def __init__(self, picture, title):
+        self.picture, self.title, self.notes, self.fields, self.data = picture, title, [], [], None
+
+    def head(self):
+        """How many bytes the fields take."""
+        return max(f.byte * 8 + f.bit + f.width for f in self.fields) // 8
+
+
+def read_table():
+    layouts = {}
+    for line in (HERE / "layouts.txt").read_text(encoding="utf-8").splitlines():
+        words = line.split()
+        if not words or words[0].startswith("#"):
+            continue
+        if words[0] == "packet":
+            layouts[words[1]] = Layout(words[2], " ".join(words[3:]))
+            continue
+        for name in layouts if words[1] == "all" else words[1].split(","):
+            if words[0] == "note":
+                layouts[name].notes.append(" ".join(words[2:]))
+            elif words[0] == "data":
+                layouts[name].data = int(words[2])
+            elif words[0] == "field":
+                byte, bit, width = map(int, words[3:6])
+                layouts[name].fields.append(Field(words[2].replace("_", " "), byte, bit, width, words[6]))
+            else:
+                sys.exit(f"layouts.txt: what is this line? {line}")
+    for layout in layouts.values():
+        layout.fields.sort(key=lambda f: (f.byte, f.bit))
+    return layouts
+
+
+# ---- The pictures
+
+BIT, LEFT, ROW, NUMBERS = 24, 20, 52, 44  # width of a bit; margin; height of a field; height of the numbers over it
+ACROSS = 40  # bits in a row: bytes 0 to 4, then bytes 5 on
+WIDTH = ACROSS * BIT + 2 * LEFT
+INK, SOFT, PANEL, EDGE = "#22272e", "#5c6670", "#fdfcf8", "#c9c6bb"
+KINDS = {  # fill and outline
+    "fixed": ("#e4e7ea", "#6b7580"),
+    "free": ("#cfe3f7", "#2b6cb0"),
+    "data": ("#fbe0bd", "#b7651b"),
+}
+
+
+def text(x, y, words, size=14, colour=INK, anchor="middle", weight="normal"):
+    return (f'<text x="{x:g}" y="{y:g}" font-size="{size}" fill="{colour}" text-anchor="{anchor}" '
+            f'font-weight="{weight}">{html.escape(words)}</text>')
+
+
+def numbers(first, count, y):
+    """Byte and bit numbers over a row."""
+    parts = []
+    for i in range(count):
+        x = LEFT + i * 8 * BIT
+        parts.append(text(x + 4 * BIT, y + 16, f"byte {first + i}", 13, weight="bold"))
+        parts += [text(x + (b + 0.5) * BIT, y + 36, str(b), 11, SOFT) for b in range(8)]
+        if i:
+            parts.append(f'<path d="M {x} {y + 4} V {y + NUMBERS - 4}" stroke="{EDGE}" stroke-width="1"/>')
+    return parts
+
+
+def box(field, first, y):
+    x = LEFT + ((field.byte - first) * 8 + field.bit) * BIT
+    width = field.width * BIT
+    fixed = field.value != "-"
+    fill, line = KINDS["fixed" if fixed else "free"]
+    below = field.value if fixed else ("" if field.width == 1 else f"{field.width} bits")
+    size = min(12 if field.width <= 3 else 15, max(10, int((width - 4) / (0.64 * len(field.name)))))
+    return [f'<rect x="{x}" y="{y}" width="{width}" height="{ROW}" fill="{fill}" stroke="{line}" stroke-width="1.5"/>',
+            text(x + width / 2, y + (22 if below else 31), field.name, size, weight="bold"),
+            text(x + width / 2, y + 41, below, 12, INK if fixed else SOFT)]
+
+
+def data_box(layout, y):
+    """From where data begin to the right edge, which is torn."""
+    x = LEFT + (layout.data - 5) * 8 * BIT
+    end = LEFT + ACROSS * BIT
+    fill, line = KINDS["data"]
+    step = ROW / 4
+    torn = " ".join(f"L {end - (8 if i % 2 else 0)} {y + i * step:g}" for i in range(5))
+    return [f'<path d="M {x} {y} {torn} L {x} {y + ROW} Z" fill="{fill}" stroke="{line}" stroke-width="1.5"/>',
+            text((x + end) / 2, y + 22, "data", 15, weight="bold"),
+            text((x + end) / 2, y + 41, f"from byte {layout.data}", 12, SOFT)]
+
+
+def picture(layout):
+    rows = [(0, 5, 48), (5, layout.head() - 5, 48 + NUMBERS + ROW + 12)]  # first byte, bytes, y
+    under = rows[1][2] + NUMBERS + ROW
+    height = under + 16 + 22 * len(layout.notes) + 8
+    parts = [
+        f'<svg xmlns="http://www.w3.org/2000/svg" viewBox="0 0 {WIDTH} {height}" width="{WIDTH}" height="{height}" '
+        f'font-family="Helvetica, Arial, \'Liberation Sans\', sans-serif" role="img" aria-labelledby="title">',
+        f'<title id="title">{html.escape(layout.title)}</title>',
+        f'<rect x="1" y="1" width="{WIDTH - 2}" height="{height - 2}" rx="10" fill="{PANEL}" stroke="{EDGE}" stroke-width="1.5"/>',
+        text(LEFT, 32, layout.title, 18, anchor="start", weight="bold"),
+    ]
+    for first, count, y in rows:
+        parts += numbers(first, count, y)
+        for field in layout.fields:
+            if first <= field.byte < first + count:
+                parts += box(field, first, y + NUMBERS)
+    if layout.data is not None:
+        parts += data_box(layout, rows[1][2] + NUMBERS)
+    for i, note in enumerate(layout.notes):
+        parts.append(text(LEFT, under + 30 + 22 * i, note, 14, anchor="start"))
+    parts.append("</svg>")
+    return "\n".join(parts) + "\n"
+
+
+# ---- The check
+
+def fail(words):
+    sys.exit(f"layouts: {words}")
+
+
+def take_apart(layout, packet):
+    """Field values by name, and the data."""
+    values = {}
+    bits = int.from_bytes(packet, "big")
+    for f in layout.fields:
+        behind = 8 * len(packet) - (f.byte * 8 + f.bit + f.width)
+        if behind < 0:
+            fail(f"{f.name} does not fit into {packet.hex()}")
+        values[f.name] = bits >> behind & (1 << f.width) - 1
+    return values, b"" if layout.data is None else packet[layout.data:]
+
+
+def compare(layout, packet, wanted, data=None, where=""):
+    """Every field has the wanted value, a fixed one its value in the table; the data are these."""
+    values, found = take_apart(layout, packet)
+    for f in layout.fields:
+        want = int(f.value, 2) if f.value != "-" else wanted[f.name]
+        if f.name in wanted and wanted[f.name] != want:
+            fail(f"{where}: the table fixes {f.name} to {want}, the case says {wanted[f.name]}")
+        if values[f.name] != want:
+            fail(f"{where}: {f.name} is {values[f.name]} in {packet.hex()}, and not {want}")
+    if data is not None and found != data:
+        fail(f"{where}: the data of {packet.hex()} are not {data.hex()}")
+    return len(layout.fields)
+
+
+def check_tiling(layouts):
+    """The fields lie side by side, from bit 0 to the end of the head, and data behind them."""
+    for name, layout in layouts.items():
+        place = 0
+        for f in layout.fields:
+            if f.byte * 8 + f.bit != place:
+                fail(f"{name}: {f.name} begins at bit {f.byte * 8 + f.bit}, the field before it ends at {place}")
+            if f.value != "-" and len(f.value) != f.width:
+                fail(f"{name}: the value of {f.name} has not {f.width} bits")
+            place += f.width
+        if place % 8 or layout.data not in (None, place // 8):
+            fail(f"{name}: the head ends at bit {place}, data begin at byte {layout.data}")
+
+
+def records(log):
+    place = 0
+    while place < len(log):
+        length = log[place] & 127
+        place += 1
+        if log[place - 1] & 128:
+            length |= log[place] << 7
+            place += 1
+        yield log[place:place + length]
+        place += length
+
+
+def check_paper(layouts):
+    """The paper's sample log and the response it gives, field by field as the paper writes them."""
+    stream, message = records((ROOT / "samples/paper.log").read_bytes())
+    head = {"priority": 0, "tt": 1, "destination": 1, "source": 2}
+    box_of = {"letter": 1, "mbox": 2, "msgseg": 0}
+    count = compare(layouts["start"], stream,
+                    head | {"type": 9, "cos": 5, "S": 1, "E": 1, "reserved": 0, "xh": 0, "O": 0, "P": 1, "streamID": 7},
+                    bytes.fromhex("AABBCC00"), "samples/paper.log")
+    count += compare(layouts["message"], message, head | box_of | {"type": 11, "msglen": 0, "ssize": 9},
+                     bytes(range(0x11, 0x19)), "samples/paper.log")
+    count += compare(layouts["response"], bytes.fromhex("5D000200011060"),
+                     box_of | {"priority": 1, "tt": 1, "type": 13, "destination": 2, "source": 1, "transaction": 1, "status": 0},
+                     None, "the paper's response")
+    return 3, count
+
+
+def check_segments(layouts):
+    """The writer's cases: what went in stands in 20 bytes, what came out in hex."""
+    cases = (ROOT / "crates/outside_segments/stdin").read_bytes()
+    lines = iter((ROOT / "crates/outside_segments/stdout").read_text().splitlines())
+    packets = fields = 0
+    for at in range(0, len(cases), 20):
+        case = cases[at:at + 20]
+        number = lambda first, last: int.from_bytes(case[first:last], "big")
+        mtu, length, seed = number(0, 4), number(12, 16), case[16]
+        count = int(next(lines).split()[1])
+        pdu = bytes((seed + 7 * i + i // 256) % 256 for i in range(length)) if count else b""
+        for k in range(count + 1):
+            line = next(lines)
+            if line.startswith("refused"):
+                continue
+            data = pdu[k * mtu:(k + 1) * mtu]
+            data += bytes(len(data) % 2)
+            first, last = k == 0, k == count - 1
+            wanted = {"priority": case[4], "tt": 1, "type": 9, "destination": number(5, 7), "source": number(7, 9), "cos": case[9],
+                      "S": first, "E": last, "reserved": 0, "xh": 0, "O": len(data) // 2 % 2, "P": min(mtu, length - k * mtu) % 2,
+                      "streamID": number(10, 12), "PDU length": length % 65536}
+            kind = "start" if first else "end" if last else "continuation"
+            fields += compare(layouts[kind], bytes.fromhex(line), wanted, data, f"outside_segments, case {at // 20 + 1}")
+            packets += 1
+    return packets, fields
+
+
+SIZES = {9: 8, 10: 16, 11: 32, 12: 64, 13: 128, 14: 256}
+
+
+def check_message(values, data, answer, where):
+    """A message packet, by the places of the table, fits the answer that was printed for it."""
+    words = answer.split()
+    single, size = values["msglen"] == 0, SIZES.get(values["ssize"])
+    last = single or values["msgseg"] == values["msglen"]
+    fits = size is not None and (len(data) % 8 == 0 and 8 <= len(data) <= size if last else len(data) == size)
+    past = not single and values["msgseg"] > values["msglen"]
+    refusal = 20 if size is None else 21 if not fits else 22 if past else None
+    if (words[0] == "refused" and int(words[1]) in (20, 21, 22)) != (refusal is not None) or refusal and words != ["refused", str(refusal)]:
+        fail(f"{where}: the fields say {refusal}, the answer is {answer}")
+    if words[0] == "msg":
+        mailbox = 4 * values["msgseg"] + values["mbox"] if single else values["mbox"]
+        if list(map(int, words[1:4])) != [values["source"], values["letter"], mailbox] or single and int(words[4]) != len(data):
+            fail(f"{where}: the fields do not give {answer}")
+
+
+def check_responses(layouts):
+    """Messages and their responses: each packet, the line printed for it, and the seven bytes sent back."""
+    log = records((ROOT / "crates/outside_responses/stdin").read_bytes())
+    lines = (ROOT / "crates/outside_responses/stdout").read_text().splitlines()
+    status = {"held": 0, "msg": 0, "refused": 7, "refused 25": 3}
+    packets = fields = 0
+    for n, (packet, answer, response) in enumerate(zip(log, lines[::2], lines[1::2]), 1):
+        where = f"outside_responses, record {n}"
+        if response == "none":
+            continue
+        values, data = take_apart(layouts["message"], packet)
+        check_message(values, data, answer, where)
+        fields += compare(layouts["message"], packet, values | {"tt": 1, "type": 11, "destination": 1}, data, where)
+        wanted = {"priority": min(values["priority"] + 1, 3), "tt": 1, "type": 13, "destination": values["source"], "source": 1,
+                  "transaction": 1, "status": status.get(answer, status[answer.split()[0]]),
+                  "letter": values["letter"], "mbox": values["mbox"], "msgseg": values["msgseg"]}
+        if len(response) != 14:
+            fail(f"{where}: a response of {len(response) // 2} bytes")
+        fields += compare(layouts["response"], bytes.fromhex(response), wanted, None, where)
+        packets += 2
+    return packets, fields
+
+
+def check_printed(layouts, packet, answer, where):
+    """A packet of a log, right or wrong, by the places of the table: rows 2 to 5 and delivered singles. Answers how many fields it compared."""
+    values, _ = take_apart(layouts["continuation"], packet)
+    if values["tt"] != 1:
+        row = "refused 2"
+    elif values["destination"] != 1:
+        row = "refused 3"
+    elif values["type"] not in (9, 11):
+        row = "refused 4"
+    elif values["type"] == 9 and values["xh"] == 1:
+        row = "refused 5"
+    else:
+        row = None
+    if (row or answer) != answer or row is None and answer in ("refused 2", "refused 3", "refused 4", "refused 5"):
+        fail(f"{where}: by the table {packet.hex()} is to get {row}, the answer is {answer}")
+    if row or values["type"] != 9 or not answer.startswith("pdu"):
+        return 4
+    kind = "start" if values["S"] else "end"
+    values, _ = take_apart(layouts[kind], packet)
+    words = list(map(int, answer.split()[1:5]))
+    said = [values["source"], values["cos"]] + ([values["streamID"], words[3]] if kind == "start" else [words[2], values["PDU length"] or 65536])
+    if values["E"] != 1 or said != words:
+        fail(f"{where}: the fields of {packet.hex()} do not give {answer}")
+    return 8
+
+
+def check_logs(layouts):
+    """Logs with packets right and wrong, and the lines printed for them. Only here tt, type and xh are wrong and reserved bits set."""
+    bundle = (ROOT / "crates/outside_logs/stdin").read_bytes()
+    lines = iter((ROOT / "crates/outside_logs/stdout").read_text().splitlines())
+    place = number = packets = fields = 0
+    while place < len(bundle):
+        length = int.from_bytes(bundle[place:place + 4], "big")
+        log, place, number = bundle[place + 4:place + 4 + length], place + 4 + length, number + 1
+        if next(lines) != f"log {length}":
+            fail(f"outside_logs: log {number} has not {length} bytes")
+        found = records(log)
+        for line in lines:
+            if line == "bad log" or line.startswith("end "):
+                break
+            packet = next(found)
+            if len(packet) >= 9:
+                fields += check_printed(layouts, packet, line, f"outside_logs, log {number}")
+                packets += 1
+    return packets, fields
+
+
+def check(layouts):
+    check_tiling(layouts)
+    packets = fields = 0
+    for part in (check_paper, check_segments, check_responses, check_logs):
+        more_packets, more_fields = part(layouts)
+        packets, fields = packets + more_packets, fields + more_fields
+    for layout in layouts.values():
+        stored = HERE / f"{layout.picture}.svg"
+        if not stored.exists() or stored.read_text(encoding="utf-8") != picture(layout):
+            fail(f"{stored.name} is not what the table gives; docs/pictures/layouts.py writes it")
+    print(f"layouts: {packets:,} packets and {fields:,} fields agree with the table, and {len(layouts)} pictures")
+
+
+def main(argv):
+    if argv not in ([], ["--check"]):
+        sys.exit(__doc__.strip())
+    layouts = read_table()
+    if argv:
+        check(layouts)
+        return
+    for layout in layouts.values():
+        (HERE / f"{layout.picture}.svg").write_text(picture(layout), encoding="utf-8")
+        print(f"wrote {layout.picture}.svg")
+
+
+main(sys.argv[1:])
