@@ -54,10 +54,10 @@ abbrev pub flagOf : Bool → ℕ
 flagOf b = cond b 1 0
 
 -- a report that carries no PDU and no message
-abbrev pub plain : Said → ℕ → ℕ → Report
-plain says dropped response = record {
-  kind = kindOf says;
-  number = numberOf says;
+abbrev pub plainOf : ℕ → ℕ → ℕ → ℕ → Report
+plainOf kind number dropped response = record {
+  kind = kind;
+  number = number;
   dropped = dropped;
   response = response;
   context = 0;
@@ -84,13 +84,13 @@ carrying says dropped response context source cosOrLetter streamOrMailbox size =
 abbrev pub sayingOf : Said → ℕ → ℕ → Report
 sayingOf (delivered context source cos stream size) dropped response = carrying (delivered context source cos stream size) dropped response context source cos stream size
 sayingOf (message context source letter mailbox size) dropped response = carrying (message context source letter mailbox size) dropped response context source letter mailbox size
-sayingOf held dropped response = plain held dropped response
-sayingOf (refused number) dropped response = plain (refused number) dropped response
+sayingOf held dropped response = plainOf (kindOf held) (numberOf held) dropped response
+sayingOf (refused number) dropped response = plainOf (kindOf (refused number)) (numberOf (refused number)) dropped response
 -- reading says none of these
-sayingOf ready dropped response = plain ready dropped response
-sayingOf closed dropped response = plain closed dropped response
-sayingOf free dropped response = plain free dropped response
-sayingOf (wrote size) dropped response = plain (wrote size) dropped response
+sayingOf ready dropped response = plainOf (kindOf ready) (numberOf ready) dropped response
+sayingOf closed dropped response = plainOf (kindOf closed) (numberOf closed) dropped response
+sayingOf free dropped response = plainOf (kindOf free) (numberOf free) dropped response
+sayingOf (wrote size) dropped response = plainOf (kindOf (wrote size)) (numberOf (wrote size)) dropped response
 
 -- the report of what reading the packet said, and whether it dropped an open PDU
 unfoldable pub reportOf : Said → Bool → List ℕ → Report

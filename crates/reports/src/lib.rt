@@ -9,7 +9,7 @@ ghost use Prim.Native.Nat.{_+_, _≤_};
 ghost use lib.ListN.{length};
 ghost use Rattle.answers.specs.Answers.{said, saidOfSetup, saidOfAbandon, saidOfWriter};
 ghost use Rattle.lists.specs.Bytes.{written};
-ghost use Rattle.reports.specs.Reports.{isMessage, responseOf, flagOf, sayingOf, reportOf, wordsOfReport, numbersOf};
+ghost use Rattle.reports.specs.Reports.{isMessage, responseOf, flagOf, plainOf, sayingOf, reportOf, wordsOfReport, numbersOf};
 
 // The words of a report.
 pub const WORDS: usize = 9;
@@ -84,22 +84,29 @@ fn flag(b: bool) -> usize
     0
 }
 
+// A report that carries no PDU and no message.
+fn plain(kind: usize, number: usize, dropped: usize, response: usize) -> Report
+    ensures { λ r. ⌜ r ≡ plainOf kind number dropped response ⌝ }
+{
+    Report {
+        kind,
+        number,
+        dropped,
+        response,
+        context: 0,
+        source: 0,
+        cos_or_letter: 0,
+        stream_or_mailbox: 0,
+        length: 0,
+    }
+}
+
 // The report of an answer.
 fn saying(answer: Answer, dropped: usize, response: usize) -> Report
     ensures { λ r. ⌜ r ≡ sayingOf (said answer) dropped response ⌝ }
 {
     match answer {
-        Answer::Held => Report {
-            kind: 1,
-            number: 0,
-            dropped,
-            response,
-            context: 0,
-            source: 0,
-            cos_or_letter: 0,
-            stream_or_mailbox: 0,
-            length: 0,
-        },
+        Answer::Held => plain(1, 0, dropped, response),
         Answer::Delivered {
             context,
             source,
@@ -134,17 +141,7 @@ fn saying(answer: Answer, dropped: usize, response: usize) -> Report
             stream_or_mailbox: mailbox,
             length,
         },
-        Answer::Refused(number) => Report {
-            kind: 0,
-            number,
-            dropped,
-            response,
-            context: 0,
-            source: 0,
-            cos_or_letter: 0,
-            stream_or_mailbox: 0,
-            length: 0,
-        },
+        Answer::Refused(number) => plain(0, number, dropped, response),
     }
 }
 
