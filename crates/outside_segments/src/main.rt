@@ -96,7 +96,7 @@ fn print_case(case: &[u8])
     let mut pdu = [0u8; 65537];
     let mut out = [0u8; 300];
     let size = long_at(case, 12);
-    let room = lists::word_at(case, 18);
+    let room = lists::wide(case[17]) * 65536 + lists::word_at(case, 18);
     if 65537 < size {
         return;
     }
