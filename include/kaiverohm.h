@@ -73,7 +73,7 @@ enum {
     KAIVEROHM_BURST_REFUSED = 0,  /* number: 19 or 12. Nothing was read */
     KAIVEROHM_BURST_END = 1,      /* all its packets were read */
     KAIVEROHM_BURST_BAD = 2,      /* the record at next is no record */
-    KAIVEROHM_BURST_FULL = 3,     /* a packet more, but no room for its report */
+    KAIVEROHM_BURST_FULL = 3,     /* a packet more, but no report or no response left */
     KAIVEROHM_BURST_DELIVERY = 4  /* the last packet read delivered something */
 };
 
@@ -200,7 +200,7 @@ struct kaiverohm_burst kaiverohm_read_burst(uint64_t *state, size_t state_words,
    Answers CLOSED, and the context's words are 0; WAS_FREE, and all stays; or
    REFUSED, in this order, and all stays:
      12  the state has another length than 147.
-     19  the state is none.
+     19  it is a state that 19 names.
      13  n is over 15, or for messages over 7.
    Promises: crates/kaiverohm/specs/Exports.antt, AbandonStreamPromise and
    AbandonMessagePromise. */
@@ -215,8 +215,8 @@ struct kaiverohm_answer kaiverohm_abandon_message(uint64_t *state, size_t state_
    state: 147 words, read.
    size:  the length of your stream memory, or your message memory.
    Answers the offset and l. Where n is past the last context, l is over the
-   room, size is not what kaiverohm_read needs, or the state is none, offset and
-   length are 0. The context need not be open.
+   room, size is not what kaiverohm_read needs, or the state is one that is
+   refused, offset and length are 0. The context need not be open.
    Promises: crates/places/specs/Places.antt, StreamPlacePromise and
    MessagePlacePromise. */
 struct kaiverohm_place kaiverohm_stream_room(const uint64_t *state, size_t state_words,

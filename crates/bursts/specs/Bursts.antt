@@ -92,10 +92,10 @@ pub record Turned : Type 0 where
 abbrev pub turned : ℕ → Run → Turned
 turned stop after = record { stop = stop; after = after }
 
--- `room` packets more have room for their reports and responses
 abbrev pub packetTurn : ℕ → Run → List ℕ → ℕ → Turned
 packetTurn pause r packet next = turned (pauseOf pause (kindIn r packet)) (behind r packet next)
 
+-- `room` packets more have room for their reports and responses
 abbrev pub turnBy : ℕ → ℕ → List ℕ → Run → Next → Turned
 turnBy pause room burst r End = turned atEnd r
 turnBy pause room burst r Bad = turned atBad r

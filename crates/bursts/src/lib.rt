@@ -7,7 +7,7 @@ ghost use Rattle.bursts.specs.Bursts.{run, pauseOf, refusedAll, answerin
 // The bytes of `responses` that each packet has for its own.
 pub const SLOT: usize = 8;
 
-// Why a burst stops: it is refused as a whole, at its end, at a bad record, where there is no room for another report, or behind a delivery.
+// Why a burst stops: refused as a whole, at its end, at a bad record, without room for another report or response, or behind a delivery.
 pub const REFUSED: usize = 0;
 
 pub const END: usize = 1;
@@ -79,7 +79,7 @@ fn pausing(pause: usize, kind: usize) -> usize
     0
 }
 
-// One turn: the record at a place is read, where there is one and there is room for `room` packets more.
+// One turn: the record at a place is read, where there is one and it has room. There is room for `room` packets more.
 fn turn_at(
     state: &mut [usize],
     stream_memory: &mut [u8],

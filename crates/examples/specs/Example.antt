@@ -96,7 +96,7 @@ found b p (delivers bytes) = delivers (deliveredBytes (after b p) (read b p .say
 found b p (deliversNot bytes) = cond (sameBytes (deliveredBytes (after b p) (read b p .says)) bytes) (delivers bytes) (deliversNot bytes)
 found b p (response bytes) = response (after b p .response)
 
--- the lines as they are for these packets, each read with what the one before left: as many lines as there are packets
+-- the lines as they are for these packets, each read with what the one before left. Where there are more packets than lines, a line too many
 abbrev pub computed : Board → List (List ℕ) → List Line → List Line
 computed b [] lines = []
 computed b (p ∷ ps) [] = lost ∷ []

@@ -58,12 +58,13 @@ deliveredBy room memory answers.closed = []
 deliveredBy room memory answers.free = []
 deliveredBy room memory (answers.wrote size) = []
 
--- a board that was just set up: any memories that 12 allows
+-- memories that 12 allows, whatever is in them
 pub record Lends (room : ℕ) (streamMemory messageMemory response : List ℕ) : Type 0 where
   pub rooms : length streamMemory ≡ 16 * room
   pub boxes : length messageMemory ≡ 32768
   pub reply : 7 ≤ length response
 
+-- a board that was just set up
 abbrev pub freshBoard : ℕ → ℕ → ℕ → List ℕ → List ℕ → List ℕ → Board
 freshBoard device mtu room streamMemory messageMemory response = record {
   words = wordsOf (fresh device mtu room);

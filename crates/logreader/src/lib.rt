@@ -1,5 +1,5 @@
-// A reader that holds the lent log and its place in it. Each function over it takes it apart and calls the reader of
-// `records`, over a slice and a number. `record_at` and `place_after` stand above them: whoever calls one sees no reader.
+// A reader that holds the lent log and its place in it. `found` and `next` take it apart and call the reader of `records`,
+// over a slice and a number. `record_at` and `place_after` stand above them: whoever calls one sees no reader.
 ghost use mathlib.Core.Path.{_≡_};
 ghost use Rattle.records.specs.Records.{nextRecord};
 ghost use Rattle.logreader.specs.Reader.{readerAt, foundBy, placeBehind, movedOn, countOf};

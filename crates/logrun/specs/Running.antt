@@ -17,7 +17,7 @@ use Rattle.logrun.specs.Output.{logBoard, output}
 
 -- ---- the lines of a run
 
--- the lines in a row, then the board, the place and the number of records behind them, and whether the last line is among them
+-- the lines in a row, then the board, the place and the number of records behind them, and whether the run is over
 pub record Running : Type 0 where
   pub lines : List ℕ
   pub board : Board

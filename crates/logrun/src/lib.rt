@@ -55,7 +55,7 @@ pub fn next_line(
     }
 }
 
-// The bytes put, the place and the number of records behind those that were read, and whether the last line was put.
+// The bytes put, the place and the number of records behind those that were read, and whether the run is over, with no more to put.
 pub struct Ran {
     pub used: usize,
     pub at: usize,

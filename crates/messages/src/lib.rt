@@ -85,7 +85,7 @@ fn begin(
     message_rooms::place(state, memory, response, packet, m, n, 0, 0)
 }
 
-// A type 11 packet from row 20 on. The endpoint has tested the state, the buffers' sizes and the packet's head.
+// A type 11 packet from row 20 on. Every caller has tested the state, the buffers' sizes and the packet's head.
 pub fn step(
     state: &mut [usize],
     memory: &mut [u8],

@@ -1,4 +1,4 @@
-// Refusal 19: which states are none. The test walks all contexts, so it stands in one place, and a run over many packets makes it once.
+// Refusal 19: which states it names. The test walks all contexts, so it stands in one place, and a run over many packets makes it once.
 use contexts::MessageContext;
 use contexts::StreamContext;
 ghost use mathlib.Core.Path.{_≡_};

@@ -18,6 +18,6 @@ abbrev pub wrongSize : Bool → ℕ → ℕ → Bool
 wrongSize end n mtu = cond end (ltb mtu n) (not (eqb n mtu))
 
 -- 11, for n bytes in all: end, total differs from PDU length
--- (of a segment with E set; a single, which has no PDU length, is left out below)
+-- (of a segment with E set; a single, which has no PDU length, is left out where this is used: row 11 asks for S=0 first)
 abbrev pub wrongLength : Segment → ℕ → Bool
 wrongLength g n = g .ends && not (eqb n (pduLength (g .field)))

@@ -107,7 +107,7 @@ sentOn (x ∷ xs) flow = cond (sameFlow flow (x .flow)) (x .sent) (sentOn xs flo
 abbrev pub flowsOf : Sending → List Flow
 flowsOf s = map (λ (x : FlowSent). x .flow) (s .flows)
 
--- ---- What happens on the backplane, a line for each turn
+-- ---- What happens on the backplane: an event for each turn, none where a flow has no packet left
 
 pub data Event : Type 0 where
   put : Flow → Put → Event

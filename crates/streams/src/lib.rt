@@ -75,7 +75,7 @@ fn go_on(
     )
 }
 
-// A type 9 packet from row 6 on. The endpoint has tested the state, the memory's size and the packet's head.
+// A type 9 packet from row 6 on. Every caller has tested the state, the memory's size and the packet's head.
 pub fn step(state: &mut [usize], memory: &mut [u8], packet: &[u8], g: Segment) -> Reading
     requires { ⌜ Ready (now state) (now memory) (now packet) g ⌝ }
     ensures { λ r. ⌜ joining (said (r .answer)) (r .dropped) (stateOf (now (state .exit))) (now (memory .exit)) ≡ stepped (stateOf (now (state .entry))) (now (memory .entry)) (now (packet .entry)) g ⌝ }
