@@ -21,7 +21,7 @@ use Rattle.reading.specs.Read.{Left, lent, ReadPromise}
 use Rattle.contexts.specs.State.{fresh}
 use Rattle.contexts.specs.Words.{stateOf, wordsOf}
 use Rattle.endpoint.specs.Calls.{Stands, stands, SetupLeaves, setupTable, setupBy, setup, SetupPromise}
-use Rattle.flows.specs.Board.{Board, Delivery, deliveredBy, Lends, freshBoard, left, read}
+use Rattle.flows.specs.Board.{Board, Delivery, deliveredBy, Lends, freshBoard, boardLeft, read}
 use Rattle.flows.proofs.Fine.{Fine, fresh-fine}
 use Rattle.flows.proofs.Machine.{by-flow}
 use Rattle.flows.proofs.Apart.{flows-apart}
@@ -94,7 +94,7 @@ calls-deliver stop = refl
 calls-deliver (call {b = b} {p = p} {ps = ps} {ds = ds} r words streams messages response promise rest) =
     let ih : ds ≡ deliveries (record { words = words; streamMemory = streams; messageMemory = messages; response = response }) ps = calls-deliver rest in
     ap (λ (l : List Delivery). deliveredBy (stateOf words .room) streams (said (r .answer)) ++ l) ih
-    ∙ ap (λ (x : Left). deliveredBy (stateOf (x .words) .room) (x .streamMemory) (x .says) ++ deliveries (left x) ps) promise
+    ∙ ap (λ (x : Left). deliveredBy (stateOf (x .words) .room) (x .streamMemory) (x .says) ++ deliveries (boardLeft x) ps) promise
 
 -- setup that says ready has made a fresh state, of an MTU and an R that are allowed
 pub record Made (words : List ℕ) (device mtu R : ℕ) (after : List ℕ) : Type 0 where
