@@ -150,7 +150,7 @@ struct kaiverohm_answer kaiverohm_setup(uint64_t *state, size_t state_words,
                       context is closed if it was open, all else stays.
                       20 to 25: the response is written, all else stays.
    report.response says whether the response was written (crates/from_c/specs/
-   Statements.antt, ReportsReply). A delivered room keeps its bytes until its
+   OfCalls.antt, ReportsReply). A delivered room keeps its bytes until its
    context is next used.
    Promise: crates/kaiverohm/specs/Exports.antt, ReadFromCPromise. */
 struct kaiverohm_report kaiverohm_read(uint64_t *state, size_t state_words,

@@ -1,7 +1,7 @@
 -- Each promise is an equation with one side that the inputs fix, so two outcomes are equal.
 use mathlib.Core.Path.{ap, sym, _∙_}
 use Rattle.bursts.specs.Bursts.{Finished}
-use Rattle.from_c.specs.Statements.{SetupFromCOnce, ReadFromCOnce, BurstOnce, AbandonStreamFromCOnce, AbandonMessageFromCOnce, StreamPlaceOnce, MessagePlaceOnce, WriteFromCOnce}
+use Rattle.from_c.specs.OfCalls.{SetupFromCOnce, ReadFromCOnce, BurstOnce, AbandonStreamFromCOnce, AbandonMessageFromCOnce, StreamPlaceOnce, MessagePlaceOnce, WriteFromCOnce}
 
 pub setup-once : SetupFromCOnce
 setup-once words device mtu room r r′ after after′ p q = (p .answer ∙ sym (q .answer), p .state ∙ sym (q .state))

@@ -21,7 +21,7 @@ use Rattle.reading.specs.Table.{Lent, stateIn, segmentIn, messageSegmentIn, is9
 use Rattle.reading.specs.Read.{reading, outcome, leaving, accepting}
 use Rattle.reading.proofs.Cases.{by-test}
 use Rattle.reports.specs.Reports.{responseOf, isMessage}
-use Rattle.from_c.specs.Statements.{Reply, silent, answers, ReportsReply}
+use Rattle.from_c.specs.OfCalls.{Reply, silent, answers, ReportsReply}
 
 -- a row's last column says whether the sender is answered
 abbrev answersBy : Leaves → Bool

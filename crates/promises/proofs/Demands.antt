@@ -26,7 +26,7 @@ use Rattle.flows.proofs.Fine.{Fine, fresh-fine}
 use Rattle.flows.proofs.Machine.{by-flow}
 use Rattle.flows.proofs.Apart.{flows-apart}
 use Rattle.sending.specs.Sending.{Sending, FlowSent, flowsOf, deliveries, packets, whole, Fair}
-use Rattle.sending.specs.Statements.{Begins}
+use Rattle.sending.specs.OfSendings.{Begins}
 use Rattle.sending.proofs.Fresh.{fresh-begins}
 use Rattle.sending.proofs.Cut.{segments-read-back}
 use Rattle.sending.proofs.ReadBack.{read-back}

@@ -28,7 +28,7 @@ use Rattle.messages.specs.Joining as message
 use Rattle.reading.specs.Table.{Lent, stateIn, segmentIn, messageSegmentIn, isState, is9, wrongMemory, wrongSizes, table}
 use Rattle.reading.specs.Read.{lent, ofStream, ofMessage, leaving, outcome, reading}
 use Rattle.flows.specs.Board.{room, inRoom}
-use Rattle.sending.specs.Statements.{LengthIsMeasured}
+use Rattle.sending.specs.OfSendings.{LengthIsMeasured}
 
 -- the answer is no delivery
 abbrev NoDelivery : answers.Said → Type 0

@@ -23,7 +23,7 @@ use Rattle.flows.specs.ByFlow.{among, AreBytes, NoFlow, ByFlow}
 use Rattle.sending.specs.Sending.{Put, flowPuts, FlowSent, Turn, next, message, sentOn, flowsOf, Event, sent, headOf, advance, events, queues, packetsLeft, tell, wholes, whole, deliveries, Each, FairFlow, FairTurn}
 use Rattle.sending.specs.OneFlow.{packetStep, deliveredPDU}
 use Rattle.flows.proofs.Flows.{same-true}
-use Rattle.sending.specs.Statements.{DeliveredIsWhole, DeliveredIsWholeAnyLoss, firstTurns, DeliveredAtEveryTurn, SamePacketsSameWhole}
+use Rattle.sending.specs.OfSendings.{DeliveredIsWhole, DeliveredIsWholeAnyLoss, firstTurns, DeliveredAtEveryTurn, SamePacketsSameWhole}
 use Rattle.sending.proofs.OneFlow.{afterPut, Good, one-flow}
 use Rattle.sending.proofs.Rooms.{carried}
 use Rattle.sending.proofs.Calls.{Own, by-own}

@@ -14,7 +14,7 @@ use Rattle.flows.specs.Board.{Board, Delivery, delivery, deliveredBy, read, inR
 use Rattle.flows.specs.ByFlow.{Tells}
 use Rattle.sending.specs.Sending.{Sent, packetCount, FairPDU, Ranges}
 use Rattle.sending.specs.OneFlow.{packetStep}
-use Rattle.sending.specs.Statements.{packetAt, boardAt, HandsBack, ReadsBack, ReadBack}
+use Rattle.sending.specs.OfSendings.{packetAt, boardAt, HandsBack, ReadsBack, ReadBack}
 use Rattle.sending.proofs.Steps.{inner-size, data-behind, all-taken, at-single, at-start, at-inner, at-last}
 use Rattle.sending.proofs.OneFlow.{proper-packet}
 use Rattle.sending.proofs.Rooms.{Carried, carried}

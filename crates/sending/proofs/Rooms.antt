@@ -20,7 +20,7 @@ use Rattle.reading.specs.Table.{Lent, stateIn, segmentIn, messageSegmentIn, is9
 use Rattle.reading.specs.Read.{lent, ofStream, ofMessage, leaving, outcome, reading}
 use Rattle.flows.specs.Board.{Board, after, room, view}
 use Rattle.flows.specs.ByFlow.{OwnFlow, NoFlow, ByFlow}
-use Rattle.sending.specs.Statements.{Begins}
+use Rattle.sending.specs.OfSendings.{Begins}
 
 -- words tell the R of their state
 words-room : (s : State) → stateOf (wordsOf s) .room ≡ s .room
