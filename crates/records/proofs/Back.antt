@@ -95,6 +95,6 @@ enough (packet ∷ packets) = go (ltb (length packet) 128) (enough packets)
     go true h = simp length-append (omega arith)
     go false h = simp length-append (omega arith)
 
-pub reads-back : LogReadsBack
+pub log-reads-back : LogReadsBack
 unfolding recordsOf
-reads-back packets short = from-front (suc (length (writtenLog packets))) packets [] (omega (arith, enough packets)) short
+log-reads-back packets short = from-front (suc (length (writtenLog packets))) packets [] (omega (arith, enough packets)) short
