@@ -131,7 +131,7 @@ uint64_t kaiverohm_state_length(void);
      12  the state has another length than 147. All stays.
      18  the MTU is no multiple of 4 from 32 to 256. The state is zeros.
      19  R is under the MTU or over 65,536. The state is zeros.
-   Promise: crates/kaiverohm/specs/Exports.antt, SetupPromise. */
+   Promise: crates/kaiverohm/specs/Exports.antt, SetupFromCPromise. */
 struct kaiverohm_answer kaiverohm_setup(uint64_t *state, size_t state_words,
                                         uint16_t device, uint64_t mtu, uint64_t room);
 
@@ -150,9 +150,9 @@ struct kaiverohm_answer kaiverohm_setup(uint64_t *state, size_t state_words,
                       context is closed if it was open, all else stays.
                       20 to 25: the response is written, all else stays.
    report.response says whether the response was written (crates/from_c/specs/
-   Statements.antt, ReportsReply). A delivered room keeps its bytes until its
+   OfCalls.antt, ReportsReply). A delivered room keeps its bytes until its
    context is next used.
-   Promise: crates/kaiverohm/specs/Exports.antt, ReadPromise. */
+   Promise: crates/kaiverohm/specs/Exports.antt, ReadFromCPromise. */
 struct kaiverohm_report kaiverohm_read(uint64_t *state, size_t state_words,
                                        uint8_t *stream_memory, size_t stream_length,
                                        uint8_t *message_memory, size_t message_length,
@@ -202,8 +202,8 @@ struct kaiverohm_burst kaiverohm_read_burst(uint64_t *state, size_t state_words,
      12  the state has another length than 147.
      19  it is a state that 19 names.
      13  n is over 15, or for messages over 7.
-   Promises: crates/kaiverohm/specs/Exports.antt, AbandonStreamPromise and
-   AbandonMessagePromise. */
+   Promises: crates/kaiverohm/specs/Exports.antt, AbandonStreamFromCPromise and
+   AbandonMessageFromCPromise. */
 struct kaiverohm_answer kaiverohm_abandon_stream(uint64_t *state, size_t state_words, uint64_t n);
 
 struct kaiverohm_answer kaiverohm_abandon_message(uint64_t *state, size_t state_words, uint64_t n);
@@ -242,7 +242,7 @@ uint64_t kaiverohm_segment_count(uint64_t mtu, uint64_t pdu_length);
      14  the PDU has 0 bytes or over 65,536.
      15  number is not below kaiverohm_segment_count.
      16  out is shorter than the packet.
-   Promise: crates/kaiverohm/specs/Exports.antt, WritePromise. */
+   Promise: crates/kaiverohm/specs/Exports.antt, WriteFromCPromise. */
 struct kaiverohm_answer kaiverohm_write_segment(uint8_t *out, size_t out_length,
                                                 struct kaiverohm_heading heading, uint64_t mtu,
                                                 const uint8_t *pdu, size_t pdu_length,

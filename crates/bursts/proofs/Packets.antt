@@ -14,11 +14,11 @@ use Rattle.answers.specs.Answers.{said}
 use Rattle.contexts.specs.Words.{stateOf}
 use Rattle.reading.specs.Read.{Left, lent, reading, ReadPromise}
 use Rattle.reading.specs.Good.{StillGood}
-use Rattle.reading.specs.Step.{Ready}
+use Rattle.reading.specs.Step.{ReadyToRead}
 use Rattle.reading.proofs.Kept.{stays-good}
 use Rattle.reports.specs.declared.Report.{Report}
 use Rattle.reports.specs.Reports.{reportOf, wordsOfReport}
-use Rattle.bursts.specs.Bursts.{run, slot, placed, Fit, Room, PacketPromise}
+use Rattle.bursts.specs.Bursts.{run, slot, answersPlaced, Fit, Room, PacketPromise}
 
 -- the 8 bytes that are lent
 slot-size : (n : ℕ) → 8 * n + 8 - 8 * n ≡ 8
@@ -38,7 +38,7 @@ module _ (words streams messages responses reports : List ℕ) (count : ℕ) (fi
   slot-length : length lentSlot ≡ 8
   slot-length = ap length slot-is ∙ simp (length-take, length-drop) (omega (arith, room .replies))
 
-  pub ready : Ready words streams messages lentSlot
+  pub ready : ReadyToRead words streams messages lentSlot
   ready = record { whole = fit .whole; good = fit .good; rooms = fit .rooms; boxes = fit .boxes; reply = omega (arith, slot-length) }
 
   module _ (packet : List ℕ) (r : Reading) (words′ streams′ messages′ reply reports′ : List ℕ) (report : Report) (promise : ReadPromise (lent words streams messages lentSlot packet) r words′ streams′ messages′ reply) where
@@ -51,8 +51,8 @@ module _ (words streams messages responses reports : List ℕ) (count : ℕ) (fi
       leaves =
           ap₂ (λ (x y : List ℕ). run words′ streams′ messages′ x y (count + 1) 0) (put-back responses reply (8 * count) (8 * count + 8 - 8 * count) (same ∙ slot-length ∙ sym (slot-size count)))
           (f ∙ ap (λ (x : Report). written reports (9 * count) (wordsOfReport x)) e)
-          ∙ (ap (placed (run words streams messages responses reports count 0) packet 0) promise
-          ∙ ap (λ (s : List ℕ). placed (run words streams messages responses reports count 0) packet 0 (reading (lent words streams messages s packet))) slot-is);
+          ∙ (ap (answersPlaced (run words streams messages responses reports count 0) packet 0) promise
+          ∙ ap (λ (s : List ℕ). answersPlaced (run words streams messages responses reports count 0) packet 0 (reading (lent words streams messages s packet))) slot-is);
       kind =
           ap (λ (x : Report). x .kind) e
           ∙ (ap (λ (x : Left). reportOf (x .says) (x .dropped) packet .kind) promise

@@ -50,15 +50,15 @@ abbrev pub readIn : Run → List ℕ → Left
 readIn r packet = reading (lent (r .words) (r .streamMemory) (r .messageMemory) (slot (r .responses) (r .count)) packet)
 
 -- the packet is read: its response stands in slot k, its report in the 9 words from 9 k on
-abbrev pub placed : Run → List ℕ → ℕ → Left → Run
-placed r packet next x =
+abbrev pub answersPlaced : Run → List ℕ → ℕ → Left → Run
+answersPlaced r packet next x =
     run (x .words) (x .streamMemory) (x .messageMemory)
     (written (r .responses) (8 * r .count) (x .response))
     (written (r .reports) (9 * r .count) (wordsOfReport (reportOf (x .says) (x .dropped) packet)))
     (r .count + 1) next
 
 abbrev pub behind : Run → List ℕ → ℕ → Run
-behind r packet next = placed r packet next (readIn r packet)
+behind r packet next = answersPlaced r packet next (readIn r packet)
 
 -- the kind of its report
 abbrev pub kindIn : Run → List ℕ → ℕ

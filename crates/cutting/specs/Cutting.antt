@@ -16,8 +16,8 @@ unfoldable pub segmentCount : ℕ → ℕ → ℕ
 segmentCount mtu size = (size + (mtu - 1)) / mtu
 
 -- the data of segment k, counted from 0: MTU bytes, and what is left for the last
-unfoldable pub dataOf : ℕ → List ℕ → ℕ → List ℕ
-dataOf mtu pdu k = take mtu (drop (k * mtu) pdu)
+unfoldable pub segmentData : ℕ → List ℕ → ℕ → List ℕ
+segmentData mtu pdu k = take mtu (drop (k * mtu) pdu)
 
 -- S: the first; E: the last
 unfoldable pub isFirst : ℕ → Bool
@@ -50,7 +50,7 @@ packetOf h mtu pdu k =
     ∷ high (h .destination) ∷ low (h .destination)
     ∷ high (h .source) ∷ low (h .source)
     ∷ h .cos
-    ∷ flagsOf (isFirst k) (isFinal mtu pdu k) (length (dataOf mtu pdu k))
+    ∷ flagsOf (isFirst k) (isFinal mtu pdu k) (length (segmentData mtu pdu k))
     ∷ (fieldOf (isFirst k) (isFinal mtu pdu k) (h .stream) (length pdu)
-    ++ dataOf mtu pdu k
-    ++ padOf (length (dataOf mtu pdu k)))
+    ++ segmentData mtu pdu k
+    ++ padOf (length (segmentData mtu pdu k)))

@@ -21,7 +21,7 @@ use Rattle.messages.specs.Joining as message
 use Rattle.messages.specs.Rows as messageRows
 use Rattle.reading.specs.Table.{wrongSizes, table}
 use Rattle.reading.specs.Read.{reading}
-use Rattle.cutting.specs.Cutting.{segmentCount, dataOf, isFirst, isFinal, padOf, flagsOf, fieldOf, packetOf, badSize}
+use Rattle.cutting.specs.Cutting.{segmentCount, segmentData, isFirst, isFinal, padOf, flagsOf, fieldOf, packetOf, badSize}
 use Rattle.segments.specs.Writer.{writerTable, writing}
 
 unfoldable pub computing : Unit {0}
@@ -31,7 +31,7 @@ unfolding written firstOf any rows joined verdict
     marked allMarked isFreeStream isFreeMessage isOfFlow isOfMessage flowContext freeStream messageContext freeMessage stateOf wordsOf
     badRoom badStream badLast badMarks badMessage namedBy19
     streamRooms.placed stream.accepted stream.refusedClosing streamRows.missized streamRows.notOpen streamRows.passesRoom streamRows.noneFree streamRows.lengthDiffers
-    message.alone messageRooms.placed message.accepted messageRows.foundFor messageRows.otherMessage messageRows.alreadyMarked messageRows.noneFree
+    message.deliveredAtOnce messageRooms.messagePlaced message.messageAccepted messageRows.messageFound messageRows.otherMessage messageRows.alreadyMarked messageRows.neededNoneFree
     wrongSizes table reading
-    segmentCount dataOf isFirst isFinal padOf flagsOf fieldOf packetOf badSize writerTable writing
+    segmentCount segmentData isFirst isFinal padOf flagsOf fieldOf packetOf badSize writerTable writing
 computing = tt

@@ -67,8 +67,8 @@ example number sent lines = record { number = number; sent = sent; lines = lines
 -- ---- What is computed
 
 -- device 1, MTU 32, R 2,048, memories of zeros, a response buffer of 7
-abbrev pub board : Board
-board = freshBoard 1 32 2048 (replicate 32768 0) (replicate 32768 0) (replicate 7 0)
+abbrev pub exampleBoard : Board
+exampleBoard = freshBoard 1 32 2048 (replicate 32768 0) (replicate 32768 0) (replicate 7 0)
 
 -- the bytes that an answer delivers: those that its room holds at that moment
 abbrev pub deliveredBytes : Board → Said → List ℕ
@@ -107,7 +107,7 @@ computed b (p ∷ ps) (arrives says dropped facts ∷ lines) = arrives (read b p
 
 -- an example comes out as it says
 abbrev pub Holds : Example → Type 0
-Holds e = computed board (e .sent) (e .lines) ≡ e .lines
+Holds e = computed exampleBoard (e .sent) (e .lines) ≡ e .lines
 
 -- every row of a table does
 abbrev pub AllHold : List Example → Type 0

@@ -11,8 +11,8 @@ use Rattle.reading.specs.Read as reading
 use Rattle.cutting.specs.Cutting.{packetOf}
 use Rattle.segments.specs.Writer.{writing, wroteOf}
 use Rattle.flows.specs.OneFlow.{PDU, pdu}
-use Rattle.flows.specs.Board.{Board, Delivery, delivery, deliveredBy, read, left, room, inRoom}
-use Rattle.examples.specs.Example.{counting, cut, board}
+use Rattle.flows.specs.Board.{Board, Delivery, delivery, deliveredBy, read, boardLeft, room, inRoom}
+use Rattle.examples.specs.Example.{counting, cut, exampleBoard}
 use Rattle.examples.specs.Table.{heading, firstPDU, secondPDU}
 
 -- ---- The demands, of one PDU
@@ -22,9 +22,9 @@ abbrev pub Endpoint : Type 0
 Endpoint = Board → List ℕ → reading.Left
 
 -- what it delivers over packets, each read with what the one before left
-abbrev pub deliveries : Endpoint → Board → List (List ℕ) → List Delivery
-deliveries e b [] = []
-deliveries e b (p ∷ ps) = deliveredBy (room (left (e b p))) (e b p .streamMemory) (e b p .says) ++ deliveries e (left (e b p)) ps
+abbrev pub deliveriesBy : Endpoint → Board → List (List ℕ) → List Delivery
+deliveriesBy e b [] = []
+deliveriesBy e b (p ∷ ps) = deliveredBy (room (boardLeft (e b p))) (e b p .streamMemory) (e b p .says) ++ deliveriesBy e (boardLeft (e b p)) ps
 
 -- two PDUs of 40 bytes, each of a start and an end, from source 2 with cos 5
 abbrev pub one : PDU
@@ -39,29 +39,29 @@ startOf x = packetOf (heading 2 (x .stream)) 32 (x .bytes) 0
 abbrev pub endOf : PDU → List ℕ
 endOf x = packetOf (heading 2 (x .stream)) 32 (x .bytes) 1
 
-abbrev pub packetsOf : PDU → List (List ℕ)
-packetsOf x = cut (heading 2 (x .stream)) 32 (x .bytes)
+abbrev pub packetsOfPDU : PDU → List (List ℕ)
+packetsOfPDU x = cut (heading 2 (x .stream)) 32 (x .bytes)
 
 -- the board when the end comes, and what the end gets
 abbrev pub started : Endpoint → PDU → Board
-started e x = left (e board (startOf x))
+started e x = boardLeft (e exampleBoard (startOf x))
 
-abbrev pub atEnd : Endpoint → PDU → reading.Left
-atEnd e x = e (started e x) (endOf x)
+abbrev pub endGets : Endpoint → PDU → reading.Left
+endGets e x = e (started e x) (endOf x)
 
 -- DEMAND 2: what was cut is read back. The end delivers source, cos, streamID and the sum of the data, and the room holds the PDU's bytes
-pub record ReadsBack (e : Endpoint) (x : PDU) : Type 0 where
+pub record ReadsBackPDU (e : Endpoint) (x : PDU) : Type 0 where
   pub context : ℕ
-  pub answer : atEnd e x .says ≡ delivered context 2 5 (x .stream) (length (x .bytes))
-  pub holds : inRoom 2048 (atEnd e x .streamMemory) context (length (x .bytes)) ≡ x .bytes
+  pub answer : endGets e x .says ≡ delivered context 2 5 (x .stream) (length (x .bytes))
+  pub holds : inRoom 2048 (endGets e x .streamMemory) context (length (x .bytes)) ≡ x .bytes
 
 -- DEMAND 3: what is delivered is exactly what was sent whole
 abbrev pub DeliversWhole : Endpoint → PDU → Type 0
-DeliversWhole e x = deliveries e board (packetsOf x) ≡ delivery (record { source = 2; cos = 5 }) x ∷ []
+DeliversWhole e x = deliveriesBy e exampleBoard (packetsOfPDU x) ≡ delivery (record { source = 2; cos = 5 }) x ∷ []
 
 -- the endpoint itself meets them
 pub record Meets (e : Endpoint) (x : PDU) : Type 0 where
-  pub demand2 : ReadsBack e x
+  pub demand2 : ReadsBackPDU e x
   pub demand3 : DeliversWhole e x
 
 abbrev pub ReadMeets : Type 0
@@ -90,7 +90,7 @@ abbrev pub AlwaysTheSame : Endpoint → Said → Type 0
 AlwaysTheSame e same = (b : Board) (p : List ℕ) (context source cos stream size : ℕ) → e b p .says ≡ delivered context source cos stream size → e b p .says ≡ same
 
 abbrev pub SameBreaks2 : Type 0
-SameBreaks2 = (e : Endpoint) (same : Said) → AlwaysTheSame e same → ReadsBack e one → ReadsBack e another → ⊥
+SameBreaks2 = (e : Endpoint) (same : Said) → AlwaysTheSame e same → ReadsBackPDU e one → ReadsBackPDU e another → ⊥
 
 -- ---- One that stores the start and then only moves the count
 
@@ -101,7 +101,7 @@ countMover b p =
 
 -- 2 by the room's bytes, 3 by the delivered bytes
 abbrev pub CountMoverBreaks2 : Type 0
-CountMoverBreaks2 = ReadsBack countMover one → ⊥
+CountMoverBreaks2 = ReadsBackPDU countMover one → ⊥
 
 abbrev pub CountMoverBreaks3 : Type 0
 CountMoverBreaks3 = DeliversWhole countMover one → ⊥
@@ -125,7 +125,7 @@ inventor size b p =
 
 -- 2 by the sum of the data, 32 + 8
 abbrev pub InventorBreaks2 : Type 0
-InventorBreaks2 = (size : Board → List ℕ → ℕ) → (size (started (inventor size) one) (endOf one) ≡ 40 → ⊥) → ReadsBack (inventor size) one → ⊥
+InventorBreaks2 = (size : Board → List ℕ → ℕ) → (size (started (inventor size) one) (endOf one) ≡ 40 → ⊥) → ReadsBackPDU (inventor size) one → ⊥
 
 -- ---- A writer that does nothing, whatever it answers: demand 2, of the example L=32
 

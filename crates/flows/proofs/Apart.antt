@@ -13,10 +13,10 @@ use Rattle.wire.specs.Type9.{sameFlow, segmentOf}
 use Rattle.wire.specs.Parsed.{parsed}
 use Rattle.stream_rooms.specs.Placing.{dataOf}
 use Rattle.reading.proofs.Packets.{stream-parsed}
-use Rattle.flows.specs.OneFlow.{PDU, Told, held, delivered, refused, Outcome, flowStep}
+use Rattle.flows.specs.OneFlow.{PDU, Told, held, delivered, refused, FlowOutcome, flowStep}
 use Rattle.flows.specs.Board.{Board, read, after, view, freshBoard}
 use Rattle.flows.specs.ByFlow.{AreBytes, Tells, OwnFlow, NoFlow, ByFlow}
-use Rattle.flows.specs.Apart.{Answer, answer, heardOf, heardAlone, isOf, packetsOf, answersTo, alone, AllBytes, flowAmong, AmongFlows, FlowsApart, SamePacketsSameAnswers}
+use Rattle.flows.specs.Apart.{FlowAnswer, flowAnswer, heardOf, heardAlone, isOf, packetsOf, answersTo, alone, AllBytes, flowAmong, AmongFlows, FlowsApart, SamePacketsSameAnswers}
 use Rattle.flows.proofs.Flows.{same-true, same-false, ne-same}
 use Rattle.flows.proofs.Fine.{Fine, fresh-fine, fresh-view}
 use Rattle.flows.proofs.Machine.{by-flow}
@@ -36,11 +36,11 @@ heard-same room memory flow (answers.wrote size) (delivered p) e = cc
 
 module _ (device mtu room : ℕ) (flows : List Flow) (Ok : Board → Type 0) (law : ByFlow device mtu room flows Ok) (flow : Flow) where
   -- what the endpoint answers to a packet
-  abbrev given : Board → List ℕ → Answer
-  given b p = answer (heardOf room (after b p .streamMemory) (read b p .says)) (read b p .dropped)
+  abbrev given : Board → List ℕ → FlowAnswer
+  given b p = flowAnswer (heardOf room (after b p .streamMemory) (read b p .says)) (read b p .dropped)
 
   -- the one-flow endpoint's outcome
-  abbrev out : Option PDU → List ℕ → Outcome
+  abbrev out : Option PDU → List ℕ → FlowOutcome
   out before p = flowStep mtu room before (segmentOf p) (dataOf p (segmentOf p))
 
   abbrev Goal : Board → List (List ℕ) → Type 0
@@ -52,9 +52,9 @@ module _ (device mtu room : ℕ) (flows : List Flow) (Ok : Board → Type 0) (la
 
   -- a packet of this flow
   taken : (b : Board) (p : List ℕ) (ps : List (List ℕ)) → isOf flow (parsed device p) ≡ true
-      → given b p ≡ answer (heardAlone flow (out (view b flow) p .told)) (out (view b flow) p .dropped)
+      → given b p ≡ flowAnswer (heardAlone flow (out (view b flow) p .told)) (out (view b flow) p .dropped)
       → view (after b p) flow ≡ out (view b flow) p .next → Goal (after b p) ps → Goal b (p ∷ ps)
-  taken b p ps t a v ih = rw t (ap₂ (λ (x : Answer) (xs : List Answer). x ∷ xs) a (ih ∙ ap (λ (x : Option PDU). alone mtu room flow x (packetsOf device flow ps)) v))
+  taken b p ps t a v ih = rw t (ap₂ (λ (x : FlowAnswer) (xs : List FlowAnswer). x ∷ xs) a (ih ∙ ap (λ (x : Option PDU). alone mtu room flow x (packetsOf device flow ps)) v))
 
   -- by what the packet is
   step : (b : Board) (p : List ℕ) (ps : List (List ℕ)) → Ok b → AreBytes p → flowAmong flows (parsed device p) ≡ true → (Ok (after b p) → Goal (after b p) ps) → (x : Parsed) → parsed device p ≡ x → Goal b (p ∷ ps)
@@ -78,9 +78,9 @@ module _ (device mtu room : ℕ) (flows : List Flow) (Ok : Board → Type 0) (la
           let s : g .flow ≡ flow = same-true (g .flow) flow t in
           let o : flowStep mtu room (view b (g .flow)) g (dataOf p g) ≡ out (view b flow) p = by-segment flow s in
           let heard : heardOf room (after b p .streamMemory) (read b p .says) ≡ heardAlone flow (out (view b flow) p .told) =
-          heard-same room (after b p .streamMemory) (g .flow) (read b p .says) (flowStep mtu room (view b (g .flow)) g (dataOf p g) .told) (l .tells) ∙ ap₂ (λ (x : Flow) (y : Outcome). heardAlone x (y .told)) s o in
-          taken b p ps (ap (isOf flow) e ∙ t) (ap₂ answer heard (l .drops ∙ ap (λ (y : Outcome). y .dropped) o))
-          (ap (view (after b p)) (sym s) ∙ (l .own ∙ ap (λ (y : Outcome). y .next) o)) (ih (l .ok))
+          heard-same room (after b p .streamMemory) (g .flow) (read b p .says) (flowStep mtu room (view b (g .flow)) g (dataOf p g) .told) (l .tells) ∙ ap₂ (λ (x : Flow) (y : FlowOutcome). heardAlone x (y .told)) s o in
+          taken b p ps (ap (isOf flow) e ∙ t) (ap₂ flowAnswer heard (l .drops ∙ ap (λ (y : FlowOutcome). y .dropped) o))
+          (ap (view (after b p)) (sym s) ∙ (l .own ∙ ap (λ (y : FlowOutcome). y .next) o)) (ih (l .ok))
       go false t =
           skipped b p ps (ap (isOf flow) e ∙ t) (l .others flow (ne-same flow (g .flow) (λ q. same-false (g .flow) flow t (sym q)))) (ih (l .ok))
 

@@ -17,7 +17,7 @@ use Rattle.refusal19.specs.Refusal19.{badRoom, badStream, badMessage, namedBy19
 use Rattle.refusal19.proofs.Good.{good, stream-holds}
 use Rattle.reading.specs.Read.{Left}
 use Rattle.reading.specs.Good.{StillGood}
-use Rattle.flows.specs.Board.{Board, Lends, left, freshBoard, viewOf, view}
+use Rattle.flows.specs.Board.{Board, Lends, boardLeft, freshBoard, viewOf, view}
 use Rattle.flows.proofs.Contexts.{at, within, closed-free, free-of-none, Once, Inside}
 use Rattle.flows.proofs.Seen.{seen, seenAt, Sound}
 
@@ -61,7 +61,7 @@ module _ {device mtu room : ℕ} {flows : List Flow} {b : Board} (f : Fine devic
 
   -- what is left is fine too, where the state is still good, the sizes stay, and the contexts are as they should be
   pub still-fine : (y : Left) → StillGood (stateOn b) (y .words) → length (y .streamMemory) ≡ length (b .streamMemory) → length (y .messageMemory) ≡ length (b .messageMemory)
-      → length (y .response) ≡ length (b .response) → Once (stateOf (y .words) .streams) → Inside flows (stateOf (y .words) .streams) → Fine device mtu room flows (left y)
+      → length (y .response) ≡ length (b .response) → Once (stateOf (y .words) .streams) → Inside flows (stateOf (y .words) .streams) → Fine device mtu room flows (boardLeft y)
   still-fine y g streams messages response once inside = record {
     whole = g .whole;
     good = g .good;

@@ -31,7 +31,7 @@ use Rattle.reading.proofs.Packets.{stream-parsed, message-parsed, message-small
 use Rattle.reading.proofs.Kept.{stays-good}
 use Rattle.reading.proofs.Left.{sizes-right}
 use Rattle.flows.specs.OneFlow.{PDU, flowStep}
-use Rattle.flows.specs.Board.{Board, left, read, deliveredBy, viewOf, view}
+use Rattle.flows.specs.Board.{Board, boardLeft, read, deliveredBy, viewOf, view}
 use Rattle.flows.specs.ByFlow.{among, AreBytes, Tells, OwnFlow, NoFlow, ByFlow}
 use Rattle.flows.proofs.Flows.{same-false}
 use Rattle.flows.proofs.Contexts.{Once, Inside}
@@ -78,12 +78,12 @@ module _ (device mtu room : ℕ) (flows : List Flow) (b : Board) (p : List ℕ) 
     back = state-of (j .state) (sim .leaves .sound .size) (ap length (sim .same-messages) ∙ eight (b .words))
 
     -- a flow's view of what is left
-    view-left : (k : Flow) → view (left (ofStream (lentOn b p) j)) k ≡ seen (s .room) (j .state .streams) (j .memory) k
+    view-left : (k : Flow) → view (boardLeft (ofStream (lentOn b p) j)) k ≡ seen (s .room) (j .state .streams) (j .memory) k
     unfolding view
     view-left k =
         ap (λ (t : State). viewOf t (j .memory) k) back ∙ (view-of (j .state) (j .memory) k ∙ ap (λ (n : ℕ). seen n (j .state .streams) (j .memory) k) (sim .same-room))
 
-    left-fine : Fine device mtu room flows (left (ofStream (lentOn b p) j))
+    left-fine : Fine device mtu room flows (boardLeft (ofStream (lentOn b p) j))
     left-fine =
         let contexts : (P : List StreamContext → Type 0) → P (j .state .streams) → P (stateOf (wordsOf (j .state)) .streams) = λ P h. subst (λ (t : State). P (t .streams)) (sym back) h in
         still-fine f (ofStream (lentOn b p) j) (subst (λ (y : Left). StillGood s (y .words)) leaves still-good)
@@ -92,9 +92,9 @@ module _ (device mtu room : ℕ) (flows : List Flow) (b : Board) (p : List ℕ) 
     -- by the state's own MTU and R
     own-flow : OwnFlow (Fine device mtu room flows) (s .mtu) (s .room) b p g
     own-flow = record {
-      ok = subst (λ (y : Left). Fine device mtu room flows (left y)) (sym leaves) left-fine;
-      own = ap (λ (y : Left). view (left y) (g .flow)) leaves ∙ (view-left (g .flow) ∙ sim .leaves .own-is);
-      others = λ k ne. ap (λ (y : Left). view (left y) k) leaves ∙ (view-left k ∙ (sim .leaves .others k (same-false k (g .flow) ne) ∙ sym (view-is b k)));
+      ok = subst (λ (y : Left). Fine device mtu room flows (boardLeft y)) (sym leaves) left-fine;
+      own = ap (λ (y : Left). view (boardLeft y) (g .flow)) leaves ∙ (view-left (g .flow) ∙ sim .leaves .own-is);
+      others = λ k ne. ap (λ (y : Left). view (boardLeft y) k) leaves ∙ (view-left k ∙ (sim .leaves .others k (same-false k (g .flow) ne) ∙ sym (view-is b k)));
       tells =
           subst (λ (y : Left). Tells (s .room) (y .streamMemory) (g .flow) (y .says) (flowStep (s .mtu) (s .room) (view b (g .flow)) g (streamRoom.dataOf p g) .told)) (sym leaves) (sim .tells);
       drops = ap (λ (y : Left). y .dropped) leaves ∙ sim .drops;
@@ -105,8 +105,8 @@ module _ (device mtu room : ℕ) (flows : List Flow) (b : Board) (p : List ℕ) 
 
   -- ---- a type 11 packet
   module _ (m : MessageSegment) (e : parsed device p ≡ Message m) where
-    abbrev k : messageRoom.Joined
-    k = messageStep.stepped s (b .messageMemory) (b .response) p m
+    abbrev k : messageRoom.MessageJoined
+    k = messageStep.messageStepped s (b .messageMemory) (b .response) p m
 
     message-leaves : read b p ≡ ofMessage (lentOn b p) k
     message-leaves = read-is (Message m) e
@@ -119,7 +119,7 @@ module _ (device mtu room : ℕ) (flows : List Flow) (b : Board) (p : List ℕ) 
     message-back : stateOf (wordsOf (k .state)) ≡ k .state
     message-back = state-of (k .state) (ap length (quiet .same-streams) ∙ sixteen (b .words)) (quiet .messages ∙ eight (b .words))
 
-    message-view : (x : Flow) → view (left (ofMessage (lentOn b p) k)) x ≡ view b x
+    message-view : (x : Flow) → view (boardLeft (ofMessage (lentOn b p) k)) x ≡ view b x
     unfolding view
     message-view x =
         ap (λ (t : State). viewOf t (b .streamMemory) x) message-back
@@ -127,7 +127,7 @@ module _ (device mtu room : ℕ) (flows : List Flow) (b : Board) (p : List ℕ) 
         ∙ (ap₂ (λ (n : ℕ) (cs : List StreamContext). seen n cs (b .streamMemory) x) (quiet .same-room) (quiet .same-streams)
         ∙ sym (view-is b x)))
 
-    message-fine : Fine device mtu room flows (left (ofMessage (lentOn b p) k))
+    message-fine : Fine device mtu room flows (boardLeft (ofMessage (lentOn b p) k))
     message-fine =
         let same : stateOf (wordsOf (k .state)) .streams ≡ s .streams = ap (λ (t : State). t .streams) message-back ∙ quiet .same-streams in
         still-fine f (ofMessage (lentOn b p) k) (subst (λ (y : Left). StillGood s (y .words)) message-leaves still-good)
@@ -135,8 +135,8 @@ module _ (device mtu room : ℕ) (flows : List Flow) (b : Board) (p : List ℕ) 
 
     by-message : NoFlow (Fine device mtu room flows) room b p
     by-message = record {
-      ok = subst (λ (y : Left). Fine device mtu room flows (left y)) (sym message-leaves) message-fine;
-      views = λ x. ap (λ (y : Left). view (left y) x) message-leaves ∙ message-view x;
+      ok = subst (λ (y : Left). Fine device mtu room flows (boardLeft y)) (sym message-leaves) message-fine;
+      views = λ x. ap (λ (y : Left). view (boardLeft y) x) message-leaves ∙ message-view x;
       tells = ap (λ (y : Left). deliveredBy room (y .streamMemory) (y .says)) message-leaves ∙ quiet .tells room (b .streamMemory);
     }
 
@@ -145,8 +145,8 @@ module _ (device mtu room : ℕ) (flows : List Flow) (b : Board) (p : List ℕ) 
   by-refused number e =
       let same : read b p ≡ byParsed (lentOn b p) (Refused number) = read-is (Refused number) e in
       record {
-        ok = subst (λ (y : Left). Fine device mtu room flows (left y)) (sym same) f;
-        views = λ x. ap (λ (y : Left). view (left y) x) same;
+        ok = subst (λ (y : Left). Fine device mtu room flows (boardLeft y)) (sym same) f;
+        views = λ x. ap (λ (y : Left). view (boardLeft y) x) same;
         tells = ap (λ (y : Left). deliveredBy room (y .streamMemory) (y .says)) same;
       }
 

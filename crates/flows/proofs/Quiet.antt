@@ -17,16 +17,16 @@ use Rattle.sizes.proofs.Laws.{bytes-le}
 use Rattle.rules.specs.Messages.{judged, lastWith}
 use Rattle.rules.proofs.Laws.{sound}
 use Rattle.contexts.specs.State.{State, freeMessage}
-use Rattle.messages.specs.Rows.{foundFor, messageOpen, otherMessage, alreadyMarked, noneFree}
-use Rattle.message_rooms.specs.Placing.{Joined, dataOf, marksWith, complete, placed}
-use Rattle.messages.specs.Joining.{alone, accepted}
-use Rattle.messages.specs.Step.{refusedWith, matched, stepped}
+use Rattle.messages.specs.Rows.{messageFound, messageOpen, otherMessage, alreadyMarked, neededNoneFree}
+use Rattle.message_rooms.specs.Placing.{MessageJoined, messageData, marksWith, complete, messagePlaced}
+use Rattle.messages.specs.Joining.{deliveredAtOnce, messageAccepted}
+use Rattle.messages.specs.Step.{refusedWith, matched, messageStepped}
 use Rattle.message_rooms.proofs.Laws.{segment-ends}
 use Rattle.reading.proofs.Cases.{by-test}
 use Rattle.flows.specs.Board.{deliveredBy}
 
 -- no stream context changes, no PDU is delivered, and the memories keep their sizes
-pub record Quiet (s : State) (memory response : List ℕ) (j : Joined) : Type 0 where
+pub record Quiet (s : State) (memory response : List ℕ) (j : MessageJoined) : Type 0 where
   pub same-room : j .state .room ≡ s .room
   pub same-streams : j .state .streams ≡ s .streams
   pub messages : length (j .state .messages) ≡ length (s .messages)
@@ -52,29 +52,29 @@ module _ (s : State) (memory response p : List ℕ) (m : MessageSegment) (size :
   }
 
   -- the data end with the packet
-  data-length : length (dataOf p) ≡ m .raw
+  data-length : length (messageData p) ≡ m .raw
   data-length = length-drop 7 p ∙ omega arith
 
   module _ (fits : m .raw ≤ bytesOf (m .ssize)) (n : ℕ) (lt : n < 8) where
-    quiet-alone : Quiet s memory response (alone s memory response p m n)
-    unfolding alone
+    quiet-alone : Quiet s memory response (deliveredAtOnce s memory response p m n)
+    unfolding deliveredAtOnce
     quiet-alone = record {
       same-room = refl;
       same-streams = refl;
       messages = simp length-set;
-      boxes = length-written memory (dataOf p) (n * 4096) (omega (arith, data-length, bytes-le (m .ssize)));
+      boxes = length-written memory (messageData p) (n * 4096) (omega (arith, data-length, bytes-le (m .ssize)));
       reply = length-answered response p _ reply;
       tells = λ room streams. refl;
     }
 
-    quiet-placed : (marks last : ℕ) → Quiet s memory response (placed s memory response p m n marks last)
-    unfolding placed
+    quiet-placed : (marks last : ℕ) → Quiet s memory response (messagePlaced s memory response p m n marks last)
+    unfolding messagePlaced
     quiet-placed marks last = record {
       same-room = refl;
       same-streams = refl;
       messages = simp length-set;
       boxes =
-          length-written memory (dataOf p) (n * 4096 + m .msgseg * bytesOf (m .ssize))
+          length-written memory (messageData p) (n * 4096 + m .msgseg * bytesOf (m .ssize))
           (omega (arith, data-length, segment-ends n (m .msgseg) (bytesOf (m .ssize)) (m .raw) lt number (bytes-le (m .ssize)) fits));
       reply = length-answered response p _ reply;
       tells = λ room streams. none-told room streams (complete m (marksWith m marks)) n (m .source) (m .letter) (mailbox m) (m .msglen * bytesOf (m .ssize) + lastWith m last);
@@ -85,20 +85,20 @@ module _ (s : State) (memory response p : List ℕ) (m : MessageSegment) (size :
         none-told room streams false context source letter mailbox count = refl
 
   -- a context is free where one is needed
-  free-there : noneFree s m ≡ false → messageOpen s m ≡ false → freeMessage s < 8
-  unfolding noneFree
+  free-there : neededNoneFree s m ≡ false → messageOpen s m ≡ false → freeMessage s < 8
+  unfolding neededNoneFree
   free-there e o = ltb-true (freeMessage s) 8 (not-false (ltb (freeMessage s) 8) (ap (λ (b : Bool). not b && not (ltb (freeMessage s) 8)) (sym o) ∙ e))
 
   single-shut : isSingle m ≡ true → messageOpen s m ≡ false
-  unfolding foundFor
+  unfolding messageFound
   single-shut t = rw t
 
-  quiet-accepted : m .raw ≤ bytesOf (m .ssize) → noneFree s m ≡ false → Quiet s memory response (accepted s memory response p m)
-  unfolding accepted
+  quiet-accepted : m .raw ≤ bytesOf (m .ssize) → neededNoneFree s m ≡ false → Quiet s memory response (messageAccepted s memory response p m)
+  unfolding messageAccepted
   quiet-accepted fits e =
       by-test (isSingle m) (λ t. rw t (quiet-alone fits (freeMessage s) (free-there e (single-shut t))))
       (λ t. by-test (messageOpen s m)
-      (λ o. rw (t, o) (quiet-placed fits (foundFor s m) (ltb-true (foundFor s m) 8 o) _ _))
+      (λ o. rw (t, o) (quiet-placed fits (messageFound s m) (ltb-true (messageFound s m) 8 o) _ _))
       (λ o. rw (t, o) (quiet-placed fits (freeMessage s) (free-there e o) 0 0)))
 
   quiet-matched : m .raw ≤ bytesOf (m .ssize) → Quiet s memory response (matched s memory response p m)
@@ -106,9 +106,9 @@ module _ (s : State) (memory response p : List ℕ) (m : MessageSegment) (size :
   quiet-matched fits =
       by-test (otherMessage s m) (λ a. rw a (quiet-refused 23 ERROR))
       (λ a. by-test (alreadyMarked s m) (λ b. rw (a, b) (quiet-refused 24 ERROR))
-      (λ b. by-test (noneFree s m) (λ d. rw (a, b, d) (quiet-refused 25 RETRY)) (λ d. rw (a, b, d) (quiet-accepted fits d))))
+      (λ b. by-test (neededNoneFree s m) (λ d. rw (a, b, d) (quiet-refused 25 RETRY)) (λ d. rw (a, b, d) (quiet-accepted fits d))))
 
-  pub quiet-stepped : Quiet s memory response (stepped s memory response p m)
-  unfolding stepped
+  pub quiet-stepped : Quiet s memory response (messageStepped s memory response p m)
+  unfolding messageStepped
   quiet-stepped =
       by-test (eqb (judged m) 0) (λ a. rw a (quiet-matched (sound m (eqb-true (judged m) 0 a) .fits))) (λ a. rw a (quiet-refused (judged m) ERROR))

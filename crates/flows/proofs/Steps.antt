@@ -25,7 +25,7 @@ use Rattle.stream_rooms.specs.Placing as streamRoom
 use Rattle.streams.specs.Step as step
 use Rattle.streams.proofs.Laws.{size-le, passed, begin-own, begin-free, go-closed, go-passes, go-differs, go-placed, step-begins, step-continues}
 use Rattle.reading.proofs.Cases.{by-test}
-use Rattle.flows.specs.OneFlow.{PDU, pdu, held, delivered, refused, Outcome, outcome, isOpen, refusedClosing, joined, flowStep}
+use Rattle.flows.specs.OneFlow.{PDU, pdu, held, delivered, refused, FlowOutcome, flowOutcome, isOpen, flowRefused, flowJoined, flowStep}
 use Rattle.flows.specs.Board.{inRoom, delivery}
 use Rattle.flows.specs.ByFlow.{among, Tells}
 use Rattle.flows.proofs.Contexts.{at, own, spare, of-open, of-flow, closed-free, free-of-none, past, Own, found, lacks, own-cases, spare-there}
@@ -34,7 +34,7 @@ use Rattle.flows.proofs.Seen.{seen, seen-some, seen-none, Sound, Mine, 
 use Rattle.flows.proofs.OneStep.{flow-malformed, flow-missized, flow-begins, flow-closed, flow-passes, flow-differs, flow-joins}
 
 -- what a step leaves is what the one-flow endpoint's outcome says
-pub record Sim (flows : List Flow) (s : State) (memory : List ℕ) (g : Segment) (j : streamRoom.Joined) (o : Outcome) : Type 0 where
+pub record Sim (flows : List Flow) (s : State) (memory : List ℕ) (g : Segment) (j : streamRoom.Joined) (o : FlowOutcome) : Type 0 where
   pub leaves : After (s .room) flows (s .streams) memory (g .flow) (j .state .streams) (j .memory) (o .next)
   pub tells : Tells (s .room) (j .memory) (g .flow) (j .says) (o .told)
   pub drops : j .dropped ≡ o .dropped
@@ -67,7 +67,7 @@ module _ (flows : List Flow) (room : ℕ) (cs : List StreamContext) (memory : Li
 module _ (flows : List Flow) (s : State) (memory p : List ℕ) (g : Segment) (ok : Sound (s .room) flows (s .streams) memory) (member : among (g .flow) flows ≡ true)
     (data-is : length (streamRoom.dataOf p g) ≡ dataLength g) where
   -- refused, and the flow's context closed
-  sim-closing : (before : Option PDU) (number : ℕ) → ltb (own (s .streams) (g .flow)) 16 ≡ isOpen before → Sim flows s memory g (stream.refusedClosing s memory g number) (refusedClosing before number)
+  sim-closing : (before : Option PDU) (number : ℕ) → ltb (own (s .streams) (g .flow)) 16 ≡ isOpen before → Sim flows s memory g (stream.refusedClosing s memory g number) (flowRefused before number)
   unfolding stream.refusedClosing flowContext
   sim-closing before number o = record {
     leaves = just-closed (s .room) flows (s .streams) memory ok (g .flow) member (own (s .streams) (g .flow)) (own-mine flows (s .room) (s .streams) memory ok (g .flow));
@@ -79,7 +79,7 @@ module _ (flows : List Flow) (s : State) (memory p : List ℕ) (g : Segment) (ok
 
   -- stored in room n behind `base` bytes
   sim-placed : (n base streamID : ℕ) (dropped : Bool) → Mine (s .streams) (g .flow) n → n < 16 → base + dataLength g ≤ s .room
-      → Sim flows s memory g (streamRoom.placed s memory p g n base streamID dropped) (joined g (pdu streamID (inRoom (s .room) memory n base ++ streamRoom.dataOf p g)) dropped)
+      → Sim flows s memory g (streamRoom.placed s memory p g n base streamID dropped) (flowJoined g (pdu streamID (inRoom (s .room) memory n base ++ streamRoom.dataOf p g)) dropped)
   unfolding streamRoom.placed
   sim-placed n base streamID dropped mine lt fits = go (g .ends)
     where
@@ -91,7 +91,7 @@ module _ (flows : List Flow) (s : State) (memory p : List ℕ) (g : Segment) (ok
           (streamRoom.joining (cond e (answers.delivered n (g .flow .source) (g .flow .cos) streamID (base + dataLength g)) answers.held) dropped
           (withStream s n (cond e closedStream (record { live = 1; flow = g .flow; stream = streamID; held = base + dataLength g })))
           (written memory (n * s .room + base) (streamRoom.dataOf p g)))
-          (cond e (outcome none (delivered (pdu streamID (inRoom (s .room) memory n base ++ streamRoom.dataOf p g))) dropped) (outcome (some (pdu streamID (inRoom (s .room) memory n base ++ streamRoom.dataOf p g))) held dropped))
+          (cond e (flowOutcome none (delivered (pdu streamID (inRoom (s .room) memory n base ++ streamRoom.dataOf p g))) dropped) (flowOutcome (some (pdu streamID (inRoom (s .room) memory n base ++ streamRoom.dataOf p g))) held dropped))
       go true = record {
         leaves = stored-closed (s .room) flows (s .streams) memory ok (g .flow) member n mine lt base (streamRoom.dataOf p g) fit;
         tells =
@@ -112,7 +112,7 @@ module _ (flows : List Flow) (s : State) (memory p : List ℕ) (g : Segment) (ok
       }
 
   -- row 8: all stays
-  sim-staying : seen (s .room) (s .streams) memory (g .flow) ≡ none → Sim flows s memory g (streamRoom.joining (answers.refused 8) false s memory) (outcome none (refused 8) false)
+  sim-staying : seen (s .room) (s .streams) memory (g .flow) ≡ none → Sim flows s memory g (streamRoom.joining (answers.refused 8) false s memory) (flowOutcome none (refused 8) false)
   sim-staying v = record { leaves = record { sound = ok; own-is = v; others = λ l ne. refl }; tells = refl; drops = refl; same-room = refl; same-messages = refl }
 
   -- a closing refusal by the code's tests
@@ -130,12 +130,12 @@ module _ (flows : List Flow) (s : State) (memory p : List ℕ) (g : Segment) (ok
   module _ (few : length flows ≤ 16) (fine : namedBy19 s ≡ false) where
     sim-6 : (before : Option PDU) → ltb (own (s .streams) (g .flow)) 16 ≡ isOpen before → malformed g ≡ true → Stepped before
     sim-6 before o d =
-        subst₂ (λ (j : streamRoom.Joined) (x : Outcome). Sim flows s memory g j x) (sym (closing-6 d)) (sym (flow-malformed (s .mtu) (s .room) g (streamRoom.dataOf p g) before d)) (sim-closing before 6 o)
+        subst₂ (λ (j : streamRoom.Joined) (x : FlowOutcome). Sim flows s memory g j x) (sym (closing-6 d)) (sym (flow-malformed (s .mtu) (s .room) g (streamRoom.dataOf p g) before d)) (sim-closing before 6 o)
 
     module _ (d : malformed g ≡ false) where
       sim-7 : (before : Option PDU) → ltb (own (s .streams) (g .flow)) 16 ≡ isOpen before → wrongSize (g .ends) (dataLength g) (s .mtu) ≡ true → Stepped before
       sim-7 before o e =
-          subst₂ (λ (j : streamRoom.Joined) (x : Outcome). Sim flows s memory g j x) (sym (closing-7 d e)) (sym (flow-missized (s .mtu) (s .room) g (streamRoom.dataOf p g) d before e)) (sim-closing before 7 o)
+          subst₂ (λ (j : streamRoom.Joined) (x : FlowOutcome). Sim flows s memory g j x) (sym (closing-7 d e)) (sym (flow-missized (s .mtu) (s .room) g (streamRoom.dataOf p g) d before e)) (sim-closing before 7 o)
 
       module _ (e : wrongSize (g .ends) (dataLength g) (s .mtu) ≡ false) where
         -- a start or single fits any room
@@ -152,9 +152,9 @@ module _ (flows : List Flow) (s : State) (memory p : List ℕ) (g : Segment) (ok
             let i : ℕ = own (s .streams) (g .flow) in
             let lt : i < 16 = omega (arith, ok .size) in
             let opened : true ≡ isOpen before = sym (lt-ltb i 16 lt) ∙ o in
-            subst₂ (λ (j : streamRoom.Joined) (x : Outcome). Sim flows s memory g j x)
+            subst₂ (λ (j : streamRoom.Joined) (x : FlowOutcome). Sim flows s memory g j x)
             (step-begins s memory p g d {count = dataLength g} {mtu = s .mtu} refl refl e t (begin-own s memory p g t now lt refl))
-            (ap (joined g (pdu (g .field) (streamRoom.dataOf p g))) opened ∙ sym (flow-begins (s .mtu) (s .room) g (streamRoom.dataOf p g) d e before t))
+            (ap (flowJoined g (pdu (g .field) (streamRoom.dataOf p g))) opened ∙ sym (flow-begins (s .mtu) (s .room) g (streamRoom.dataOf p g) d e before t))
             (sim-placed i 0 (g .field) true (own-mine flows (s .room) (s .streams) memory ok (g .flow)) lt start-small)
         sim-begins before (lacks q no-one) o t =
             let i : ℕ = spare (s .streams) in
@@ -162,9 +162,9 @@ module _ (flows : List Flow) (s : State) (memory p : List ℕ) (g : Segment) (ok
             let lt : i < 16 = omega (arith, ok .size) in
             let past-all : 16 ≤ own (s .streams) (g .flow) = omega (arith, ok .size) in
             let shut : false ≡ isOpen before = sym (le-ltb (own (s .streams) (g .flow)) 16 past-all) ∙ o in
-            subst₂ (λ (j : streamRoom.Joined) (x : Outcome). Sim flows s memory g j x)
+            subst₂ (λ (j : streamRoom.Joined) (x : FlowOutcome). Sim flows s memory g j x)
             (step-begins s memory p g d {count = dataLength g} {mtu = s .mtu} refl refl e t (begin-free s memory p g t now past-all {free = i} refl lt refl))
-            (ap (joined g (pdu (g .field) (streamRoom.dataOf p g))) shut ∙ sym (flow-begins (s .mtu) (s .room) g (streamRoom.dataOf p g) d e before t))
+            (ap (flowJoined g (pdu (g .field) (streamRoom.dataOf p g))) shut ∙ sym (flow-begins (s .mtu) (s .room) g (streamRoom.dataOf p g) d e before t))
             (sim-placed i 0 (g .field) false (spare-mine flows (s .room) (s .streams) memory ok (g .flow) no-one within) lt start-small)
 
         module _ (t : g .begins ≡ false) where
@@ -181,7 +181,7 @@ module _ (flows : List Flow) (s : State) (memory p : List ℕ) (g : Segment) (ok
           sim-closed : 16 ≤ i → Stepped none
           unfolding flowContext
           sim-closed o =
-              subst₂ (λ (j : streamRoom.Joined) (x : Outcome). Sim flows s memory g j x)
+              subst₂ (λ (j : streamRoom.Joined) (x : FlowOutcome). Sim flows s memory g j x)
               (step-continues s memory p g d {count = dataLength g} {mtu = s .mtu} refl refl e t (go-closed s memory p g t now o))
               (sym (flow-closed (s .mtu) (s .room) g (streamRoom.dataOf p g) d e t))
               (sim-staying (seen-none (s .room) (s .streams) memory (g .flow) o))
@@ -193,7 +193,7 @@ module _ (flows : List Flow) (s : State) (memory p : List ℕ) (g : Segment) (ok
             sim-9 : ltb (s .room) (c .held + dataLength g) ≡ true → Stepped (some held-so-far)
             unfolding flowContext stream.refusedClosing
             sim-9 h =
-                subst₂ (λ (j : streamRoom.Joined) (x : Outcome). Sim flows s memory g j x)
+                subst₂ (λ (j : streamRoom.Joined) (x : FlowOutcome). Sim flows s memory g j x)
                 (step-continues s memory p g d {count = dataLength g} {mtu = s .mtu} refl refl e t
                 (go-passes s memory p g t now lt {c = c} {room = s .room} refl refl (ltb-true (s .room) (c .held + dataLength g) h) (record { answer = refl; drop = refl; state = refl })))
                 (sym (flow-passes (s .mtu) (s .room) g (streamRoom.dataOf p g) d e t held-so-far (c .held) holds h))
@@ -206,7 +206,7 @@ module _ (flows : List Flow) (s : State) (memory p : List ℕ) (g : Segment) (ok
               sim-11 : wrongLength g (c .held + dataLength g) ≡ true → Stepped (some held-so-far)
               unfolding flowContext stream.refusedClosing
               sim-11 w =
-                  subst₂ (λ (j : streamRoom.Joined) (x : Outcome). Sim flows s memory g j x)
+                  subst₂ (λ (j : streamRoom.Joined) (x : FlowOutcome). Sim flows s memory g j x)
                   (step-continues s memory p g d {count = dataLength g} {mtu = s .mtu} refl refl e t
                   (go-differs s memory p g t now lt {c = c} {room = s .room} refl refl fits w (record { answer = refl; drop = refl; state = refl })))
                   (sym (flow-differs (s .mtu) (s .room) g (streamRoom.dataOf p g) d e t held-so-far (c .held) holds h w))
@@ -215,7 +215,7 @@ module _ (flows : List Flow) (s : State) (memory p : List ℕ) (g : Segment) (ok
               sim-joins : wrongLength g (c .held + dataLength g) ≡ false → Stepped (some held-so-far)
               unfolding flowContext
               sim-joins w =
-                  subst₂ (λ (j : streamRoom.Joined) (x : Outcome). Sim flows s memory g j x)
+                  subst₂ (λ (j : streamRoom.Joined) (x : FlowOutcome). Sim flows s memory g j x)
                   (step-continues s memory p g d {count = dataLength g} {mtu = s .mtu} refl refl e t (go-placed s memory p g t now lt {c = c} {room = s .room} refl refl fits w refl))
                   (sym (flow-joins (s .mtu) (s .room) g (streamRoom.dataOf p g) d e t held-so-far (c .held) holds h w))
                   (sim-placed i (c .held) (c .stream) false (own-mine flows (s .room) (s .streams) memory ok (g .flow)) lt fits)

@@ -29,12 +29,12 @@ pub data Heard : Type 0 where
   other : Heard
 
 -- and whether an open PDU was given up
-pub record Answer : Type 0 where
+pub record FlowAnswer : Type 0 where
   pub heard : Heard
   pub dropped : Bool
 
-abbrev pub answer : Heard → Bool → Answer
-answer heard dropped = record { heard = heard; dropped = dropped }
+abbrev pub flowAnswer : Heard → Bool → FlowAnswer
+flowAnswer heard dropped = record { heard = heard; dropped = dropped }
 
 -- by the endpoint: a delivered PDU's bytes are those that its room holds at that moment
 abbrev pub heardOf : ℕ → List ℕ → answers.Said → Heard
@@ -66,19 +66,19 @@ packetsOf device flow [] = []
 packetsOf device flow (p ∷ ps) = cond (isOf flow (parsed device p)) (p ∷ packetsOf device flow ps) (packetsOf device flow ps)
 
 -- what the endpoint answers to that flow's packets, in a run over all packets
-abbrev pub answersTo : ℕ → ℕ → Flow → Board → List (List ℕ) → List Answer
+abbrev pub answersTo : ℕ → ℕ → Flow → Board → List (List ℕ) → List FlowAnswer
 answersTo device room flow b [] = []
 answersTo device room flow b (p ∷ ps) =
     cond (isOf flow (parsed device p))
-    (answer (heardOf room (after b p .streamMemory) (read b p .says)) (read b p .dropped) ∷ answersTo device room flow (after b p) ps)
+    (flowAnswer (heardOf room (after b p .streamMemory) (read b p .says)) (read b p .dropped) ∷ answersTo device room flow (after b p) ps)
     (answersTo device room flow (after b p) ps)
 
 -- what the one-flow endpoint answers to a flow's packets, where `before` is what it has so far
-abbrev pub alone : ℕ → ℕ → Flow → Option PDU → List (List ℕ) → List Answer
+abbrev pub alone : ℕ → ℕ → Flow → Option PDU → List (List ℕ) → List FlowAnswer
 alone mtu room flow before [] = []
 alone mtu room flow before (p ∷ ps) =
     let o = flowStep mtu room before (segmentOf p) (dataOf p (segmentOf p)) in
-    answer (heardAlone flow (o .told)) (o .dropped) ∷ alone mtu room flow (o .next) ps
+    flowAnswer (heardAlone flow (o .told)) (o .dropped) ∷ alone mtu room flow (o .next) ps
 
 -- ---- the statements
 
@@ -98,7 +98,7 @@ AmongFlows device flows [] = Unit {0}
 AmongFlows device flows (p ∷ ps) = (flowAmong flows (parsed device p) ≡ true) × AmongFlows device flows ps
 
 -- an endpoint as setup makes it, memories that 12 allows, and any packets at all of which those of type 9 have at most sixteen flows
-pub record Run (device mtu room : ℕ) (streamMemory messageMemory response : List ℕ) (flows : List Flow) (packets : List (List ℕ)) : Type 0 where
+pub record AtMostSixteenFlows (device mtu room : ℕ) (streamMemory messageMemory response : List ℕ) (flows : List Flow) (packets : List (List ℕ)) : Type 0 where
   pub mtu-fits : badMTU mtu ≡ false
   pub room-fits : badRoom mtu room ≡ false
   pub lends : Lends room streamMemory messageMemory response
@@ -110,7 +110,7 @@ pub record Run (device mtu room : ℕ) (streamMemory messageMemory response : Li
 abbrev pub FlowsApart : Type 0
 FlowsApart =
     (device mtu room : ℕ) (streamMemory messageMemory response : List ℕ) (flows : List Flow) (packets : List (List ℕ))
-    → Run device mtu room streamMemory messageMemory response flows packets
+    → AtMostSixteenFlows device mtu room streamMemory messageMemory response flows packets
     → (flow : Flow)
     → answersTo device room flow (freshBoard device mtu room streamMemory messageMemory response) packets ≡ alone mtu room flow none (packetsOf device flow packets)
 
@@ -119,8 +119,8 @@ abbrev pub SamePacketsSameAnswers : Type 0
 SamePacketsSameAnswers =
     (device mtu room : ℕ) (streamMemory messageMemory response : List ℕ) (flows : List Flow) (packets : List (List ℕ))
     (streamMemory′ messageMemory′ response′ : List ℕ) (flows′ : List Flow) (packets′ : List (List ℕ))
-    → Run device mtu room streamMemory messageMemory response flows packets
-    → Run device mtu room streamMemory′ messageMemory′ response′ flows′ packets′
+    → AtMostSixteenFlows device mtu room streamMemory messageMemory response flows packets
+    → AtMostSixteenFlows device mtu room streamMemory′ messageMemory′ response′ flows′ packets′
     → (flow : Flow)
     → packetsOf device flow packets ≡ packetsOf device flow packets′
     → answersTo device room flow (freshBoard device mtu room streamMemory messageMemory response) packets

@@ -24,11 +24,11 @@ abbrev pub read : Board → List ℕ → Left
 read b packet = reading (lent (b .words) (b .streamMemory) (b .messageMemory) (b .response) packet)
 
 -- the board as reading leaves it
-abbrev pub left : Left → Board
-left x = record { words = x .words; streamMemory = x .streamMemory; messageMemory = x .messageMemory; response = x .response }
+abbrev pub boardLeft : Left → Board
+boardLeft x = record { words = x .words; streamMemory = x .streamMemory; messageMemory = x .messageMemory; response = x .response }
 
 abbrev pub after : Board → List ℕ → Board
-after b packet = left (read b packet)
+after b packet = boardLeft (read b packet)
 
 -- R, which setup fixed
 abbrev pub room : Board → ℕ

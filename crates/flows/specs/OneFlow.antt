@@ -24,38 +24,38 @@ pub data Told : Type 0 where
   refused : ℕ → Told
 
 -- the flow afterwards, closed (none) or open; the answer; whether an open PDU was given up
-pub record Outcome : Type 0 where
+pub record FlowOutcome : Type 0 where
   pub next : Option PDU
   pub told : Told
   pub dropped : Bool
 
-abbrev pub outcome : Option PDU → Told → Bool → Outcome
-outcome next told dropped = record { next = next; told = told; dropped = dropped }
+abbrev pub flowOutcome : Option PDU → Told → Bool → FlowOutcome
+flowOutcome next told dropped = record { next = next; told = told; dropped = dropped }
 
 abbrev pub isOpen : Option PDU → Bool
 isOpen none = false
 isOpen (some p) = true
 
 -- refused, and the flow is closed
-abbrev pub refusedClosing : Option PDU → ℕ → Outcome
-refusedClosing before number = outcome none (refused number) (isOpen before)
+abbrev pub flowRefused : Option PDU → ℕ → FlowOutcome
+flowRefused before number = flowOutcome none (refused number) (isOpen before)
 
 -- the PDU so far; an end or single delivers it and closes the flow
-abbrev pub joined : Segment → PDU → Bool → Outcome
-joined g p dropped = cond (g .ends) (outcome none (delivered p) dropped) (outcome (some p) held dropped)
+abbrev pub flowJoined : Segment → PDU → Bool → FlowOutcome
+flowJoined g p dropped = cond (g .ends) (flowOutcome none (delivered p) dropped) (flowOutcome (some p) held dropped)
 
 -- a continuation or end: rows 8, 9, 11
-abbrev pub continued : ℕ → Option PDU → Segment → List ℕ → Outcome
-continued room none g bytes = outcome none (refused 8) false
-continued room (some p) g bytes =
-    cond (ltb room (length (p .bytes) + dataLength g)) (refusedClosing (some p) 9)
-    (cond (wrongLength g (length (p .bytes) + dataLength g)) (refusedClosing (some p) 11)
-    (joined g (pdu (p .stream) (p .bytes ++ bytes)) false))
+abbrev pub flowContinued : ℕ → Option PDU → Segment → List ℕ → FlowOutcome
+flowContinued room none g bytes = flowOutcome none (refused 8) false
+flowContinued room (some p) g bytes =
+    cond (ltb room (length (p .bytes) + dataLength g)) (flowRefused (some p) 9)
+    (cond (wrongLength g (length (p .bytes) + dataLength g)) (flowRefused (some p) 11)
+    (flowJoined g (pdu (p .stream) (p .bytes ++ bytes)) false))
 
 -- a segment g with these data bytes, for a flow that is closed or open
-unfoldable pub flowStep : ℕ → ℕ → Option PDU → Segment → List ℕ → Outcome
+unfoldable pub flowStep : ℕ → ℕ → Option PDU → Segment → List ℕ → FlowOutcome
 flowStep mtu room before g bytes =
-    cond (malformed g) (refusedClosing before 6)
-    (cond (wrongSize (g .ends) (dataLength g) mtu) (refusedClosing before 7)
-    (cond (g .begins) (joined g (pdu (g .field) bytes) (isOpen before))
-    (continued room before g bytes)))
+    cond (malformed g) (flowRefused before 6)
+    (cond (wrongSize (g .ends) (dataLength g) mtu) (flowRefused before 7)
+    (cond (g .begins) (flowJoined g (pdu (g .field) bytes) (isOpen before))
+    (flowContinued room before g bytes)))

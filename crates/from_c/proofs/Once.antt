@@ -1,13 +1,13 @@
 -- Each promise is an equation with one side that the inputs fix, so two outcomes are equal.
 use mathlib.Core.Path.{ap, sym, _∙_}
 use Rattle.bursts.specs.Bursts.{Finished}
-use Rattle.from_c.specs.Statements.{SetupOnce, ReadOnce, BurstOnce, AbandonStreamOnce, AbandonMessageOnce, StreamPlaceOnce, MessagePlaceOnce, WriteOnce}
+use Rattle.from_c.specs.OfCalls.{SetupFromCOnce, ReadFromCOnce, BurstOnce, AbandonStreamFromCOnce, AbandonMessageFromCOnce, StreamPlaceOnce, MessagePlaceOnce, WriteFromCOnce}
 
-pub setup-once : SetupOnce
-setup-once words device mtu room r r′ after after′ p q = (p .answer ∙ sym (q .answer), p .state ∙ sym (q .state))
+pub setup-from-c-once : SetupFromCOnce
+setup-from-c-once words device mtu room r r′ after after′ p q = (p .answer ∙ sym (q .answer), p .state ∙ sym (q .state))
 
-pub read-once : ReadOnce
-read-once x r r′ words words′ streams streams′ messages messages′ response response′ p q =
+pub read-from-c-once : ReadFromCOnce
+read-from-c-once x r r′ words words′ streams streams′ messages messages′ response response′ p q =
     (p .report ∙ sym (q .report), p .state ∙ sym (q .state), p .streams ∙ sym (q .streams), p .messages ∙ sym (q .messages), p .reply ∙ sym (q .reply))
 
 pub burst-once : BurstOnce
@@ -21,11 +21,11 @@ burst-once pause start burst r r′ words words′ streams streams′ messages m
       ap (λ (x : Finished). x .reports) e,
     )
 
-pub abandon-stream-once : AbandonStreamOnce
-abandon-stream-once words n r r′ after after′ p q = (p .answer ∙ sym (q .answer), p .state ∙ sym (q .state))
+pub abandon-stream-from-c-once : AbandonStreamFromCOnce
+abandon-stream-from-c-once words n r r′ after after′ p q = (p .answer ∙ sym (q .answer), p .state ∙ sym (q .state))
 
-pub abandon-message-once : AbandonMessageOnce
-abandon-message-once words n r r′ after after′ p q = (p .answer ∙ sym (q .answer), p .state ∙ sym (q .state))
+pub abandon-message-from-c-once : AbandonMessageFromCOnce
+abandon-message-from-c-once words n r r′ after after′ p q = (p .answer ∙ sym (q .answer), p .state ∙ sym (q .state))
 
 pub stream-place-once : StreamPlaceOnce
 stream-place-once words size n l r r′ p q = p ∙ sym q
@@ -33,5 +33,5 @@ stream-place-once words size n l r r′ p q = p ∙ sym q
 pub message-place-once : MessagePlaceOnce
 message-place-once words size n l r r′ p q = p ∙ sym q
 
-pub write-once : WriteOnce
-write-once out h mtu pdu k r r′ after after′ p q = (p .answer ∙ sym (q .answer), p .packet ∙ sym (q .packet))
+pub write-from-c-once : WriteFromCOnce
+write-from-c-once out h mtu pdu k r r′ after after′ p q = (p .answer ∙ sym (q .answer), p .packet ∙ sym (q .packet))

@@ -16,12 +16,12 @@ use Rattle.stream_rooms.specs.Placing as streamRoom
 use Rattle.streams.specs.Joining as stream
 use Rattle.message_rooms.specs.Placing as messageRoom
 use Rattle.messages.specs.Joining as joined
-use Rattle.messages.specs.Rows.{messageOpen, foundFor}
+use Rattle.messages.specs.Rows.{messageOpen, messageFound}
 use Rattle.reading.specs.Table.{Lent, stateIn, segmentIn, messageSegmentIn, is9, is11, table}
 use Rattle.reading.specs.Read.{reading, outcome, leaving, accepting}
 use Rattle.reading.proofs.Cases.{by-test}
 use Rattle.reports.specs.Reports.{responseOf, isMessage}
-use Rattle.from_c.specs.Statements.{Reply, silent, answers, ReportsReply}
+use Rattle.from_c.specs.OfCalls.{Reply, silent, answers, ReportsReply}
 
 -- a row's last column says whether the sender is answered
 abbrev answersBy : Leaves → Bool
@@ -85,19 +85,19 @@ module _ (x : Lent) where
 
   module _ (m : isMessage (x .packet) ≡ true) where
     placed-answers : (n marks last : ℕ)
-        → Reply x (responseOf (messageRoom.placed (stateIn x) (x .messageMemory) (x .response) (x .packet) (messageSegmentIn x) n marks last .says) (x .packet)) (messageRoom.placed (stateIn x) (x .messageMemory) (x .response) (x .packet) (messageSegmentIn x) n marks last .response)
-    unfolding messageRoom.placed
+        → Reply x (responseOf (messageRoom.messagePlaced (stateIn x) (x .messageMemory) (x .response) (x .packet) (messageSegmentIn x) n marks last .says) (x .packet)) (messageRoom.messagePlaced (stateIn x) (x .messageMemory) (x .response) (x .packet) (messageSegmentIn x) n marks last .response)
+    unfolding messageRoom.messagePlaced
     placed-answers n marks last =
         by-test (messageRoom.complete (messageSegmentIn x) (messageRoom.marksWith (messageSegmentIn x) marks))
         (λ e. rw e (answers DONE))
         (λ e. rw e (spoke _ DONE (ap (λ (b : Bool). cond b 7 0) m)))
 
-    message-answers : Reply x (responseOf (joined.accepted (stateIn x) (x .messageMemory) (x .response) (x .packet) (messageSegmentIn x) .says) (x .packet)) (joined.accepted (stateIn x) (x .messageMemory) (x .response) (x .packet) (messageSegmentIn x) .response)
-    unfolding joined.accepted joined.alone
+    message-answers : Reply x (responseOf (joined.messageAccepted (stateIn x) (x .messageMemory) (x .response) (x .packet) (messageSegmentIn x) .says) (x .packet)) (joined.messageAccepted (stateIn x) (x .messageMemory) (x .response) (x .packet) (messageSegmentIn x) .response)
+    unfolding joined.messageAccepted joined.deliveredAtOnce
     message-answers =
         by-test (isSingle (messageSegmentIn x)) (λ t. rw t (answers DONE))
         (λ t. by-test (messageOpen (stateIn x) (messageSegmentIn x))
-        (λ o. rw (t, o) (placed-answers (foundFor (stateIn x) (messageSegmentIn x)) _ _))
+        (λ o. rw (t, o) (placed-answers (messageFound (stateIn x) (messageSegmentIn x)) _ _))
         (λ o. rw (t, o) (placed-answers (freeMessage (stateIn x)) 0 0)))
 
   other-type : (a b : Bool) → not (a || b) ≡ false → a ≡ false → b ≡ true

@@ -14,7 +14,7 @@ use Rattle.records.specs.Records.{Records, records, byNext, nextRecord, records
 use Rattle.records.proofs.Found.{inside}
 use Rattle.bursts.specs.Bursts.{Run, run, behind, turned, packetTurn, turnBy, pauseOf, turn, atEnd, stopped, ran, roomFor, readBurst, burstBy}
 use Rattle.bursts.proofs.Turns.{stops, goes-on}
-use Rattle.from_c.specs.Statements.{allRead, BurstIsCalls}
+use Rattle.from_c.specs.OfCalls.{allRead, BurstIsCalls}
 
 -- where the next record begins does not matter to what is read
 same-next : (end a b : ℕ) (r : Run) (packet : List ℕ) (packets : List (List ℕ)) → allRead end (behind r packet a) packets ≡ allRead end (behind r packet b) packets

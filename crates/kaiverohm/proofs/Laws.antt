@@ -9,10 +9,10 @@ use Rattle.reading.specs.Read as endpoint
 use Rattle.reading.specs.Read.{Left}
 use Rattle.reports.specs.declared.Report.{Report}
 use Rattle.reports.specs.Reports.{reportOf}
-use Rattle.kaiverohm.specs.Exports.{ReadPromise}
+use Rattle.kaiverohm.specs.Exports.{ReadFromCPromise}
 
 pub handed : (x : Lent) (r : Reading) (report : Report) (words streams messages response : List ℕ) → endpoint.ReadPromise x r words streams messages response
-    → report ≡ reportOf (said (r .answer)) (r .dropped) (x .packet) → ReadPromise x report words streams messages response
+    → report ≡ reportOf (said (r .answer)) (r .dropped) (x .packet) → ReadFromCPromise x report words streams messages response
 handed x r report words streams messages response p e = record {
   report = e ∙ ap (λ (l : Left). reportOf (l .says) (l .dropped) (x .packet)) p;
   state = ap (λ (l : Left). l .words) p;

@@ -14,12 +14,12 @@ use Rattle.reports.specs.Reports.{numbersOf, reportOf}
 use Rattle.kaiverohm.specs.declared.Heading.{Heading}
 
 -- the promise of `kaiverohm_setup`
-pub record SetupPromise (words : List ℕ) (device mtu room : ℕ) (r : Numbers) (after : List ℕ) : Type 0 where
+pub record SetupFromCPromise (words : List ℕ) (device mtu room : ℕ) (r : Numbers) (after : List ℕ) : Type 0 where
   pub answer : r ≡ numbersOf (setup words device mtu room .says)
   pub state : after ≡ setup words device mtu room .words
 
 -- the promise of `kaiverohm_read`
-pub record ReadPromise (x : Lent) (r : Report) (words streamMemory messageMemory response : List ℕ) : Type 0 where
+pub record ReadFromCPromise (x : Lent) (r : Report) (words streamMemory messageMemory response : List ℕ) : Type 0 where
   pub report : r ≡ reportOf (reading x .says) (reading x .dropped) (x .packet)
   pub state : words ≡ reading x .words
   pub streams : streamMemory ≡ reading x .streamMemory
@@ -27,11 +27,11 @@ pub record ReadPromise (x : Lent) (r : Report) (words streamMemory messageMemory
   pub reply : response ≡ reading x .response
 
 -- the promises of `kaiverohm_abandon_stream` and `kaiverohm_abandon_message`
-pub record AbandonStreamPromise (words : List ℕ) (n : ℕ) (r : Numbers) (after : List ℕ) : Type 0 where
+pub record AbandonStreamFromCPromise (words : List ℕ) (n : ℕ) (r : Numbers) (after : List ℕ) : Type 0 where
   pub answer : r ≡ numbersOf (abandonStream words n .says)
   pub state : after ≡ abandonStream words n .words
 
-pub record AbandonMessagePromise (words : List ℕ) (n : ℕ) (r : Numbers) (after : List ℕ) : Type 0 where
+pub record AbandonMessageFromCPromise (words : List ℕ) (n : ℕ) (r : Numbers) (after : List ℕ) : Type 0 where
   pub answer : r ≡ numbersOf (abandonMessage words n .says)
   pub state : after ≡ abandonMessage words n .words
 
@@ -40,7 +40,7 @@ abbrev pub headingOf : Heading → cut.Heading
 headingOf h = record { destination = h .destination; source = h .source; cos = h .cos; stream = h .stream; priority = h .priority }
 
 -- the promise of `kaiverohm_write_segment`
-pub record WritePromise (out : List ℕ) (h : Heading) (mtu : ℕ) (pdu : List ℕ) (k : ℕ) (r : Numbers) (after : List ℕ) : Type 0 where
+pub record WriteFromCPromise (out : List ℕ) (h : Heading) (mtu : ℕ) (pdu : List ℕ) (k : ℕ) (r : Numbers) (after : List ℕ) : Type 0 where
   pub answer : r ≡ numbersOf (writing out (headingOf h) mtu pdu k .says)
   pub packet : after ≡ writing out (headingOf h) mtu pdu k .out
 

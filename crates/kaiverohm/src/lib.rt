@@ -9,7 +9,7 @@ ghost use Rattle.endpoint.specs.Calls.{LengthPromise};
 ghost use Rattle.segments.specs.Writer.{CountPromise};
 ghost use Rattle.places.specs.Places.{StreamPlacePromise, MessagePlacePromise};
 ghost use Rattle.bursts.specs.Bursts.{run, BurstPromise};
-ghost use Rattle.kaiverohm.specs.Exports.{SetupPromise, ReadPromise, AbandonStreamPromise, AbandonMessagePromise, WritePromise};
+ghost use Rattle.kaiverohm.specs.Exports.{SetupFromCPromise, ReadFromCPromise, AbandonStreamFromCPromise, AbandonMessageFromCPromise, WriteFromCPromise};
 
 // What the segment writer writes in the head of each packet.
 #[repr(C)]
@@ -37,7 +37,7 @@ pub extern "C" fn kaiverohm_setup(
     mtu: usize,
     room: usize,
 ) -> Numbers
-    ensures { λ r. ⌜ SetupPromise (now (state .entry)) device mtu room r (now (state .exit)) ⌝ }
+    ensures { λ r. ⌜ SetupFromCPromise (now (state .entry)) device mtu room r (now (state .exit)) ⌝ }
 {
     reports::of_setup(endpoint::setup(state, device, mtu, room))
 }
@@ -51,7 +51,7 @@ pub extern "C" fn kaiverohm_read(
     response: &mut [u8],
     packet: &[u8],
 ) -> Report
-    ensures { λ r. ⌜ ReadPromise (lent (now (state .entry)) (now («stream_memory» .entry)) (now («message_memory» .entry)) (now (response .entry)) (now (packet .entry))) r (now (state .exit)) (now («stream_memory» .exit)) (now («message_memory» .exit)) (now (response .exit)) ⌝ }
+    ensures { λ r. ⌜ ReadFromCPromise (lent (now (state .entry)) (now («stream_memory» .entry)) (now («message_memory» .entry)) (now (response .entry)) (now (packet .entry))) r (now (state .exit)) (now («stream_memory» .exit)) (now («message_memory» .exit)) (now (response .exit)) ⌝ }
 {
     let reading = endpoint::read(state, stream_memory, message_memory, response, packet);
     reports::reported(reading, packet)
@@ -84,7 +84,7 @@ pub extern "C" fn kaiverohm_read_burst(
 // Gives the PDU of stream context n up.
 #[no_mangle]
 pub extern "C" fn kaiverohm_abandon_stream(state: &mut [usize], n: usize) -> Numbers
-    ensures { λ r. ⌜ AbandonStreamPromise (now (state .entry)) n r (now (state .exit)) ⌝ }
+    ensures { λ r. ⌜ AbandonStreamFromCPromise (now (state .entry)) n r (now (state .exit)) ⌝ }
 {
     reports::of_abandon(endpoint::abandon_stream(state, n))
 }
@@ -92,7 +92,7 @@ pub extern "C" fn kaiverohm_abandon_stream(state: &mut [usize], n: usize) -> Num
 // Gives the message of message context n up.
 #[no_mangle]
 pub extern "C" fn kaiverohm_abandon_message(state: &mut [usize], n: usize) -> Numbers
-    ensures { λ r. ⌜ AbandonMessagePromise (now (state .entry)) n r (now (state .exit)) ⌝ }
+    ensures { λ r. ⌜ AbandonMessageFromCPromise (now (state .entry)) n r (now (state .exit)) ⌝ }
 {
     reports::of_abandon(endpoint::abandon_message(state, n))
 }
@@ -130,7 +130,7 @@ pub extern "C" fn kaiverohm_write_segment(
     pdu: &[u8],
     number: usize,
 ) -> Numbers
-    ensures { λ r. ⌜ WritePromise (now (out .entry)) heading mtu (now (pdu .entry)) number r (now (out .exit)) ⌝ }
+    ensures { λ r. ⌜ WriteFromCPromise (now (out .entry)) heading mtu (now (pdu .entry)) number r (now (out .exit)) ⌝ }
 {
     let head = cutting::Heading {
         destination: heading.destination,

@@ -10,7 +10,7 @@ use Rattle.answers.specs.declared.Answer.the-variants.{Held, Delivered, Message
 use Rattle.answers.specs.Answers.{Said, said}
 use Rattle.lines.specs.Text.{text}
 use Rattle.lines.specs.Lines.{spaced, answerText, lineOf, endLine}
-use Rattle.lines.specs.Puts.{Puts, put, putLine}
+use Rattle.lines.specs.Puts.{Puts, linePut, putLine}
 use Rattle.lines.proofs.Puts.{both, has-room}
 
 -- bytes that stand at a place and end at `limit` or before
@@ -50,7 +50,7 @@ module _ (out after : List ℕ) (r : ℕ) (answer : Answer) where
 -- a whole line: the answer, ` dropped` where so, the end of the line
 pub line-is : (out m₁ m₂ after : List ℕ) (says : Said) (dropped : Bool) (r₁ r₂ s : ℕ) → 128 ≤ length out
     → Within out 0 (answerText says) m₁ r₁ 87 → Within m₁ r₁ (cond dropped (text " dropped") []) m₂ r₂ (r₁ + 8) → Puts m₂ r₂ (text "\n") after s
-    → (put s after ≡ putLine out (lineOf says dropped)) × (s ≤ 128)
+    → (linePut s after ≡ putLine out (lineOf says dropped)) × (s ≤ 128)
 unfolding lineOf
 line-is out m₁ m₂ after says dropped r₁ r₂ s fits p q n =
     let last : s ≡ r₂ + 1 = n .behind in
@@ -59,7 +59,7 @@ line-is out m₁ m₂ after says dropped r₁ r₂ s fits p q n =
 
 -- the line of a clean end
 pub end-is : (out m₁ m₂ after : List ℕ) (count r₁ r₂ s : ℕ) → 128 ≤ length out
-    → Puts out 0 (text "end") m₁ r₁ → Within m₁ r₁ (spaced count) m₂ r₂ (r₁ + 21) → Puts m₂ r₂ (text "\n") after s → (put s after ≡ putLine out (endLine count)) × (s ≤ 128)
+    → Puts out 0 (text "end") m₁ r₁ → Within m₁ r₁ (spaced count) m₂ r₂ (r₁ + 21) → Puts m₂ r₂ (text "\n") after s → (linePut s after ≡ putLine out (endLine count)) × (s ≤ 128)
 unfolding endLine
 end-is out m₁ m₂ after count r₁ r₂ s fits p q n =
     let first : r₁ ≡ 3 = p .behind in

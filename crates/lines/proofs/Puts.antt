@@ -12,7 +12,7 @@ use borrow.Author.Tests.{lt-ltb, le-ltb}
 use native.Mathlib.Nat.{add-zero, zero-add}
 use mathlib.Core.List.{append-nil}
 use Rattle.lists.proofs.Written.{stores}
-use Rattle.lines.specs.Puts.{Puts, Put, put, putLine}
+use Rattle.lines.specs.Puts.{Puts, LinePut, linePut, putLine}
 
 -- two runs of bytes, the second where the first ends, are one
 pub both : (out first second mid after : List ℕ) (at r s : ℕ) → at + length first + length second ≤ length out
@@ -39,10 +39,10 @@ none out at = record {
 }
 
 -- a line in a buffer with room for it, and in one with too little
-pub has-room : (out line after : List ℕ) (r : ℕ) → 128 ≤ length out → r ≤ 128 → Puts out 0 line after r → (put r after ≡ putLine out line) × (r ≤ 128)
+pub has-room : (out line after : List ℕ) (r : ℕ) → 128 ≤ length out → r ≤ 128 → Puts out 0 line after r → (linePut r after ≡ putLine out line) × (r ≤ 128)
 unfolding putLine
 has-room out line after r h few p = (rw (le-ltb (length out) 128 h, p .stored, p .behind ∙ zero-add (length line)), few)
 
-pub no-room : (out line : List ℕ) → length out < 128 → (put 0 out ≡ putLine out line) × (0 ≤ 128)
+pub no-room : (out line : List ℕ) → length out < 128 → (linePut 0 out ≡ putLine out line) × (0 ≤ 128)
 unfolding putLine
 no-room out line h = (rw (lt-ltb (length out) 128 h), omega arith)

@@ -17,12 +17,12 @@ abbrev pub lineRoom : ℕ
 lineRoom = 128
 
 -- what is in a buffer after a line, and how many bytes that has; 0 where the buffer has too little room, and all stays
-pub record Put : Type 0 where
+pub record LinePut : Type 0 where
   pub size : ℕ
   pub out : List ℕ
 
-abbrev pub put : ℕ → List ℕ → Put
-put size out = record { size = size; out = out }
+abbrev pub linePut : ℕ → List ℕ → LinePut
+linePut size out = record { size = size; out = out }
 
-unfoldable pub putLine : List ℕ → List ℕ → Put
-putLine out line = cond (ltb (length out) lineRoom) (put 0 out) (put (length line) (written out 0 line))
+unfoldable pub putLine : List ℕ → List ℕ → LinePut
+putLine out line = cond (ltb (length out) lineRoom) (linePut 0 out) (linePut (length line) (written out 0 line))

@@ -14,36 +14,36 @@ use Rattle.answers.specs.declared.Reading.{Reading}
 use Rattle.answers.specs.Answers.{Said, said}
 use Rattle.reading.specs.Read as reading
 use Rattle.reading.specs.Read.{Left, lent, ReadPromise}
-use Rattle.flows.specs.Board.{Board, read, left, after}
+use Rattle.flows.specs.Board.{Board, read, boardLeft, after}
 use Rattle.records.specs.declared.Next.{Next}
 use Rattle.records.specs.declared.Next.the-variants.{Record, End, Bad}
 use Rattle.records.specs.Records.{nextRecord}
 use Rattle.lines.specs.Lines.{lineOf, endLine, badLog}
-use Rattle.lines.specs.Puts.{Put, put, putLine}
+use Rattle.lines.specs.Puts.{LinePut, linePut, putLine}
 use Rattle.logrun.specs.declared.Piece.{Piece}
 use Rattle.logrun.specs.declared.Piece.the-variants.{Line, Last}
 use Rattle.logrun.specs.Printing.{Printing, printing, board, recordPrinted, lastPrinted, printedBy, printed, LinePromise, Onward}
 
 module _ (b : Board) (log : List ℕ) (at count : ℕ) (out : List ℕ) where
   -- the end, and a log that is bad there
-  pub at-end : (r : ℕ) (line : List ℕ) → nextRecord log at ≡ End → put r line ≡ putLine out (endLine count) → LinePromise b log at count out (Last r) b line
+  pub at-end : (r : ℕ) (line : List ℕ) → nextRecord log at ≡ End → linePut r line ≡ putLine out (endLine count) → LinePromise b log at count out (Last r) b line
   unfolding printed
-  at-end r line e p = ap (λ (x : Put). printing (Last (x .size)) b (x .out)) p ∙ sym (ap (printedBy b log count out) e)
+  at-end r line e p = ap (λ (x : LinePut). printing (Last (x .size)) b (x .out)) p ∙ sym (ap (printedBy b log count out) e)
 
-  pub at-bad : (r : ℕ) (line : List ℕ) → nextRecord log at ≡ Bad → put r line ≡ putLine out badLog → LinePromise b log at count out (Last r) b line
+  pub at-bad : (r : ℕ) (line : List ℕ) → nextRecord log at ≡ Bad → linePut r line ≡ putLine out badLog → LinePromise b log at count out (Last r) b line
   unfolding printed
-  at-bad r line e p = ap (λ (x : Put). printing (Last (x .size)) b (x .out)) p ∙ sym (ap (printedBy b log count out) e)
+  at-bad r line e p = ap (λ (x : LinePut). printing (Last (x .size)) b (x .out)) p ∙ sym (ap (printedBy b log count out) e)
 
   -- a record
   pub at-record : (from size next : ℕ) (packet : List ℕ) (r : Reading) (words streams messages response : List ℕ) (n : ℕ) (line : List ℕ)
       → nextRecord log at ≡ Record from size next → packet ≡ take size (drop from log)
       → ReadPromise (lent (b .words) (b .streamMemory) (b .messageMemory) (b .response) packet) r words streams messages response
-      → put n line ≡ putLine out (lineOf (said (r .answer)) (r .dropped))
+      → linePut n line ≡ putLine out (lineOf (said (r .answer)) (r .dropped))
       → LinePromise b log at count out (Line n next) (board words streams messages response) line
   unfolding printed
   at-record from size next packet r words streams messages response n line e same p q =
-      ap (λ (x : Put). printing (Line (x .size) next) (board words streams messages response) (x .out)) q
-      ∙ (ap (λ (x : Left). printing (Line (putLine out (lineOf (x .says) (x .dropped)) .size) next) (left x) (putLine out (lineOf (x .says) (x .dropped)) .out)) p
+      ap (λ (x : LinePut). printing (Line (x .size) next) (board words streams messages response) (x .out)) q
+      ∙ (ap (λ (x : Left). printing (Line (putLine out (lineOf (x .says) (x .dropped)) .size) next) (boardLeft x) (putLine out (lineOf (x .says) (x .dropped)) .out)) p
       ∙ (ap (λ (l : List ℕ). recordPrinted b l out next) same
       ∙ sym (ap (printedBy b log count out) e)))
 

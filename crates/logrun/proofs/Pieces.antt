@@ -17,19 +17,19 @@ use Rattle.records.specs.declared.Next.the-variants.{Record, End, Bad}
 use Rattle.records.specs.Records.{Records, records, before, byNext, nextRecord, recordsFrom, recordsOf}
 use Rattle.records.proofs.Found.{Inside, inside}
 use Rattle.lines.specs.Lines.{lineOf, endLine, badLog}
-use Rattle.lines.specs.Puts.{Put, put, putLine}
+use Rattle.lines.specs.Puts.{LinePut, linePut, putLine}
 use Rattle.logrun.specs.declared.Piece.the-variants.{Line, Last}
 use Rattle.logrun.specs.Output.{logBoard, linesOf, outputOf, output}
 use Rattle.logrun.specs.Printing.{Printing, printedBy, printed, onPiece, pieces, PiecesMakeOutput}
 
 -- a line in a buffer with room: the buffer's first bytes are the line, and the room stays
 module _ (out line : List ℕ) (room : 128 ≤ length out) where
-  put-there : putLine out line ≡ put (length line) (line ++ drop (length line) out)
+  put-there : putLine out line ≡ linePut (length line) (line ++ drop (length line) out)
   unfolding putLine
   put-there = rw (le-ltb (length out) 128 room, written-front out line)
 
   pub written-line : take (putLine out line .size) (putLine out line .out) ≡ line
-  written-line = ap (λ (x : Put). take (x .size) (x .out)) put-there ∙ take-at line (drop (length line) out) (length line) refl
+  written-line = ap (λ (x : LinePut). take (x .size) (x .out)) put-there ∙ take-at line (drop (length line) out) (length line) refl
 
   pub still-room : 128 ≤ length (putLine out line .out)
   still-room = rw put-there (simp (length-append, length-drop) (omega arith))

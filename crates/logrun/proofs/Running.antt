@@ -16,13 +16,13 @@ use Rattle.records.specs.declared.Next.the-variants.{Record, End, Bad}
 use Rattle.records.specs.Records.{nextRecord}
 use Rattle.records.proofs.Found.{inside}
 use Rattle.lines.specs.Lines.{lineOf, endLine, badLog}
-use Rattle.lines.specs.Puts.{Put, put, putLine}
+use Rattle.lines.specs.Puts.{LinePut, linePut, putLine}
 use Rattle.logrun.specs.declared.Piece.{Piece}
 use Rattle.logrun.specs.declared.Piece.the-variants.{Line, Last}
 use Rattle.logrun.specs.declared.Ran.{Ran}
 use Rattle.logrun.specs.Printing.{Printing, printing, lastPrinted, printedBy, printed, LinePromise, Onward}
 use Rattle.logrun.proofs.Laws.{of-line, of-last}
-use Rattle.logrun.specs.Running.{Running, running, behind, recordRan, ranBy, ranFrom, ranOf, Left, left, leftBy, leaves, RunPromise, RunOnward}
+use Rattle.logrun.specs.Running.{Running, running, linesBefore, recordRan, ranBy, ranFrom, ranOf, RunLeft, runLeft, runLeftBy, leaves, LogRunPromise, RunOnward}
 
 -- ---- every number of steps that is more than the bytes left makes the same run
 ran-enough : (m k : ℕ) (b : Board) (log : List ℕ) (at count room : ℕ) → length log - at < m → length log - at < k
@@ -42,7 +42,7 @@ ran-enough (suc m) (suc k) b log at count room h g =
         let i = inside log at from size next e in
         let packet : List ℕ = take size (drop from log) in
         let line : List ℕ = lineOf (read b packet .says) (read b packet .dropped) in
-        ap (behind line) (ih (after b packet) next (room - length line) (omega (arith, i .within, i .onward)) (omega (arith, i .within, i .onward)))
+        ap (linesBefore line) (ih (after b packet) next (room - length line) (omega (arith, i .within, i .onward)) (omega (arith, i .within, i .onward)))
 
 -- a run from a place on, with steps for the whole log
 abbrev pub rest : Board → List ℕ → ℕ → ℕ → ℕ → Running
@@ -57,14 +57,14 @@ module _ (b : Board) (log : List ℕ) (at count room : ℕ) where
   -- room for one
   pub at-record : (from size next : ℕ) (line : List ℕ) → 128 ≤ room → nextRecord log at ≡ Record from size next
       → lineOf (read b (take size (drop from log)) .says) (read b (take size (drop from log)) .dropped) ≡ line
-      → rest b log at count room ≡ behind line (rest (after b (take size (drop from log))) log next (count + 1) (room - length line))
+      → rest b log at count room ≡ linesBefore line (rest (after b (take size (drop from log))) log next (count + 1) (room - length line))
   unfolding ranFrom
   at-record from size next line h e l =
       let i = inside log at from size next e in
       ap (λ (t : Bool). cond t (running [] b at count false) (ranBy (λ b′ next room′. ranFrom (length log) b′ log next (count + 1) room′) b log at count room (nextRecord log at))) (le-ltb room 128 h)
       ∙ (ap (ranBy (λ b′ next room′. ranFrom (length log) b′ log next (count + 1) room′) b log at count room) e
       ∙ (ap (λ (l : List ℕ). recordRan (λ b′ next room′. ranFrom (length log) b′ log next (count + 1) room′) b (take size (drop from log)) l next room) l
-      ∙ ap (behind line) (ran-enough (length log) (suc (length log)) (after b (take size (drop from log))) log next (count + 1) (room - length line) (omega (arith, i .within, i .onward)) (omega arith))))
+      ∙ ap (linesBefore line) (ran-enough (length log) (suc (length log)) (after b (take size (drop from log))) log next (count + 1) (room - length line) (omega (arith, i .within, i .onward)) (omega arith))))
 
   pub at-end : 128 ≤ room → nextRecord log at ≡ End → rest b log at count room ≡ running (endLine count) b at count true
   unfolding ranFrom
@@ -84,7 +84,7 @@ pub record Going (b₀ : Board) (log : List ℕ) (at₀ count₀ : ℕ) (out₀ 
   pub fits : used ≤ length out₀
   pub same : length out ≡ length out₀
   pub stored : out ≡ written out₀ 0 lines
-  pub whole : rest b₀ log at₀ count₀ (length out₀) ≡ behind lines (rest b log at count (length out₀ - used))
+  pub whole : rest b₀ log at₀ count₀ (length out₀) ≡ linesBefore lines (rest b log at count (length out₀ - used))
 
 -- nothing so far
 pub begins : (b : Board) (log : List ℕ) (at count : ℕ) (out : List ℕ) → count ≤ at → Going b log at count out b at count out 0
@@ -99,10 +99,10 @@ begins b log at count out h = record {
   whole = ap (rest b log at count) (let e : length out ≡ length out - 0 = omega arith in e);
 }
 
-behind-both : (first second : List ℕ) (x : Running) → behind first (behind second x) ≡ behind (first ++ second) x
+behind-both : (first second : List ℕ) (x : Running) → linesBefore first (linesBefore second x) ≡ linesBefore (first ++ second) x
 behind-both first second x = ap (λ (l : List ℕ). running l (x .board) (x .at) (x .count) (x .over)) (sym (append-assoc first second (x .lines)))
 
-put-there : (out line : List ℕ) → 128 ≤ length out → putLine out line ≡ put (length line) (written out 0 line)
+put-there : (out line : List ℕ) → 128 ≤ length out → putLine out line ≡ linePut (length line) (written out 0 line)
 unfolding putLine
 put-there out line room = rw (le-ltb (length out) 128 room)
 
@@ -113,16 +113,16 @@ module _ (b₀ : Board) (log : List ℕ) (at₀ count₀ : ℕ) (out₀ : List �
     pub sized : size ≡ length line
     pub stored : putMid used (length out - used) out part ≡ written out₀ 0 (g .lines ++ line)
 
-  add-line : (line part : List ℕ) (size : ℕ) → 128 ≤ length out - used → size ≤ 128 → put size part ≡ putLine (midOf used (length out - used) out) line → Added line part size
+  add-line : (line part : List ℕ) (size : ℕ) → 128 ≤ length out - used → size ≤ 128 → linePut size part ≡ putLine (midOf used (length out - used) out) line → Added line part size
   add-line line part size room few e =
       let long : 128 ≤ length (midOf used (length out - used) out) = simp (length-take, length-drop) (omega arith) in
       let there = e ∙ put-there (midOf used (length out - used) out) line long in
-      let sized : size ≡ length line = ap (λ (x : Put). x .size) there in
+      let sized : size ≡ length line = ap (λ (x : LinePut). x .size) there in
       let at-used : written out used line ≡ written (written out₀ 0 (g .lines)) (0 + length (g .lines)) line = ap₂ (λ (l : List ℕ) (k : ℕ). written l k line) (g .stored) (omega (arith, g .size)) in
       record {
         sized = sized;
         stored =
-            written-part out line part used (omega (arith, g .fits, g .same)) (ap (λ (x : Put). x .out) there)
+            written-part out line part used (omega (arith, g .fits, g .same)) (ap (λ (x : LinePut). x .out) there)
             ∙ (at-used ∙ written-behind out₀ (g .lines) line 0 (omega (arith, g .fits, g .same, g .size)));
       }
 
@@ -145,7 +145,7 @@ module _ (b₀ : Board) (log : List ℕ) (at₀ count₀ : ℕ) (out₀ : List �
           let q = ap (λ (x : Printing). x .piece) p in
           let size-is : size ≡ putLine (midOf used (length out - used) out) line .size = cc in
           let next-is : next ≡ next′ = cc in
-          let a = add-line line part size room few (ap₂ put size-is (ap (λ (x : Printing). x .out) p)) in
+          let a = add-line line part size room few (ap₂ linePut size-is (ap (λ (x : Printing). x .out) p)) in
           let long : length (g .lines ++ line) ≡ used + size = simp length-append (omega (arith, g .size, a .sized)) in
           let fits : used + size ≤ length out₀ = omega (arith, g .same, g .fits) in
           let less : length out₀ - used - length line ≡ length out₀ - (used + size) = omega (arith, a .sized) in
@@ -159,60 +159,60 @@ module _ (b₀ : Board) (log : List ℕ) (at₀ count₀ : ℕ) (out₀ : List �
             stored = a .stored;
             whole =
                 g .whole
-                ∙ (ap (behind (g .lines)) (at-record b log at count (length out₀ - used) from n next′ line (omega (arith, g .same)) e refl)
+                ∙ (ap (linesBefore (g .lines)) (at-record b log at count (length out₀ - used) from n next′ line (omega (arith, g .same)) e refl)
                 ∙ (behind-both (g .lines) line (rest (after b packet) log next′ (count + 1) (length out₀ - used - length line))
-                ∙ (ap (λ (x : Board). behind (g .lines ++ line) (rest x log next′ (count + 1) (length out₀ - used - length line))) (sym (ap (λ (x : Printing). x .board) p))
-                ∙ ap₂ (λ (x y : ℕ). behind (g .lines ++ line) (rest b′ log x (count + 1) y)) (sym next-is) less)));
+                ∙ (ap (λ (x : Board). linesBefore (g .lines ++ line) (rest x log next′ (count + 1) (length out₀ - used - length line))) (sym (ap (λ (x : Printing). x .board) p))
+                ∙ ap₂ (λ (x y : ℕ). linesBefore (g .lines ++ line) (rest b′ log x (count + 1) y)) (sym next-is) less)));
           }
 
   -- what the whole run leaves, once no more is to come
-  leaves-rest : leaves b₀ log at₀ count₀ out₀ ≡ leftBy out₀ (rest b₀ log at₀ count₀ (length out₀))
+  leaves-rest : leaves b₀ log at₀ count₀ out₀ ≡ runLeftBy out₀ (rest b₀ log at₀ count₀ (length out₀))
   unfolding leaves ranOf
   leaves-rest = rw (le-ltb at₀ count₀ (g .front))
 
   leaves-lines : (b′ : Board) (line : List ℕ) (over : Bool) → rest b log at count (length out₀ - used) ≡ running line b′ at count over
-      → leaves b₀ log at₀ count₀ out₀ ≡ leftBy out₀ (running (g .lines ++ line) b′ at count over)
-  leaves-lines b′ line over e = leaves-rest ∙ ap (leftBy out₀) (g .whole ∙ ap (behind (g .lines)) e)
+      → leaves b₀ log at₀ count₀ out₀ ≡ runLeftBy out₀ (running (g .lines ++ line) b′ at count over)
+  leaves-lines b′ line over e = leaves-rest ∙ ap (runLeftBy out₀) (g .whole ∙ ap (linesBefore (g .lines)) e)
 
   -- the last line
   ends-by : (size : ℕ) (b′ : Board) (line part : List ℕ) → 128 ≤ length out - used → size ≤ 128
       → rest b log at count (length out₀ - used) ≡ running line b at count true
       → printing (Last size) b′ part ≡ lastPrinted b (midOf used (length out - used) out) line
-      → RunPromise b₀ log at₀ count₀ out₀ (record { used = used + size; at = at; count = count; over = true }) b′ (putMid used (length out - used) out part)
+      → LogRunPromise b₀ log at₀ count₀ out₀ (record { used = used + size; at = at; count = count; over = true }) b′ (putMid used (length out - used) out part)
   ends-by size b′ line part room few e p =
       let q = ap (λ (x : Printing). x .piece) p in
       let size-is : size ≡ putLine (midOf used (length out - used) out) line .size = cc in
-      let a = add-line line part size room few (ap₂ put size-is (ap (λ (x : Printing). x .out) p)) in
+      let a = add-line line part size room few (ap₂ linePut size-is (ap (λ (x : Printing). x .out) p)) in
       let long : used + size ≡ length (g .lines ++ line) = simp length-append (omega (arith, g .size, a .sized)) in
-      ap (λ (x : Board). left (record { used = used + size; at = at; count = count; over = true }) x (putMid used (length out - used) out part)) (ap (λ (x : Printing). x .board) p)
-      ∙ (ap₂ (λ (k : ℕ) (l : List ℕ). left (record { used = k; at = at; count = count; over = true }) b l) long (a .stored)
+      ap (λ (x : Board). runLeft (record { used = used + size; at = at; count = count; over = true }) x (putMid used (length out - used) out part)) (ap (λ (x : Printing). x .board) p)
+      ∙ (ap₂ (λ (k : ℕ) (l : List ℕ). runLeft (record { used = k; at = at; count = count; over = true }) b l) long (a .stored)
       ∙ sym (leaves-lines b line true e))
 
   pub ends : (piece : Piece) (size : ℕ) (b′ : Board) (part : List ℕ) → piece ≡ Last size → 128 ≤ length out - used → Onward (length log) at piece
       → LinePromise b log at count (midOf used (length out - used) out) piece b′ part
-      → RunPromise b₀ log at₀ count₀ out₀ (record { used = used + size; at = at; count = count; over = true }) b′ (putMid used (length out - used) out part)
+      → LogRunPromise b₀ log at₀ count₀ out₀ (record { used = used + size; at = at; count = count; over = true }) b′ (putMid used (length out - used) out part)
   unfolding printed
   ends piece size b′ part is room o p =
       go (of-last (length log) at piece size o is) (nextRecord log at) refl (subst (λ (x : Piece). LinePromise b log at count (midOf used (length out - used) out) x b′ part) is p)
     where
       go : size ≤ 128 → (x : Next) → nextRecord log at ≡ x → printing (Last size) b′ part ≡ printedBy b log count (midOf used (length out - used) out) x
-          → RunPromise b₀ log at₀ count₀ out₀ (record { used = used + size; at = at; count = count; over = true }) b′ (putMid used (length out - used) out part)
+          → LogRunPromise b₀ log at₀ count₀ out₀ (record { used = used + size; at = at; count = count; over = true }) b′ (putMid used (length out - used) out part)
       go few End e p = ends-by size b′ (endLine count) part room few (at-end b log at count (length out₀ - used) (omega (arith, g .same)) e) p
       go few Bad e p = ends-by size b′ badLog part room few (at-bad b log at count (length out₀ - used) (omega (arith, g .same)) e) p
       go few (Record from n next) e p = let q = ap (λ (x : Printing). x .piece) p in absurd (false≢true cc)
 
   -- no room for one more
-  pub stops : length out - used < 128 → RunPromise b₀ log at₀ count₀ out₀ (record { used = used; at = at; count = count; over = false }) b out
+  pub stops : length out - used < 128 → LogRunPromise b₀ log at₀ count₀ out₀ (record { used = used; at = at; count = count; over = false }) b out
   stops h =
-      ap₂ (λ (k : ℕ) (l : List ℕ). left (record { used = k; at = at; count = count; over = false }) b l)
+      ap₂ (λ (k : ℕ) (l : List ℕ). runLeft (record { used = k; at = at; count = count; over = false }) b l)
       (g .size ∙ ap length (sym (append-nil (g .lines)))) (g .stored ∙ ap (written out₀ 0) (sym (append-nil (g .lines))))
       ∙ sym (leaves-lines b [] false (no-room b log at count (length out₀ - used) (omega (arith, g .same))))
 
 -- more records than bytes before the place
 pub refuses : (b : Board) (log : List ℕ) (at count : ℕ) (out : List ℕ) → at < count
-    → RunPromise b log at count out (record { used = 0; at = at; count = count; over = true }) b out
+    → LogRunPromise b log at count out (record { used = 0; at = at; count = count; over = true }) b out
 unfolding leaves ranOf
-refuses b log at count out h = rw (lt-ltb at count h) (ap (left (record { used = 0; at = at; count = count; over = true }) b) (sym (written-front out [])))
+refuses b log at count out h = rw (lt-ltb at count h) (ap (runLeft (record { used = 0; at = at; count = count; over = true }) b) (sym (written-front out [])))
 
 -- ---- how far a run comes
 inside-log : (most : ℕ) (b : Board) (log : List ℕ) (at count room : ℕ) → at ≤ length log
@@ -252,10 +252,10 @@ comes-on b log at count room h o = go (nextRecord log at) refl
         (omega (arith, q, r .0, i .onward), omega (arith, q, r .1))
 
 -- what a caller's loop needs
-pub onward-by : (b : Board) (log : List ℕ) (at count : ℕ) (out : List ℕ) (r : Ran) (b′ : Board) (out′ : List ℕ) → RunPromise b log at count out r b′ out′ → r .used ≤ length out
+pub onward-by : (b : Board) (log : List ℕ) (at count : ℕ) (out : List ℕ) (r : Ran) (b′ : Board) (out′ : List ℕ) → LogRunPromise b log at count out r b′ out′ → r .used ≤ length out
     → RunOnward (length log) at (length out) r
 unfolding leaves ranOf
-onward-by b log at count out r b′ out′ p fits = (fits, λ room o. go (ltb at count) room (sym (ap (λ (x : Left). x .ran .over) p) ∙ o) (ap (λ (x : Left). x .ran .at) p))
+onward-by b log at count out r b′ out′ p fits = (fits, λ room o. go (ltb at count) room (sym (ap (λ (x : RunLeft). x .ran .over) p) ∙ o) (ap (λ (x : RunLeft). x .ran .at) p))
   where
     go : (t : Bool) → 128 ≤ length out → cond t (running [] b at count true) (rest b log at count (length out)) .over ≡ false
         → r .at ≡ cond t (running [] b at count true) (rest b log at count (length out)) .at

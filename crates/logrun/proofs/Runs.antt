@@ -18,7 +18,7 @@ use Rattle.records.specs.Records.{Records, before, byNext, nextRecord, recordsF
 use Rattle.records.proofs.Found.{inside}
 use Rattle.lines.specs.Lines.{lineOf, endLine, badLog}
 use Rattle.logrun.specs.Output.{logBoard, outputOf, output}
-use Rattle.logrun.specs.Running.{Running, running, ranBy, ranFrom, ranOf, Left, leftBy, leaves, RunPromise, onRun, runs, RunsMakeOutput}
+use Rattle.logrun.specs.Running.{Running, running, ranBy, ranFrom, ranOf, RunLeft, runLeftBy, leaves, LogRunPromise, onRun, runs, RunsMakeOutput}
 use Rattle.logrun.specs.declared.Ran.{Ran}
 use Rattle.logrun.proofs.Pieces.{one-more}
 use Rattle.logrun.proofs.Running.{rest, comes-on}
@@ -105,7 +105,7 @@ few-still (suc most) b log at count room h = go (ltb room 128) (nextRecord log a
         ih (after b packet) next (room - length line) (omega (arith, i .onward))
 
 -- ---- the runs from a place on
-leaves-is : (b : Board) (log : List ℕ) (at count : ℕ) (out : List ℕ) → count ≤ at → leaves b log at count out ≡ leftBy out (rest b log at count (length out))
+leaves-is : (b : Board) (log : List ℕ) (at count : ℕ) (out : List ℕ) → count ≤ at → leaves b log at count out ≡ runLeftBy out (rest b log at count (length out))
 unfolding leaves ranOf
 leaves-is b log at count out h = rw (le-ltb at count h)
 
@@ -120,14 +120,14 @@ from-place : (most : ℕ) (b : Board) (log : List ℕ) (at count : ℕ) (out : L
 unfolding runs
 from-place zero b log at count out h few room = absurd (omega arith)
 from-place (suc most) b log at count out h few room =
-    ap (λ (x : Left). onRun (runs most (x .board) log (x .ran .at) (x .ran .count) (x .out)) x) (leaves-is b log at count out few)
+    ap (λ (x : RunLeft). onRun (runs most (x .board) log (x .ran .at) (x .ran .count) (x .out)) x) (leaves-is b log at count out few)
     ∙ (go (rest b log at count (length out)) (comes-on b log at count (length out) room) (few-still (suc (length log)) b log at count (length out) few)
     (λ b′ at′ count′ out′ h′ few′ room′. from-place most b′ log at′ count′ out′ h′ few′ room′)
     ∙ front-of (suc (length log)) b log at count (length out))
   where
     go : (x : Running) → (x .over ≡ false → (at < x .at) × (x .at ≤ length log)) → x .count ≤ x .at
         → ((b′ : Board) (at′ count′ : ℕ) (out′ : List ℕ) → length log - at′ < most → count′ ≤ at′ → 128 ≤ length out′ → runs most b′ log at′ count′ out′ ≡ still b′ log at′ count′)
-        → onRun (runs most (x .board) log (x .at) (x .count) (written out 0 (x .lines))) (leftBy out x) ≡ onward log x
+        → onRun (runs most (x .board) log (x .at) (x .count) (written out 0 (x .lines))) (runLeftBy out x) ≡ onward log x
     go x on few′ ih = ap₂ (λ (p q : List ℕ). p ++ q) (written-lines out (x .lines)) (by-end (x .over) refl)
       where
         by-end : (t : Bool) → x .over ≡ t → cond t [] (runs most (x .board) log (x .at) (x .count) (written out 0 (x .lines))) ≡ cond t [] (still (x .board) log (x .at) (x .count))
@@ -147,11 +147,11 @@ pub still-first : (log : List ℕ) → length log ≤ 65536 → still logBoard l
 unfolding output recordsOf
 still-first log small = sym (rw (le-ltb 65536 (length log) small))
 
-module _ (b : Board) (log : List ℕ) (at count : ℕ) (out : List ℕ) (r : Ran) (b′ : Board) (out′ : List ℕ) (p : RunPromise b log at count out r b′ out′) (few : count ≤ at) where
+module _ (b : Board) (log : List ℕ) (at count : ℕ) (out : List ℕ) (r : Ran) (b′ : Board) (out′ : List ℕ) (p : LogRunPromise b log at count out r b′ out′) (few : count ≤ at) where
   adds : r .used + length (cond (r .over) [] (still b′ log (r .at) (r .count))) ≡ length (still b log at count)
   adds =
       let x : Running = rest b log at count (length out) in
-      ap (λ (l : Left). l .ran .used + length (cond (l .ran .over) [] (still (l .board) log (l .ran .at) (l .ran .count)))) (p ∙ leaves-is b log at count out few)
+      ap (λ (l : RunLeft). l .ran .used + length (cond (l .ran .over) [] (still (l .board) log (l .ran .at) (l .ran .count)))) (p ∙ leaves-is b log at count out few)
       ∙ (sym (length-append (x .lines) (cond (x .over) [] (still (x .board) log (x .at) (x .count)))) ∙ ap length (front-of (suc (length log)) b log at count (length out)))
 
   -- a run that is over put all that was still to come
@@ -163,4 +163,4 @@ module _ (b : Board) (log : List ℕ) (at count : ℕ) (out : List ℕ) (r : Ran
   adds-more e = ap (λ (t : Bool). r .used + length (cond t [] (still b′ log (r .at) (r .count)))) (sym e) ∙ adds
 
   pub few-behind : r .count ≤ r .at
-  few-behind = subst (λ (l : Left). l .ran .count ≤ l .ran .at) (sym (p ∙ leaves-is b log at count out few)) (few-still (suc (length log)) b log at count (length out) few)
+  few-behind = subst (λ (l : RunLeft). l .ran .count ≤ l .ran .at) (sym (p ∙ leaves-is b log at count out few)) (few-still (suc (length log)) b log at count (length out) few)

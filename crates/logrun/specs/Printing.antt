@@ -3,7 +3,7 @@ use Prim.Native.Nat.{ℕ, zero, suc, _+_, _≤_, _<_}
 use mathlib.Core.Path.{_≡_}
 use mathlib.Core.List.{List, [], _++_}
 use lib.ListN.{length, take, drop}
-use Rattle.flows.specs.Board.{Board, read, left, after}
+use Rattle.flows.specs.Board.{Board, read, after}
 use Rattle.records.specs.declared.Next.{Next}
 use Rattle.records.specs.declared.Next.the-variants.{Record, End, Bad}
 use Rattle.records.specs.Records.{nextRecord}
@@ -45,7 +45,7 @@ unfoldable pub printed : Board → List ℕ → ℕ → ℕ → List ℕ → Pri
 printed b log at count out = printedBy b log count out (nextRecord log at)
 
 abbrev pub LinePromise : Board → List ℕ → ℕ → ℕ → List ℕ → Piece → Board → List ℕ → Type 0
-LinePromise b log at count out r after left = printing r after left ≡ printed b log at count out
+LinePromise b log at count out r after line = printing r after line ≡ printed b log at count out
 
 -- a line has room in its buffer; a record's next place is behind it and inside the log
 abbrev pub Onward : ℕ → ℕ → Piece → Type 0

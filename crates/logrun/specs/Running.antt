@@ -29,12 +29,12 @@ abbrev pub running : List ℕ → Board → ℕ → ℕ → Bool → Running
 running lines board at count over = record { lines = lines; board = board; at = at; count = count; over = over }
 
 -- lines before those of a run
-abbrev pub behind : List ℕ → Running → Running
-behind lines x = running (lines ++ x .lines) (x .board) (x .at) (x .count) (x .over)
+abbrev pub linesBefore : List ℕ → Running → Running
+linesBefore lines x = running (lines ++ x .lines) (x .board) (x .at) (x .count) (x .over)
 
 -- a record's packet is read and its line put, and the run goes on behind it with the room that is left
 abbrev pub recordRan : (Board → ℕ → ℕ → Running) → Board → List ℕ → List ℕ → ℕ → ℕ → Running
-recordRan onward b packet line next room = behind line (onward (after b packet) next (room - length line))
+recordRan onward b packet line next room = linesBefore line (onward (after b packet) next (room - length line))
 
 -- the last line is `end` and the number of records at a clean end, `bad log` at a bad length or a cut record
 abbrev pub ranBy : (Board → ℕ → ℕ → Running) → Board → List ℕ → ℕ → ℕ → ℕ → Next → Running
@@ -58,23 +58,23 @@ ranOf b log at count room = cond (ltb at count) (running [] b at count true) (ra
 -- ---- what `run` answers and leaves
 
 -- the answer, the board, the buffer
-pub record Left : Type 0 where
+pub record RunLeft : Type 0 where
   pub ran : Ran
   pub board : Board
   pub out : List ℕ
 
-abbrev pub left : Ran → Board → List ℕ → Left
-left ran board out = record { ran = ran; board = board; out = out }
+abbrev pub runLeft : Ran → Board → List ℕ → RunLeft
+runLeft ran board out = record { ran = ran; board = board; out = out }
 
 -- the lines stand in the buffer's front, and the rest of it stays
-abbrev pub leftBy : List ℕ → Running → Left
-leftBy out x = left (record { used = length (x .lines); at = x .at; count = x .count; over = x .over }) (x .board) (written out 0 (x .lines))
+abbrev pub runLeftBy : List ℕ → Running → RunLeft
+runLeftBy out x = runLeft (record { used = length (x .lines); at = x .at; count = x .count; over = x .over }) (x .board) (written out 0 (x .lines))
 
-unfoldable pub leaves : Board → List ℕ → ℕ → ℕ → List ℕ → Left
-leaves b log at count out = leftBy out (ranOf b log at count (length out))
+unfoldable pub leaves : Board → List ℕ → ℕ → ℕ → List ℕ → RunLeft
+leaves b log at count out = runLeftBy out (ranOf b log at count (length out))
 
-abbrev pub RunPromise : Board → List ℕ → ℕ → ℕ → List ℕ → Ran → Board → List ℕ → Type 0
-RunPromise b log at count out r after out′ = left r after out′ ≡ leaves b log at count out
+abbrev pub LogRunPromise : Board → List ℕ → ℕ → ℕ → List ℕ → Ran → Board → List ℕ → Type 0
+LogRunPromise b log at count out r after out′ = runLeft r after out′ ≡ leaves b log at count out
 
 -- the lines have room in the buffer; a run that had room for a line and is not over has come on, and is still inside the log
 abbrev pub RunOnward : ℕ → ℕ → ℕ → Ran → Type 0
@@ -83,7 +83,7 @@ RunOnward n at room r = (r .used ≤ room) × (lineRoom ≤ room → r .over ≡
 -- ---- runs one after another, each with the board, the place, the count and the buffer that the one before left, until one is over:
 -- what is written on the way
 
-abbrev pub onRun : List ℕ → Left → List ℕ
+abbrev pub onRun : List ℕ → RunLeft → List ℕ
 onRun later x = take (x .ran .used) (x .out) ++ cond (x .ran .over) [] later
 
 unfoldable pub runs : ℕ → Board → List ℕ → ℕ → ℕ → List ℕ → List ℕ

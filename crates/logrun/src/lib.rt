@@ -3,7 +3,7 @@ use lines::LINE;
 use records::Next;
 ghost use lib.ListN.{length};
 ghost use Rattle.logrun.specs.Printing.{board, LinePromise, Onward};
-ghost use Rattle.logrun.specs.Running.{RunPromise, RunOnward};
+ghost use Rattle.logrun.specs.Running.{LogRunPromise, RunOnward};
 
 // A record's line, with the place behind the record; or the last line.
 pub enum Piece {
@@ -76,7 +76,7 @@ pub fn run(
     count: usize,
     out: &mut [u8],
 ) -> Ran
-    ensures { λ r. ⌜ RunPromise (board (now (state .entry)) (now («stream_memory» .entry)) (now («message_memory» .entry)) (now (response .entry))) (now (log .entry)) at count (now (out .entry)) r (board (now (state .exit)) (now («stream_memory» .exit)) (now («message_memory» .exit)) (now (response .exit))) (now (out .exit)) ⌝ }
+    ensures { λ r. ⌜ LogRunPromise (board (now (state .entry)) (now («stream_memory» .entry)) (now («message_memory» .entry)) (now (response .entry))) (now (log .entry)) at count (now (out .entry)) r (board (now (state .exit)) (now («stream_memory» .exit)) (now («message_memory» .exit)) (now (response .exit))) (now (out .exit)) ⌝ }
     ensures { λ r. ⌜ RunOnward (length (now (log .entry))) at (length (now (out .entry))) r ⌝ }
 {
     if at < count {

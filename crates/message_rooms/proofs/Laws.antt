@@ -14,7 +14,7 @@ use Rattle.sizes.specs.Sizes.{bytesOf}
 use Rattle.responses.specs.Type13.{DONE, answered}
 use Rattle.contexts.specs.State.{State}
 use Rattle.rules.specs.Messages.{lastWith}
-use Rattle.message_rooms.specs.Placing.{joining, dataOf, marksWith, placed, Kept}
+use Rattle.message_rooms.specs.Placing.{messageJoining, messageData, marksWith, messagePlaced, MessageKept}
 
 -- ---- numbers that stay inside
 
@@ -36,17 +36,17 @@ marks-le marks msglen h m =
 -- ---- what the stores and the context make
 
 -- all behind the head
-pub data-whole : (p : List ℕ) → take (length p - 7) (drop 7 p) ≡ dataOf p
+pub data-whole : (p : List ℕ) → take (length p - 7) (drop 7 p) ≡ messageData p
 data-whole p = take-all (length p - 7) (drop 7 p) (simp length-drop (omega arith))
 
 pub placing : (s : State) (memory response p : List ℕ) (m : MessageSegment) (n marks last size marks′ last′ : ℕ) (says : Said) (state : State) (memory′ response′ : List ℕ)
     → size ≡ bytesOf (m .ssize)
     → marks′ ≡ marksWith m marks
     → last′ ≡ lastWith m last
-    → Kept s m n marks′ last′ says state
+    → MessageKept s m n marks′ last′ says state
     → memory′ ≡ written memory (n * 4096 + m .msgseg * size) (take (length p - 7) (drop 7 p))
     → response′ ≡ answered response p DONE
-    → joining says state memory′ response′ ≡ placed s memory response p m n marks last
-unfolding placed
+    → messageJoining says state memory′ response′ ≡ messagePlaced s memory response p m n marks last
+unfolding messagePlaced
 placing s memory response p m n marks last size marks′ last′ says state memory′ response′ z a b k e r =
     rw (k .answer, k .state, e, r, a, b, z, data-whole p)

@@ -18,18 +18,18 @@ use Rattle.refusal19.specs.Refusal19.{namedBy19}
 use Rattle.rules.specs.Messages.{lastWith}
 
 -- the answer, the state, the message memory and the response buffer
-pub record Joined : Type 0 where
+pub record MessageJoined : Type 0 where
   pub says : Said
   pub state : State
   pub memory : List ℕ
   pub response : List ℕ
 
-abbrev pub joining : Said → State → List ℕ → List ℕ → Joined
-joining says state memory response = record { says = says; state = state; memory = memory; response = response }
+abbrev pub messageJoining : Said → State → List ℕ → List ℕ → MessageJoined
+messageJoining says state memory response = record { says = says; state = state; memory = memory; response = response }
 
 -- the segment's data, from byte 7
-abbrev pub dataOf : List ℕ → List ℕ
-dataOf p = drop messageDataFrom p
+abbrev pub messageData : List ℕ → List ℕ
+messageData p = drop messageDataFrom p
 
 -- the marks with this segment
 abbrev pub marksWith : MessageSegment → ℕ → ℕ
@@ -60,17 +60,17 @@ abbrev pub contextWith : MessageSegment → ℕ → ℕ → MessageContext
 contextWith m marks last = cond (complete m marks) closedMessage (kept m marks last)
 
 -- segment k is stored at k ssize of room n, and marked
-unfoldable pub placed : State → List ℕ → List ℕ → List ℕ → MessageSegment → ℕ → ℕ → ℕ → Joined
-placed s memory response p m n marks last =
-    joining (answerWith m n (marksWith m marks) (lastWith m last))
+unfoldable pub messagePlaced : State → List ℕ → List ℕ → List ℕ → MessageSegment → ℕ → ℕ → ℕ → MessageJoined
+messagePlaced s memory response p m n marks last =
+    messageJoining (answerWith m n (marksWith m marks) (lastWith m last))
     (withMessage s n (contextWith m (marksWith m marks) (lastWith m last)))
-    (written memory (n * 4096 + m .msgseg * bytesOf (m .ssize)) (dataOf p))
+    (written memory (n * 4096 + m .msgseg * bytesOf (m .ssize)) (messageData p))
     (answered response p DONE)
 
 -- ---- what the functions rely on and promise those above
 
 -- words of a state that 19 does not name, buffers that 12 allows, a packet with its head
-pub record Ready (words memory response packet : List ℕ) (m : MessageSegment) : Type 0 where
+pub record MessageReady (words memory response packet : List ℕ) (m : MessageSegment) : Type 0 where
   pub whole : length words ≡ stateWords
   pub good : namedBy19 (stateOf words) ≡ false
   pub size : length memory ≡ 32768
@@ -81,7 +81,7 @@ pub record Ready (words memory response packet : List ℕ) (m : MessageSegment) 
   pub boxes : m .mbox < 4
 
 -- the segment is one more of its message: context n, and marks that leave it out
-pub record Fits (m : MessageSegment) (n marks last : ℕ) : Type 0 where
+pub record MessageFits (m : MessageSegment) (n marks last : ℕ) : Type 0 where
   pub context : n < 8
   pub several : isSingle m ≡ false
   pub inside : marks < 2 ^ (m .msglen + 1)
@@ -89,7 +89,7 @@ pub record Fits (m : MessageSegment) (n marks last : ℕ) : Type 0 where
   pub short : last ≤ 256
 
 -- context n delivered or kept
-pub record Kept (s : State) (m : MessageSegment) (n marks last : ℕ) (says : Said) (after : State) : Type 0 where
+pub record MessageKept (s : State) (m : MessageSegment) (n marks last : ℕ) (says : Said) (after : State) : Type 0 where
   pub answer : says ≡ answerWith m n marks last
   pub state : after ≡ withMessage s n (contextWith m marks last)
 

@@ -10,7 +10,7 @@ ghost use Rattle.responses.specs.Type13.{DONE, answered};
 ghost use Rattle.contexts.specs.State.{closedMessage};
 ghost use Rattle.contexts.specs.Words.{stateOf, stateWords};
 ghost use Rattle.rules.specs.Messages.{Sound};
-ghost use Rattle.message_rooms.specs.Placing.{joining, placed, Ready, Fits, Kept, Replied};
+ghost use Rattle.message_rooms.specs.Placing.{messageJoining, messagePlaced, MessageReady, MessageFits, MessageKept, Replied};
 
 // The bytes of a message context's room.
 pub const ROOM: usize = 4096;
@@ -52,7 +52,7 @@ pub fn done(response: &mut [u8], packet: &[u8])
 fn keep(state: &mut [usize], m: MessageSegment, n: usize, marks: usize, last: usize) -> Answer
     requires { ⌜ (n < 8) × (length (now state) ≡ stateWords) ⌝ }
     requires { ⌜ (marks < 65536) × (last ≤ 256) × (m .msglen < 16) × (m .msgseg < 16) × (m .mbox < 4) ⌝ }
-    ensures { λ r. ⌜ Kept (stateOf (now (state .entry))) m n marks last (said r) (stateOf (now (state .exit))) ⌝ }
+    ensures { λ r. ⌜ MessageKept (stateOf (now (state .entry))) m n marks last (said r) (stateOf (now (state .exit))) ⌝ }
 {
     if contexts::all_marked(marks as u16, m.msglen + 1) {
         contexts::put_message(state, n, closed());
@@ -93,10 +93,10 @@ pub fn place(
     marks: usize,
     last: usize,
 ) -> Answer
-    requires { ⌜ Ready (now state) (now memory) (now response) (now packet) m ⌝ }
+    requires { ⌜ MessageReady (now state) (now memory) (now response) (now packet) m ⌝ }
     requires { ⌜ Sound m ⌝ }
-    requires { ⌜ Fits m n marks last ⌝ }
-    ensures { λ r. ⌜ joining (said r) (stateOf (now (state .exit))) (now (memory .exit)) (now (response .exit)) ≡ placed (stateOf (now (state .entry))) (now (memory .entry)) (now (response .entry)) (now (packet .entry)) m n marks last ⌝ }
+    requires { ⌜ MessageFits m n marks last ⌝ }
+    ensures { λ r. ⌜ messageJoining (said r) (stateOf (now (state .exit))) (now (memory .exit)) (now (response .exit)) ≡ messagePlaced (stateOf (now (state .entry))) (now (memory .entry)) (now (response .entry)) (now (packet .entry)) m n marks last ⌝ }
 {
     let size = sizes::bytes_of(m.ssize);
     let with_this = marks + contexts::power(m.msgseg);

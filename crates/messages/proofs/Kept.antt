@@ -20,9 +20,9 @@ use Rattle.contexts.proofs.Bits.{mark-set, mark-other}
 use Rattle.refusal19.proofs.Good.{Message, good, neither, message-found}
 use Rattle.refusal19.proofs.Kept.{closed-message, kept-message, message-kept}
 use Rattle.contexts.proofs.Marks.{room-for-mark, nothing-marked}
-use Rattle.message_rooms.specs.Placing.{placed, kept, complete, marksWith}
-use Rattle.messages.specs.Rows.{foundFor, messageOpen, otherMessage, alreadyMarked}
-use Rattle.messages.specs.Joining.{accepted, alone}
+use Rattle.message_rooms.specs.Placing.{messagePlaced, kept, complete, marksWith}
+use Rattle.messages.specs.Rows.{messageFound, messageOpen, otherMessage, alreadyMarked}
+use Rattle.messages.specs.Joining.{messageAccepted, deliveredAtOnce}
 use Rattle.rules.specs.Messages.{reservedSize, badLength, pastLast, lastWith}
 use Rattle.rules.proofs.Laws.{seg-le}
 
@@ -51,8 +51,8 @@ last-kept m marks last several unset right before = go (ℕ-discrete (m .msgseg)
 placed-kept : (s : State) (memory response p : List ℕ) (m : MessageSegment) (n marks last : ℕ) → namedBy19 s ≡ false
     → isSingle m ≡ false → m .msglen < 16 → reservedSize m ≡ false → badLength m ≡ false → pastLast m ≡ false
     → marks < 2 ^ (m .msglen + 1) → marked marks (m .msgseg) ≡ false → badLast (kept m marks last) ≡ false
-    → namedBy19 (placed s memory response p m n marks last .state) ≡ false
-unfolding placed reservedSize
+    → namedBy19 (messagePlaced s memory response p m n marks last .state) ≡ false
+unfolding messagePlaced reservedSize
 placed-kept s memory response p m n marks last fine several few size right past inside unset before =
     message-kept s n _ fine
     (by-test (complete m (marksWith m marks)) (λ c. rw c closed-message)
@@ -62,11 +62,11 @@ placed-kept s memory response p m n marks last fine several few size right past 
 
 module _ (s : State) (memory response p : List ℕ) (m : MessageSegment) (fine : namedBy19 s ≡ false) (eight : length (s .messages) ≡ 8) (few : m .msglen < 16)
     (size : reservedSize m ≡ false) (right : badLength m ≡ false) (past : pastLast m ≡ false) where
-  alone-kept : (n : ℕ) → namedBy19 (alone s memory response p m n .state) ≡ false
-  unfolding alone
+  alone-kept : (n : ℕ) → namedBy19 (deliveredAtOnce s memory response p m n .state) ≡ false
+  unfolding deliveredAtOnce
   alone-kept n = message-kept s n closedMessage fine closed-message
 
-  new-kept : isSingle m ≡ false → (n : ℕ) → namedBy19 (placed s memory response p m n 0 0 .state) ≡ false
+  new-kept : isSingle m ≡ false → (n : ℕ) → namedBy19 (messagePlaced s memory response p m n 0 0 .state) ≡ false
   unfolding badLast
   new-kept several n =
       placed-kept s memory response p m n 0 0 fine several few size right past (pow-pos (m .msglen + 1)) (nothing-marked (m .msgseg)) (rw (nothing-marked (m .msglen)))
@@ -74,15 +74,15 @@ module _ (s : State) (memory response p : List ℕ) (m : MessageSegment) (fine :
   -- one more segment of an open message
   module _ (several : isSingle m ≡ false) (o : messageOpen s m ≡ true) where
     abbrev own : MessageContext
-    own = messageIn s (foundFor s m)
+    own = messageIn s (messageFound s m)
 
-    found-is : foundFor s m ≡ messageContext s (m .source) (m .letter) (m .mbox)
-    unfolding foundFor
+    found-is : messageFound s m ≡ messageContext s (m .source) (m .letter) (m .mbox)
+    unfolding messageFound
     found-is = rw several
 
     own-good : Message own
     own-good =
-        let within : foundFor s m < 8 = ltb-true (foundFor s m) 8 o in
+        let within : messageFound s m < 8 = ltb-true (messageFound s m) 8 o in
         rw found-is (message-found s (m .source) (m .letter) (m .mbox) (good s fine) (omega (arith, found-is)))
 
     same-form : otherMessage s m ≡ false → (own .msglen ≡ m .msglen) × (own .ssize ≡ m .ssize)
@@ -100,13 +100,13 @@ module _ (s : State) (memory response p : List ℕ) (m : MessageSegment) (fine :
     kept-last l z =
         ap₂ (λ (l z : ℕ). cond (marked (own .marks) l) (not (inEights (own .last) (bytesOf z))) (not (eqb (own .last) 0))) (sym l) (sym z) ∙ own-good .kept
 
-    more-kept : otherMessage s m ≡ false → alreadyMarked s m ≡ false → namedBy19 (placed s memory response p m (foundFor s m) (own .marks) (own .last) .state) ≡ false
+    more-kept : otherMessage s m ≡ false → alreadyMarked s m ≡ false → namedBy19 (messagePlaced s memory response p m (messageFound s m) (own .marks) (own .last) .state) ≡ false
     more-kept other unset =
         let same = same-form other in
-        placed-kept s memory response p m (foundFor s m) (own .marks) (own .last) fine several few size right past (subst (λ (l : ℕ). own .marks < 2 ^ (l + 1)) (same .0) (own-good .inside)) (unmarked unset) (kept-last (same .0) (same .1))
+        placed-kept s memory response p m (messageFound s m) (own .marks) (own .last) fine several few size right past (subst (λ (l : ℕ). own .marks < 2 ^ (l + 1)) (same .0) (own-good .inside)) (unmarked unset) (kept-last (same .0) (same .1))
 
-  pub accepted-kept : otherMessage s m ≡ false → alreadyMarked s m ≡ false → namedBy19 (accepted s memory response p m .state) ≡ false
-  unfolding accepted
+  pub accepted-kept : otherMessage s m ≡ false → alreadyMarked s m ≡ false → namedBy19 (messageAccepted s memory response p m .state) ≡ false
+  unfolding messageAccepted
   accepted-kept other unset =
       by-test (isSingle m) (λ t. rw t (alone-kept (freeMessage s)))
       (λ t. by-test (messageOpen s m) (λ o. rw (t, o) (more-kept t o other unset)) (λ o. rw (t, o) (new-kept t (freeMessage s))))

@@ -22,11 +22,11 @@ use Rattle.contexts.specs.Words.{stateOf}
 use Rattle.contexts.proofs.Words.{eight}
 use Rattle.refusal19.proofs.Good.{Message, good, message-found}
 use Rattle.rules.specs.Messages.{judged}
-use Rattle.message_rooms.specs.Placing.{joining, placed, Replied}
+use Rattle.message_rooms.specs.Placing.{messageJoining, messagePlaced, Replied}
 use Rattle.message_rooms.proofs.Laws.{data-whole}
-use Rattle.messages.specs.Rows.{foundFor, messageOpen, otherMessage, alreadyMarked, noneFree}
-use Rattle.messages.specs.Joining.{alone, accepted}
-use Rattle.messages.specs.Step.{matched, stepped, refusedWith}
+use Rattle.messages.specs.Rows.{messageFound, messageOpen, otherMessage, alreadyMarked, neededNoneFree}
+use Rattle.messages.specs.Joining.{deliveredAtOnce, messageAccepted}
+use Rattle.messages.specs.Step.{matched, messageStepped, refusedWith}
 
 -- the kept length of the last segment
 pub last-le : (c : MessageContext) → badLast c ≡ false → c .last ≤ 256
@@ -39,33 +39,33 @@ last-le c = go (marked (c .marks) (c .msglen))
 
 -- ---- rows 23 to 25
 replying : (s : State) (memory response p : List ℕ) (number status : ℕ) (says : Said) (after : List ℕ)
-    → Replied response p number status says after → joining says s memory after ≡ refusedWith s memory response p number status
+    → Replied response p number status says after → messageJoining says s memory after ≡ refusedWith s memory response p number status
 unfolding refusedWith
 replying s memory response p number status says after r = rw (r .answer, r .response)
 
 module _ (s : State) (memory response p : List ℕ) (m : MessageSegment) where
   -- a single-segment message
   module _ (t : isSingle m ≡ true) where
-    none-open : foundFor s m ≡ 8
-    unfolding foundFor
+    none-open : messageFound s m ≡ 8
+    unfolding messageFound
     none-open = rw t
 
     never : (otherMessage s m ≡ false) × (alreadyMarked s m ≡ false)
     unfolding otherMessage alreadyMarked
     never = (rw none-open, rw none-open)
 
-    pub alone-none : {says : Said} {after : List ℕ} → 8 ≤ freeMessage s → Replied response p 25 RETRY says after → joining says s memory after ≡ matched s memory response p m
-    unfolding matched noneFree
+    pub alone-none : {says : Said} {after : List ℕ} → 8 ≤ freeMessage s → Replied response p 25 RETRY says after → messageJoining says s memory after ≡ matched s memory response p m
+    unfolding matched neededNoneFree
     alone-none h r = replying s memory response p 25 RETRY _ _ r ∙ rw (never .0, never .1, none-open, le-ltb (freeMessage s) 8 h)
 
-    pub alone-taken : freeMessage s < 8 → alone s memory response p m (freeMessage s) ≡ matched s memory response p m
-    unfolding matched noneFree accepted
+    pub alone-taken : freeMessage s < 8 → deliveredAtOnce s memory response p m (freeMessage s) ≡ matched s memory response p m
+    unfolding matched neededNoneFree messageAccepted
     alone-taken h = rw (never .0, never .1, none-open, lt-ltb (freeMessage s) 8 h, t)
 
   -- one of several
   module _ (t : isSingle m ≡ false) where
-    found-is : foundFor s m ≡ messageContext s (m .source) (m .letter) (m .mbox)
-    unfolding foundFor
+    found-is : messageFound s m ≡ messageContext s (m .source) (m .letter) (m .mbox)
+    unfolding messageFound
     found-is = rw t
 
     -- of an open message
@@ -73,7 +73,7 @@ module _ (s : State) (memory response p : List ℕ) (m : MessageSegment) where
       opened : messageOpen s m ≡ true
       opened = rw found-is (lt-ltb (messageContext s (m .source) (m .letter) (m .mbox)) 8 o)
 
-      context : messageIn s (foundFor s m) ≡ c
+      context : messageIn s (messageFound s m) ≡ c
       context = rw found-is (sym same)
 
       other-is : otherMessage s m ≡ (not (eqb (c .msglen) (m .msglen)) || not (eqb (c .ssize) (m .ssize)))
@@ -84,15 +84,15 @@ module _ (s : State) (memory response p : List ℕ) (m : MessageSegment) where
       unfolding alreadyMarked
       marked-is = rw (opened, context)
 
-      free-is : noneFree s m ≡ false
-      unfolding noneFree
+      free-is : neededNoneFree s m ≡ false
+      unfolding neededNoneFree
       free-is = rw opened
 
-      pub join-msglen : {says : Said} {after : List ℕ} → (c .msglen ≡ m .msglen → ⊥) → Replied response p 23 ERROR says after → joining says s memory after ≡ matched s memory response p m
+      pub join-msglen : {says : Said} {after : List ℕ} → (c .msglen ≡ m .msglen → ⊥) → Replied response p 23 ERROR says after → messageJoining says s memory after ≡ matched s memory response p m
       unfolding matched
       join-msglen d r = replying s memory response p 23 ERROR _ _ r ∙ rw (other-is, ne-eqb (c .msglen) (m .msglen) d)
 
-      pub join-ssize : {says : Said} {after : List ℕ} → (c .ssize ≡ m .ssize → ⊥) → Replied response p 23 ERROR says after → joining says s memory after ≡ matched s memory response p m
+      pub join-ssize : {says : Said} {after : List ℕ} → (c .ssize ≡ m .ssize → ⊥) → Replied response p 23 ERROR says after → messageJoining says s memory after ≡ matched s memory response p m
       unfolding matched
       join-ssize d r = replying s memory response p 23 ERROR _ _ r ∙ rw (other-is, ne-eqb (c .ssize) (m .ssize) d, or-true (not (eqb (c .msglen) (m .msglen))))
 
@@ -100,13 +100,13 @@ module _ (s : State) (memory response p : List ℕ) (m : MessageSegment) where
         not-other : otherMessage s m ≡ false
         not-other = other-is ∙ rw (eq-eqb (c .msglen) (m .msglen) l, eq-eqb (c .ssize) (m .ssize) z)
 
-        pub join-marked : {says : Said} {after : List ℕ} → marked (c .marks) (m .msgseg) ≡ true → Replied response p 24 ERROR says after → joining says s memory after ≡ matched s memory response p m
+        pub join-marked : {says : Said} {after : List ℕ} → marked (c .marks) (m .msgseg) ≡ true → Replied response p 24 ERROR says after → messageJoining says s memory after ≡ matched s memory response p m
         unfolding matched
         join-marked d r = replying s memory response p 24 ERROR _ _ r ∙ rw (not-other, marked-is, d)
 
         pub join-placed : marked (c .marks) (m .msgseg) ≡ false
-            → placed s memory response p m (messageContext s (m .source) (m .letter) (m .mbox)) (c .marks) (c .last) ≡ matched s memory response p m
-        unfolding matched accepted
+            → messagePlaced s memory response p m (messageContext s (m .source) (m .letter) (m .mbox)) (c .marks) (c .last) ≡ matched s memory response p m
+        unfolding matched messageAccepted
         join-placed d = rw (not-other, marked-is, d, free-is, t, opened, context, found-is)
 
     -- of a new message
@@ -118,21 +118,21 @@ module _ (s : State) (memory response p : List ℕ) (m : MessageSegment) where
       unfolding otherMessage alreadyMarked
       new = (rw shut, rw shut)
 
-      pub begin-none : {says : Said} {after : List ℕ} → 8 ≤ freeMessage s → Replied response p 25 RETRY says after → joining says s memory after ≡ matched s memory response p m
-      unfolding matched noneFree
+      pub begin-none : {says : Said} {after : List ℕ} → 8 ≤ freeMessage s → Replied response p 25 RETRY says after → messageJoining says s memory after ≡ matched s memory response p m
+      unfolding matched neededNoneFree
       begin-none h r = replying s memory response p 25 RETRY _ _ r ∙ rw (new .0, new .1, shut, le-ltb (freeMessage s) 8 h)
 
-      pub begin-placed : freeMessage s < 8 → placed s memory response p m (freeMessage s) 0 0 ≡ matched s memory response p m
-      unfolding matched noneFree accepted
+      pub begin-placed : freeMessage s < 8 → messagePlaced s memory response p m (freeMessage s) 0 0 ≡ matched s memory response p m
+      unfolding matched neededNoneFree messageAccepted
       begin-placed h = rw (new .0, new .1, shut, lt-ltb (freeMessage s) 8 h, t)
 
   -- ---- the whole step
-  pub step-refused : {says : Said} {after : List ℕ} (number : ℕ) → number ≡ judged m → (number ≡ 0 → ⊥) → Replied response p number ERROR says after → joining says s memory after ≡ stepped s memory response p m
-  unfolding stepped
+  pub step-refused : {says : Said} {after : List ℕ} (number : ℕ) → number ≡ judged m → (number ≡ 0 → ⊥) → Replied response p number ERROR says after → messageJoining says s memory after ≡ messageStepped s memory response p m
+  unfolding messageStepped
   step-refused number j n r = replying s memory response p number ERROR _ _ r ∙ rw (← j, ne-eqb number 0 n)
 
-  pub step-matched : judged m ≡ 0 → matched s memory response p m ≡ stepped s memory response p m
-  unfolding stepped
+  pub step-matched : judged m ≡ 0 → matched s memory response p m ≡ messageStepped s memory response p m
+  unfolding messageStepped
   step-matched j = rw j
 
 -- ---- what the stores and the context make
@@ -141,8 +141,8 @@ pub taking : (s : State) (memory response p : List ℕ) (m : MessageSegment) (n 
     → state ≡ withMessage s n closedMessage
     → memory′ ≡ written memory (n * 4096) (take (length p - 7) (drop 7 p))
     → response′ ≡ answered response p DONE
-    → joining (message n (m .source) (m .letter) box (m .raw)) state memory′ response′ ≡ alone s memory response p m n
-unfolding alone
+    → messageJoining (message n (m .source) (m .letter) box (m .raw)) state memory′ response′ ≡ deliveredAtOnce s memory response p m n
+unfolding deliveredAtOnce
 taking s memory response p m n box state memory′ response′ b a e r = rw (b, a, e, r, data-whole p)
 
 -- what 19 leaves of the message found

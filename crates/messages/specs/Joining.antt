@@ -8,21 +8,21 @@ use Rattle.wire.specs.declared.MessageSegment.{MessageSegment}
 use Rattle.wire.specs.Type11.{isSingle, mailbox}
 use Rattle.responses.specs.Type13.{DONE, answered}
 use Rattle.contexts.specs.State.{State, messageIn, withMessage, closedMessage, freeMessage}
-use Rattle.message_rooms.specs.Placing.{Joined, joining, dataOf, placed}
-use Rattle.messages.specs.Rows.{foundFor, messageOpen}
+use Rattle.message_rooms.specs.Placing.{MessageJoined, messageJoining, messageData, messagePlaced}
+use Rattle.messages.specs.Rows.{messageFound, messageOpen}
 
 -- a single-segment message is delivered at once from context n, which it leaves closed
-unfoldable pub alone : State → List ℕ → List ℕ → List ℕ → MessageSegment → ℕ → Joined
-alone s memory response p m n =
-    joining (message n (m .source) (m .letter) (mailbox m) (m .raw))
+unfoldable pub deliveredAtOnce : State → List ℕ → List ℕ → List ℕ → MessageSegment → ℕ → MessageJoined
+deliveredAtOnce s memory response p m n =
+    messageJoining (message n (m .source) (m .letter) (mailbox m) (m .raw))
     (withMessage s n closedMessage)
-    (written memory (n * 4096) (dataOf p))
+    (written memory (n * 4096) (messageData p))
     (answered response p DONE)
 
 -- accepted: a single-segment message takes the lowest free context, and so does the first-come segment of a new message
-unfoldable pub accepted : State → List ℕ → List ℕ → List ℕ → MessageSegment → Joined
-accepted s memory response p m =
-    cond (isSingle m) (alone s memory response p m (freeMessage s))
+unfoldable pub messageAccepted : State → List ℕ → List ℕ → List ℕ → MessageSegment → MessageJoined
+messageAccepted s memory response p m =
+    cond (isSingle m) (deliveredAtOnce s memory response p m (freeMessage s))
     (cond (messageOpen s m)
-    (placed s memory response p m (foundFor s m) (messageIn s (foundFor s m) .marks) (messageIn s (foundFor s m) .last))
-    (placed s memory response p m (freeMessage s) 0 0))
+    (messagePlaced s memory response p m (messageFound s m) (messageIn s (messageFound s m) .marks) (messageIn s (messageFound s m) .last))
+    (messagePlaced s memory response p m (freeMessage s) 0 0))

@@ -8,20 +8,20 @@ use Rattle.contexts.specs.State.{State, messageIn, messageContext, freeMessage}
 use Rattle.contexts.specs.Marks.{marked}
 
 -- the open context of a multi-segment message, 8 where it has none; a single-segment message is never compared with open ones
-unfoldable pub foundFor : State → MessageSegment → ℕ
-foundFor s m = cond (isSingle m) 8 (messageContext s (m .source) (m .letter) (m .mbox))
+unfoldable pub messageFound : State → MessageSegment → ℕ
+messageFound s m = cond (isSingle m) 8 (messageContext s (m .source) (m .letter) (m .mbox))
 
 abbrev pub messageOpen : State → MessageSegment → Bool
-messageOpen s m = ltb (foundFor s m) 8
+messageOpen s m = ltb (messageFound s m) 8
 
 -- 23: open message has another msglen or ssize
 unfoldable pub otherMessage : State → MessageSegment → Bool
-otherMessage s m = messageOpen s m && (not (eqb (messageIn s (foundFor s m) .msglen) (m .msglen)) || not (eqb (messageIn s (foundFor s m) .ssize) (m .ssize)))
+otherMessage s m = messageOpen s m && (not (eqb (messageIn s (messageFound s m) .msglen) (m .msglen)) || not (eqb (messageIn s (messageFound s m) .ssize) (m .ssize)))
 
 -- 24: segment already marked
 unfoldable pub alreadyMarked : State → MessageSegment → Bool
-alreadyMarked s m = messageOpen s m && marked (messageIn s (foundFor s m) .marks) (m .msgseg)
+alreadyMarked s m = messageOpen s m && marked (messageIn s (messageFound s m) .marks) (m .msgseg)
 
 -- 25: context needed, none free
-unfoldable pub noneFree : State → MessageSegment → Bool
-noneFree s m = not (messageOpen s m) && not (ltb (freeMessage s) 8)
+unfoldable pub neededNoneFree : State → MessageSegment → Bool
+neededNoneFree s m = not (messageOpen s m) && not (ltb (freeMessage s) 8)

@@ -8,21 +8,21 @@ use Rattle.wire.specs.declared.MessageSegment.{MessageSegment}
 use Rattle.responses.specs.Type13.{ERROR, RETRY, answered}
 use Rattle.contexts.specs.State.{State}
 use Rattle.rules.specs.Messages.{judged}
-use Rattle.message_rooms.specs.Placing.{Joined, joining}
-use Rattle.messages.specs.Rows.{otherMessage, alreadyMarked, noneFree}
-use Rattle.messages.specs.Joining.{accepted}
+use Rattle.message_rooms.specs.Placing.{MessageJoined, messageJoining}
+use Rattle.messages.specs.Rows.{otherMessage, alreadyMarked, neededNoneFree}
+use Rattle.messages.specs.Joining.{messageAccepted}
 
 -- refused: all stays but the response
-unfoldable pub refusedWith : State → List ℕ → List ℕ → List ℕ → ℕ → ℕ → Joined
-refusedWith s memory response p number status = joining (refused number) s memory (answered response p status)
+unfoldable pub refusedWith : State → List ℕ → List ℕ → List ℕ → ℕ → ℕ → MessageJoined
+refusedWith s memory response p number status = messageJoining (refused number) s memory (answered response p status)
 
 -- rows 23 to 25
-unfoldable pub matched : State → List ℕ → List ℕ → List ℕ → MessageSegment → Joined
+unfoldable pub matched : State → List ℕ → List ℕ → List ℕ → MessageSegment → MessageJoined
 matched s memory response p m =
     cond (otherMessage s m) (refusedWith s memory response p 23 ERROR)
     (cond (alreadyMarked s m) (refusedWith s memory response p 24 ERROR)
-    (cond (noneFree s m) (refusedWith s memory response p 25 RETRY)
-    (accepted s memory response p m)))
+    (cond (neededNoneFree s m) (refusedWith s memory response p 25 RETRY)
+    (messageAccepted s memory response p m)))
 
-unfoldable pub stepped : State → List ℕ → List ℕ → List ℕ → MessageSegment → Joined
-stepped s memory response p m = cond (eqb (judged m) 0) (matched s memory response p m) (refusedWith s memory response p (judged m) ERROR)
+unfoldable pub messageStepped : State → List ℕ → List ℕ → List ℕ → MessageSegment → MessageJoined
+messageStepped s memory response p m = cond (eqb (judged m) 0) (matched s memory response p m) (refusedWith s memory response p (judged m) ERROR)

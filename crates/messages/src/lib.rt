@@ -9,8 +9,8 @@ ghost use Rattle.wire.specs.Type11.{isSingle};
 ghost use Rattle.contexts.specs.State.{messageContext};
 ghost use Rattle.contexts.specs.Words.{stateOf};
 ghost use Rattle.rules.specs.Messages.{Sound};
-ghost use Rattle.message_rooms.specs.Placing.{joining, Ready};
-ghost use Rattle.messages.specs.Step.{matched, stepped};
+ghost use Rattle.message_rooms.specs.Placing.{messageJoining, MessageReady};
+ghost use Rattle.messages.specs.Step.{matched, messageStepped};
 
 // A single-segment message: the lowest free context, delivered at once.
 fn take_alone(
@@ -20,9 +20,9 @@ fn take_alone(
     packet: &[u8],
     m: MessageSegment,
 ) -> Answer
-    requires { ⌜ Ready (now state) (now memory) (now response) (now packet) m ⌝ }
+    requires { ⌜ MessageReady (now state) (now memory) (now response) (now packet) m ⌝ }
     requires { ⌜ (Sound m) × (isSingle m ≡ true) ⌝ }
-    ensures { λ r. ⌜ joining (said r) (stateOf (now (state .exit))) (now (memory .exit)) (now (response .exit)) ≡ matched (stateOf (now (state .entry))) (now (memory .entry)) (now (response .entry)) (now (packet .entry)) m ⌝ }
+    ensures { λ r. ⌜ messageJoining (said r) (stateOf (now (state .exit))) (now (memory .exit)) (now (response .exit)) ≡ matched (stateOf (now (state .entry))) (now (memory .entry)) (now (response .entry)) (now (packet .entry)) m ⌝ }
 {
     let n = contexts::free_message(state);
     if 8 <= n {
@@ -49,9 +49,9 @@ fn join(
     m: MessageSegment,
     found: usize,
 ) -> Answer
-    requires { ⌜ Ready (now state) (now memory) (now response) (now packet) m ⌝ }
+    requires { ⌜ MessageReady (now state) (now memory) (now response) (now packet) m ⌝ }
     requires { ⌜ (Sound m) × (isSingle m ≡ false) × (found < 8) × (found ≡ messageContext (stateOf (now state)) (m .source) (m .letter) (m .mbox)) ⌝ }
-    ensures { λ r. ⌜ joining (said r) (stateOf (now (state .exit))) (now (memory .exit)) (now (response .exit)) ≡ matched (stateOf (now (state .entry))) (now (memory .entry)) (now (response .entry)) (now (packet .entry)) m ⌝ }
+    ensures { λ r. ⌜ messageJoining (said r) (stateOf (now (state .exit))) (now (memory .exit)) (now (response .exit)) ≡ matched (stateOf (now (state .entry))) (now (memory .entry)) (now (response .entry)) (now (packet .entry)) m ⌝ }
 {
     let c = contexts::message_at(state, found);
     if c.msglen != m.msglen {
@@ -74,9 +74,9 @@ fn begin(
     packet: &[u8],
     m: MessageSegment,
 ) -> Answer
-    requires { ⌜ Ready (now state) (now memory) (now response) (now packet) m ⌝ }
+    requires { ⌜ MessageReady (now state) (now memory) (now response) (now packet) m ⌝ }
     requires { ⌜ (Sound m) × (isSingle m ≡ false) × (8 ≤ messageContext (stateOf (now state)) (m .source) (m .letter) (m .mbox)) ⌝ }
-    ensures { λ r. ⌜ joining (said r) (stateOf (now (state .exit))) (now (memory .exit)) (now (response .exit)) ≡ matched (stateOf (now (state .entry))) (now (memory .entry)) (now (response .entry)) (now (packet .entry)) m ⌝ }
+    ensures { λ r. ⌜ messageJoining (said r) (stateOf (now (state .exit))) (now (memory .exit)) (now (response .exit)) ≡ matched (stateOf (now (state .entry))) (now (memory .entry)) (now (response .entry)) (now (packet .entry)) m ⌝ }
 {
     let n = contexts::free_message(state);
     if 8 <= n {
@@ -93,8 +93,8 @@ pub fn step(
     packet: &[u8],
     m: MessageSegment,
 ) -> Answer
-    requires { ⌜ Ready (now state) (now memory) (now response) (now packet) m ⌝ }
-    ensures { λ r. ⌜ joining (said r) (stateOf (now (state .exit))) (now (memory .exit)) (now (response .exit)) ≡ stepped (stateOf (now (state .entry))) (now (memory .entry)) (now (response .entry)) (now (packet .entry)) m ⌝ }
+    requires { ⌜ MessageReady (now state) (now memory) (now response) (now packet) m ⌝ }
+    ensures { λ r. ⌜ messageJoining (said r) (stateOf (now (state .exit))) (now (memory .exit)) (now (response .exit)) ≡ messageStepped (stateOf (now (state .entry))) (now (memory .entry)) (now (response .entry)) (now (packet .entry)) m ⌝ }
 {
     let number = rules::judge(m);
     if number != 0 {

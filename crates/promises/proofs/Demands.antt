@@ -21,12 +21,12 @@ use Rattle.reading.specs.Read.{Left, lent, ReadPromise}
 use Rattle.contexts.specs.State.{fresh}
 use Rattle.contexts.specs.Words.{stateOf, wordsOf}
 use Rattle.endpoint.specs.Calls.{Stands, stands, SetupLeaves, setupTable, setupBy, setup, SetupPromise}
-use Rattle.flows.specs.Board.{Board, Delivery, deliveredBy, Lends, freshBoard, left, read}
+use Rattle.flows.specs.Board.{Board, Delivery, deliveredBy, Lends, freshBoard, boardLeft, read}
 use Rattle.flows.proofs.Fine.{Fine, fresh-fine}
 use Rattle.flows.proofs.Machine.{by-flow}
 use Rattle.flows.proofs.Apart.{flows-apart}
 use Rattle.sending.specs.Sending.{Sending, FlowSent, flowsOf, deliveries, packets, whole, Fair}
-use Rattle.sending.specs.Statements.{Begins}
+use Rattle.sending.specs.OfSendings.{Begins}
 use Rattle.sending.proofs.Fresh.{fresh-begins}
 use Rattle.sending.proofs.Cut.{segments-read-back}
 use Rattle.sending.proofs.ReadBack.{read-back}
@@ -58,20 +58,20 @@ writer-makes out h mtu pdu k n = ap (wroteBy out (packetOf h mtu pdu k)) (accept
 pub fields-read-back : FieldsReadBack
 fields-read-back = segments-read-back
 
-pub demand-2 : Demand2
-demand-2 device mtu R flow s streams messages response f ranges fair =
+pub demand2 : Demand2
+demand2 device mtu R flow s streams messages response f ranges fair =
     read-back device mtu R flow s _ ranges fair (begins device mtu R (flow ∷ []) streams messages response (omega arith) f)
 
-pub demand-3 : Demand3
-demand-3 device mtu R s streams messages response f fair =
+pub demand3 : Demand3
+demand3 device mtu R s streams messages response f fair =
     delivered-is-whole device mtu R s _ fair (begins device mtu R (flowsOf s) streams messages response (sixteen s (fair .but-losses .sixteen)) f)
 
-pub demand-3-any-loss : Demand3AnyLoss
-demand-3-any-loss device mtu R s streams messages response f fair n =
+pub demand3-any-loss : Demand3AnyLoss
+demand3-any-loss device mtu R s streams messages response f fair n =
     delivered-at-every-turn device mtu R s _ fair (begins device mtu R (flowsOf s) streams messages response (sixteen s (fair .sixteen)) f) n
 
-pub demand-3-not-empty : Demand3NotEmpty
-demand-3-not-empty = mixture-is-fair
+pub demand3-not-empty : Demand3NotEmpty
+demand3-not-empty = mixture-is-fair
 
 -- memories of zeros serve as well as any
 zeros : (mtu R : ℕ) → badMTU mtu ≡ false → badRoom mtu R ≡ false → Fresh mtu R (replicate (16 * R) 0) (replicate 32768 0) (replicate 7 0)
@@ -81,12 +81,12 @@ zeros mtu R m r = record {
   lends = record { rooms = length-replicate {A = ℕ} (16 * R) 0; boxes = length-replicate {A = ℕ} 32768 0; reply = omega (arith, length-replicate {A = ℕ} 7 0) };
 }
 
-pub corollary-3 : Corollary3
-corollary-3 device mtu R s s′ m r fair fair′ e =
+pub corollary3 : Corollary3
+corollary3 device mtu R s s′ m r fair fair′ e =
     let f = zeros mtu R m r in
-    sym (demand-3 device mtu R s _ _ _ f fair)
+    sym (demand3 device mtu R s _ _ _ f fair)
     ∙ (ap (deliveries (freshBoard device mtu R (replicate (16 * R) 0) (replicate 32768 0) (replicate 7 0))) e
-    ∙ demand-3 device mtu R s′ _ _ _ f fair′)
+    ∙ demand3 device mtu R s′ _ _ _ f fair′)
 
 -- calls that keep their promises deliver what the definitions do
 calls-deliver : {b : Board} {ps : List (List ℕ)} {ds : List Delivery} → Reads b ps ds → ds ≡ deliveries b ps
@@ -94,7 +94,7 @@ calls-deliver stop = refl
 calls-deliver (call {b = b} {p = p} {ps = ps} {ds = ds} r words streams messages response promise rest) =
     let ih : ds ≡ deliveries (record { words = words; streamMemory = streams; messageMemory = messages; response = response }) ps = calls-deliver rest in
     ap (λ (l : List Delivery). deliveredBy (stateOf words .room) streams (said (r .answer)) ++ l) ih
-    ∙ ap (λ (x : Left). deliveredBy (stateOf (x .words) .room) (x .streamMemory) (x .says) ++ deliveries (left x) ps) promise
+    ∙ ap (λ (x : Left). deliveredBy (stateOf (x .words) .room) (x .streamMemory) (x .says) ++ deliveries (boardLeft x) ps) promise
 
 -- setup that says ready has made a fresh state, of an MTU and an R that are allowed
 pub record Made (words : List ℕ) (device mtu R : ℕ) (after : List ℕ) : Type 0 where
@@ -115,13 +115,13 @@ made words device mtu R after p = go (verdict (setupTable words mtu R)) refl p
         absurd (false≢true cc)
     go accept t e = all (none-held (setupTable words mtu R) t) (ap (λ (x : Stands). x .words) e)
 
-pub demand-3-of-calls : Demand3OfCalls
-demand-3-of-calls device mtu R s words after streams messages response ds set lends fair reads =
+pub demand3-of-calls : Demand3OfCalls
+demand3-of-calls device mtu R s words after streams messages response ds set lends fair reads =
     let m = made words device mtu R after set in
     let f : Fresh mtu R streams messages response = record { allowed-MTU = m .MTU; allowed-R = m .R-fits; lends = lends } in
     calls-deliver reads
     ∙ (ap (λ (w : List ℕ). deliveries (record { words = w; streamMemory = streams; messageMemory = messages; response = response }) (packets device mtu s)) (m .state)
-    ∙ demand-3 device mtu R s streams messages response f fair)
+    ∙ demand3 device mtu R s streams messages response f fair)
 
 pub flows-do-not-disturb : FlowsDoNotDisturb
 flows-do-not-disturb = flows-apart

@@ -46,16 +46,16 @@ stream-no : (x : Lent) → no-refusal (stream.accepted (stateIn x) (x .streamMem
 unfolding stream.accepted streamRoom.placed
 stream-no x = chosen no-refusal (segmentIn x .ends) _ held (λ number e. let z : _≡_ {A = ℕ} 0 1 = cc in omega arith) held-no
 
-placed-no : (x : Lent) (n marks last : ℕ) → no-refusal (messageRoom.placed (stateIn x) (x .messageMemory) (x .response) (x .packet) (messageSegmentIn x) n marks last .says)
-unfolding messageRoom.placed
+placed-no : (x : Lent) (n marks last : ℕ) → no-refusal (messageRoom.messagePlaced (stateIn x) (x .messageMemory) (x .response) (x .packet) (messageSegmentIn x) n marks last .says)
+unfolding messageRoom.messagePlaced
 placed-no x n marks last =
     chosen no-refusal (messageRoom.complete (messageSegmentIn x) (messageRoom.marksWith (messageSegmentIn x) marks)) _ held (λ number e. let z : _≡_ {A = ℕ} 0 1 = cc in omega arith) held-no
 
-message-no : (x : Lent) → no-refusal (message.accepted (stateIn x) (x .messageMemory) (x .response) (x .packet) (messageSegmentIn x) .says)
-unfolding message.accepted message.alone
+message-no : (x : Lent) → no-refusal (message.messageAccepted (stateIn x) (x .messageMemory) (x .response) (x .packet) (messageSegmentIn x) .says)
+unfolding message.messageAccepted message.deliveredAtOnce
 message-no x =
-    chosen (λ (j : messageRoom.Joined). no-refusal (j .says)) (isSingle (messageSegmentIn x)) _ _ (λ number e. let z : _≡_ {A = ℕ} 0 1 = cc in omega arith)
-    (chosen (λ (j : messageRoom.Joined). no-refusal (j .says)) (messageOpen (stateIn x) (messageSegmentIn x)) _ _ (placed-no x _ _ _) (placed-no x _ 0 0))
+    chosen (λ (j : messageRoom.MessageJoined). no-refusal (j .says)) (isSingle (messageSegmentIn x)) _ _ (λ number e. let z : _≡_ {A = ℕ} 0 1 = cc in omega arith)
+    (chosen (λ (j : messageRoom.MessageJoined). no-refusal (j .says)) (messageOpen (stateIn x) (messageSegmentIn x)) _ _ (placed-no x _ _ _) (placed-no x _ 0 0))
 
 accepted-no : (x : Lent) → no-refusal (accepting x .says)
 accepted-no x = chosen (λ (l : Left). no-refusal (l .says)) (is9 x) _ _ (stream-no x) (message-no x)

@@ -7,7 +7,7 @@ use Rattle.answers.specs.declared.Answer.{Answer}
 use Rattle.answers.specs.declared.Reading.{Reading}
 use Rattle.answers.specs.declared.Abandoned.{Abandoned}
 use Rattle.answers.specs.Answers.{saidOfAbandon}
-use Rattle.answers.proofs.Once.{said-once, setup-once, abandon-once, writer-once}
+use Rattle.answers.proofs.Once as answers
 use Rattle.segments.specs.Writer.{Wrote}
 use Rattle.reading.specs.Read.{Left}
 use Rattle.endpoint.specs.Calls.{Stands, stands, Part, IsPart}
@@ -23,46 +23,46 @@ same-reading r r′ a d = ap₂ made a d
 pub read-once : ReadOnce
 read-once x r r′ words words′ streams streams′ messages messages′ response response′ p q =
     let e = p ∙ sym q in (
-      same-reading r r′ (said-once (r .answer) (r′ .answer) (ap (λ (l : Left). l .says) e)) (ap (λ (l : Left). l .dropped) e),
+      same-reading r r′ (answers.said-once (r .answer) (r′ .answer) (ap (λ (l : Left). l .says) e)) (ap (λ (l : Left). l .dropped) e),
       ap (λ (l : Left). l .words) e,
       ap (λ (l : Left). l .streamMemory) e,
       ap (λ (l : Left). l .messageMemory) e,
       ap (λ (l : Left). l .response) e,
     )
 
-pub once-set-up : SetupOnce
-once-set-up words device mtu room r r′ after after′ p q =
+pub setup-once : SetupOnce
+setup-once words device mtu room r r′ after after′ p q =
     let e = p ∙ sym q in
-    (setup-once r r′ (ap (λ (l : Stands). l .says) e), ap (λ (l : Stands). l .words) e)
+    (answers.setup-once r r′ (ap (λ (l : Stands). l .says) e), ap (λ (l : Stands). l .words) e)
 
 -- of either kind of context
 abandoned : (promised : Stands) (r r′ : Abandoned) (after after′ : List ℕ) → stands (saidOfAbandon r) after ≡ promised → stands (saidOfAbandon r′) after′ ≡ promised → (r ≡ r′) × (after ≡ after′)
 abandoned promised r r′ after after′ p q =
     let e = p ∙ sym q in
-    (abandon-once r r′ (ap (λ (l : Stands). l .says) e), ap (λ (l : Stands). l .words) e)
+    (answers.abandon-once r r′ (ap (λ (l : Stands). l .says) e), ap (λ (l : Stands). l .words) e)
 
-pub once-abandoned-stream : AbandonStreamOnce
-once-abandoned-stream words n = abandoned _
+pub abandon-stream-once : AbandonStreamOnce
+abandon-stream-once words n = abandoned _
 
-pub once-abandoned-message : AbandonMessageOnce
-once-abandoned-message words n = abandoned _
+pub abandon-message-once : AbandonMessageOnce
+abandon-message-once words n = abandoned _
 
 room : (memory : RefT (List ℕ)) (p : Part) (r r′ : RefT (List ℕ)) → IsPart memory p r → IsPart memory p r′ → SameRoom r r′
 room memory p r r′ a b = (a .block ∙ sym (b .block), a .offset ∙ sym (b .offset), a .bytes ∙ sym (b .bytes))
 
-pub once-a-stream-room : StreamRoomOnce
-once-a-stream-room words memory n l = room memory _
+pub stream-room-once : StreamRoomOnce
+stream-room-once words memory n l = room memory _
 
-pub once-a-message-room : MessageRoomOnce
-once-a-message-room words memory n l = room memory _
+pub message-room-once : MessageRoomOnce
+message-room-once words memory n l = room memory _
 
-pub once-a-length : LengthOnce
-once-a-length r r′ p q = p ∙ sym q
+pub length-once : LengthOnce
+length-once r r′ p q = p ∙ sym q
 
-pub once-a-count : CountOnce
-once-a-count mtu size r r′ p q = p ∙ sym q
+pub count-once : CountOnce
+count-once mtu size r r′ p q = p ∙ sym q
 
-pub once-written : WriteOnce
-once-written out h mtu pdu k r r′ after after′ p q =
+pub write-once : WriteOnce
+write-once out h mtu pdu k r r′ after after′ p q =
     let e = p ∙ sym q in
-    (writer-once r r′ (ap (λ (l : Wrote). l .says) e), ap (λ (l : Wrote). l .out) e)
+    (answers.writer-once r r′ (ap (λ (l : Wrote). l .says) e), ap (λ (l : Wrote). l .out) e)

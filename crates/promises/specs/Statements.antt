@@ -25,7 +25,7 @@ use Rattle.flows.specs.ByFlow.{AreBytes}
 use Rattle.flows.specs.Apart.{FlowsApart}
 use Rattle.sending.specs.Sending.{Sent, Ranges, FairPDU, Sending, packets, whole, deliveries, Fair, FairAnyLoss}
 use Rattle.sending.specs.Segment.{SegmentsReadBack}
-use Rattle.sending.specs.Statements.{ReadsBack, firstTurns}
+use Rattle.sending.specs.OfSendings.{ReadsBack, firstTurns}
 use Rattle.sending.specs.Mixture.{MixtureIsFair}
 use Rattle.examples.specs.Table.{ExamplesHold}
 use Rattle.sending.specs.Joint.{Pair, isJoint, jointPDU, pairPackets, JointUntold}

@@ -25,7 +25,7 @@ pub choose-stream : (x : Lent) (b : Bool) (j k : streamRoom.Joined) → ofStream
 choose-stream x true j k = refl
 choose-stream x false j k = refl
 
-pub choose-message : (x : Lent) (b : Bool) (j k : messageRoom.Joined) → ofMessage x (cond b j k) ≡ cond b (ofMessage x j) (ofMessage x k)
+pub choose-message : (x : Lent) (b : Bool) (j k : messageRoom.MessageJoined) → ofMessage x (cond b j k) ≡ cond b (ofMessage x j) (ofMessage x k)
 choose-message x true j k = refl
 choose-message x false j k = refl
 

@@ -16,7 +16,7 @@ use Rattle.stream_rooms.specs.Placing as streamRoom
 use Rattle.streams.specs.Joining as stream
 use Rattle.message_rooms.specs.Placing as messageRoom
 use Rattle.messages.specs.Joining as message
-use Rattle.messages.specs.Rows.{messageOpen, foundFor}
+use Rattle.messages.specs.Rows.{messageOpen, messageFound}
 use Rattle.streams.proofs.Kept as streams
 use Rattle.messages.proofs.Kept as messages
 use Rattle.reading.specs.Table.{Lent, stateIn, segmentIn, messageSegmentIn, is9, is11, table}
@@ -55,20 +55,20 @@ module _ (x : Lent) where
   unfolding stream.accepted streamRoom.placed
   stream-same = record { device = refl; mtu = refl; room = refl; streams = simp length-set; messages = refl }
 
-  placed-same : (n marks last : ℕ) → Same (stateIn x) (messageRoom.placed (stateIn x) (x .messageMemory) (x .response) (x .packet) (messageSegmentIn x) n marks last .state)
-  unfolding messageRoom.placed
+  placed-same : (n marks last : ℕ) → Same (stateIn x) (messageRoom.messagePlaced (stateIn x) (x .messageMemory) (x .response) (x .packet) (messageSegmentIn x) n marks last .state)
+  unfolding messageRoom.messagePlaced
   placed-same n marks last = record { device = refl; mtu = refl; room = refl; streams = refl; messages = simp length-set }
 
-  alone-same : (n : ℕ) → Same (stateIn x) (message.alone (stateIn x) (x .messageMemory) (x .response) (x .packet) (messageSegmentIn x) n .state)
-  unfolding message.alone
+  alone-same : (n : ℕ) → Same (stateIn x) (message.deliveredAtOnce (stateIn x) (x .messageMemory) (x .response) (x .packet) (messageSegmentIn x) n .state)
+  unfolding message.deliveredAtOnce
   alone-same n = record { device = refl; mtu = refl; room = refl; streams = refl; messages = simp length-set }
 
-  message-same : Same (stateIn x) (message.accepted (stateIn x) (x .messageMemory) (x .response) (x .packet) (messageSegmentIn x) .state)
-  unfolding message.accepted
+  message-same : Same (stateIn x) (message.messageAccepted (stateIn x) (x .messageMemory) (x .response) (x .packet) (messageSegmentIn x) .state)
+  unfolding message.messageAccepted
   message-same =
       by-test (isSingle (messageSegmentIn x)) (λ t. rw t (alone-same (freeMessage (stateIn x))))
       (λ t. by-test (messageOpen (stateIn x) (messageSegmentIn x))
-      (λ o. rw (t, o) (placed-same (foundFor (stateIn x) (messageSegmentIn x)) _ _))
+      (λ o. rw (t, o) (placed-same (messageFound (stateIn x) (messageSegmentIn x)) _ _))
       (λ o. rw (t, o) (placed-same (freeMessage (stateIn x)) 0 0)))
 
   -- every row of an accepted packet has failed
@@ -97,7 +97,7 @@ module _ (x : Lent) where
     other-type false true e f = refl
     other-type false false e f = absurd (true≢false e)
 
-    message-settled : Passed → is9 x ≡ false → StillGood (stateIn x) (wordsOf (message.accepted (stateIn x) (x .messageMemory) (x .response) (x .packet) (messageSegmentIn x) .state))
+    message-settled : Passed → is9 x ≡ false → StillGood (stateIn x) (wordsOf (message.messageAccepted (stateIn x) (x .messageMemory) (x .response) (x .packet) (messageSegmentIn x) .state))
     unfolding none table
     message-settled n f =
         let t : is11 x ≡ true = other-type (is9 x) (is11 x) (n .1 .1 .1 .1 .1 .0) f in

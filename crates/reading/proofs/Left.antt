@@ -29,8 +29,8 @@ pub stream-left : (x : Lent) (says : Said) (dropped : Bool) (words memory : List
 stream-left x says dropped words memory j z e =
     ap (λ (w : List ℕ). left says dropped w memory (x .messageMemory) (x .response)) (sym (words-of words z)) ∙ ap (ofStream x) e
 
-pub message-left : (x : Lent) (says : Said) (words memory response : List ℕ) (j : messageRoom.Joined) → length words ≡ stateWords
-    → messageRoom.joining says (stateOf words) memory response ≡ j → left says false words (x .streamMemory) memory response ≡ ofMessage x j
+pub message-left : (x : Lent) (says : Said) (words memory response : List ℕ) (j : messageRoom.MessageJoined) → length words ≡ stateWords
+    → messageRoom.messageJoining says (stateOf words) memory response ≡ j → left says false words (x .streamMemory) memory response ≡ ofMessage x j
 message-left x says words memory response j z e =
     ap (λ (w : List ℕ). left says false w (x .streamMemory) memory response) (sym (words-of words z)) ∙ ap (ofMessage x) e
 

@@ -7,9 +7,9 @@ use Rattle.answers.specs.Refusals.{allERROR, allRETRY}
 use Rattle.responses.specs.Type13.{ERROR, RETRY}
 use Rattle.contexts.specs.Words.{stateWords}
 use Rattle.contexts.proofs.Words.{words-of}
-use Rattle.messages.specs.Rows.{otherMessage, alreadyMarked, noneFree}
-use Rattle.messages.specs.Joining.{accepted}
-use Rattle.messages.specs.Step.{matched, stepped, refusedWith}
+use Rattle.messages.specs.Rows.{otherMessage, alreadyMarked, neededNoneFree}
+use Rattle.messages.specs.Joining.{messageAccepted}
+use Rattle.messages.specs.Step.{matched, messageStepped, refusedWith}
 use Rattle.reading.specs.Table.{Lent, stateIn, messageSegmentIn}
 use Rattle.reading.specs.Read.{Left, leaving, ofMessage}
 use Rattle.reading.proofs.Cases.{by-test, choose-message}
@@ -29,17 +29,17 @@ module _ (x : Lent) (whole : length (x .words) ≡ stateWords) where
   later =
       cond (otherMessage (stateIn x) (messageSegmentIn x)) (leaving x 23 allERROR)
       (cond (alreadyMarked (stateIn x) (messageSegmentIn x)) (leaving x 24 allERROR)
-      (cond (noneFree (stateIn x) (messageSegmentIn x)) (leaving x 25 allRETRY)
-      (ofMessage x (accepted (stateIn x) (x .messageMemory) (x .response) (x .packet) (messageSegmentIn x)))))
+      (cond (neededNoneFree (stateIn x) (messageSegmentIn x)) (leaving x 25 allRETRY)
+      (ofMessage x (messageAccepted (stateIn x) (x .messageMemory) (x .response) (x .packet) (messageSegmentIn x)))))
 
   joins : ofMessage x (matched (stateIn x) (x .messageMemory) (x .response) (x .packet) (messageSegmentIn x)) ≡ later
   unfolding matched
   joins = simp (choose-message, errs 23, errs 24, retries 25)
 
   -- rows 20 to 25
-  pub message-rows : ofMessage x (stepped (stateIn x) (x .messageMemory) (x .response) (x .packet) (messageSegmentIn x))
+  pub message-rows : ofMessage x (messageStepped (stateIn x) (x .messageMemory) (x .response) (x .packet) (messageSegmentIn x))
       ≡ cond (reservedSize (messageSegmentIn x)) (leaving x 20 allERROR) (cond (badLength (messageSegmentIn x)) (leaving x 21 allERROR) (cond (pastLast (messageSegmentIn x)) (leaving x 22 allERROR) later))
-  unfolding stepped judged
+  unfolding messageStepped judged
   message-rows =
       by-test (reservedSize (messageSegmentIn x)) (λ a. rw a (errs 20))
       (λ a. by-test (badLength (messageSegmentIn x)) (λ b. rw (a, b) (errs 21))

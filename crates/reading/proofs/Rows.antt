@@ -45,7 +45,7 @@ typed x =
     (cond (is11 x && pastLast (messageSegmentIn x)) (leaving x 22 allERROR)
     (cond (is11 x && message.otherMessage (stateIn x) (messageSegmentIn x)) (leaving x 23 allERROR)
     (cond (is11 x && message.alreadyMarked (stateIn x) (messageSegmentIn x)) (leaving x 24 allERROR)
-    (cond (is11 x && message.noneFree (stateIn x) (messageSegmentIn x)) (leaving x 25 allRETRY)
+    (cond (is11 x && message.neededNoneFree (stateIn x) (messageSegmentIn x)) (leaving x 25 allRETRY)
     (accepting x))))))))))))))
 
 -- the rows from the first 1 on

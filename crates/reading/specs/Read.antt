@@ -10,8 +10,8 @@ use Rattle.responses.specs.Type13.{ERROR, RETRY, answered}
 use Rattle.contexts.specs.Words.{wordsOf}
 use Rattle.stream_rooms.specs.Placing as streamRoom
 use Rattle.streams.specs.Joining as stream
-use Rattle.message_rooms.specs.Placing as messageRoom
-use Rattle.messages.specs.Joining as message
+use Rattle.message_rooms.specs.Placing.{MessageJoined}
+use Rattle.messages.specs.Joining.{messageAccepted}
 use Rattle.reading.specs.Table.{Lent, stateIn, segmentIn, messageSegmentIn, is9, table}
 
 -- the answer, whether this packet closed an open stream context undelivered, and everything lent as it is left
@@ -38,7 +38,7 @@ abbrev pub ofStream : Lent → streamRoom.Joined → Left
 ofStream x j = left (j .says) (j .dropped) (wordsOf (j .state)) (j .memory) (x .messageMemory) (x .response)
 
 -- what an accepted type 11 packet leaves; the stream memory stays
-abbrev pub ofMessage : Lent → messageRoom.Joined → Left
+abbrev pub ofMessage : Lent → MessageJoined → Left
 ofMessage x j = left (j .says) false (wordsOf (j .state)) (x .streamMemory) (j .memory) (j .response)
 
 -- the table's last column
@@ -53,7 +53,7 @@ abbrev pub accepting : Lent → Left
 accepting x =
     cond (is9 x)
     (ofStream x (stream.accepted (stateIn x) (x .streamMemory) (x .packet) (segmentIn x)))
-    (ofMessage x (message.accepted (stateIn x) (x .messageMemory) (x .response) (x .packet) (messageSegmentIn x)))
+    (ofMessage x (messageAccepted (stateIn x) (x .messageMemory) (x .response) (x .packet) (messageSegmentIn x)))
 
 abbrev pub outcome : Lent → Verdict → Left
 outcome x (refuse number leaves) = leaving x number leaves

@@ -13,7 +13,7 @@ use Rattle.wire.specs.Parsed.{parsed}
 use Rattle.contexts.specs.Words.{stateOf, stateWords}
 use Rattle.refusal19.specs.Refusal19.{namedBy19}
 use Rattle.streams.specs.Step as stream
-use Rattle.messages.specs.Step as message
+use Rattle.messages.specs.Step.{messageStepped}
 use Rattle.reading.specs.Table.{Lent, stateIn, isState, wrongMemory}
 use Rattle.reading.specs.Read.{Left, ofStream, ofMessage, leaving}
 
@@ -21,7 +21,7 @@ use Rattle.reading.specs.Read.{Left, ofStream, ofMessage, leaving}
 abbrev pub byParsed : Lent → Parsed → Left
 byParsed x (Refused number) = leaving x number all
 byParsed x (Stream g) = ofStream x (stream.stepped (stateIn x) (x .streamMemory) (x .packet) g)
-byParsed x (Message m) = ofMessage x (message.stepped (stateIn x) (x .messageMemory) (x .response) (x .packet) m)
+byParsed x (Message m) = ofMessage x (messageStepped (stateIn x) (x .messageMemory) (x .response) (x .packet) m)
 
 unfoldable pub readStep : Lent → Left
 readStep x =
@@ -37,7 +37,7 @@ pub record Refusal (number : ℕ) (r : Reading) : Type 0 where
   pub drop : r .dropped ≡ false
 
 -- rows 19 and 12 passed: what a step over a state known to be good may rely on
-pub record Ready (words streams messages response : List ℕ) : Type 0 where
+pub record ReadyToRead (words streams messages response : List ℕ) : Type 0 where
   pub whole : length words ≡ stateWords
   pub good : namedBy19 (stateOf words) ≡ false
   pub rooms : length streams ≡ 16 * stateOf words .room

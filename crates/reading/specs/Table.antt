@@ -100,5 +100,5 @@ table x =
     -- segment already marked
     ∷ row 24 (is11 x && message.alreadyMarked (stateIn x) (messageSegmentIn x)) allERROR
     -- context needed, none free
-    ∷ row 25 (is11 x && message.noneFree (stateIn x) (messageSegmentIn x)) allRETRY
+    ∷ row 25 (is11 x && message.neededNoneFree (stateIn x) (messageSegmentIn x)) allRETRY
     ∷ []

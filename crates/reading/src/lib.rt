@@ -9,7 +9,7 @@ ghost use Rattle.contexts.specs.Words.{stateOf, stateWords};
 ghost use Rattle.refusal19.specs.Refusal19.{namedBy19};
 ghost use Rattle.reading.specs.Table.{wrongSizes};
 ghost use Rattle.reading.specs.Read.{lent, ReadPromise};
-ghost use Rattle.reading.specs.Step.{Ready, Refusal};
+ghost use Rattle.reading.specs.Step.{ReadyToRead, Refusal};
 
 // The bytes of the message memory: 8 rooms of 4,096.
 pub const MESSAGE_MEMORY: usize = 32768;
@@ -51,7 +51,7 @@ pub fn step(
     response: &mut [u8],
     packet: &[u8],
 ) -> Reading
-    requires { ⌜ Ready (now state) (now «stream_memory») (now «message_memory») (now response) ⌝ }
+    requires { ⌜ ReadyToRead (now state) (now «stream_memory») (now «message_memory») (now response) ⌝ }
     ensures { λ r. ⌜ ReadPromise (lent (now (state .entry)) (now («stream_memory» .entry)) (now («message_memory» .entry)) (now (response .entry)) (now (packet .entry))) r (now (state .exit)) (now («stream_memory» .exit)) (now («message_memory» .exit)) (now (response .exit)) ⌝ }
 {
     let device = contexts::device(state);

@@ -13,7 +13,7 @@ use Rattle.lists.specs.Bytes.{byte}
 use Rattle.records.specs.declared.Next.{Next}
 use Rattle.records.specs.declared.Next.the-variants.{Record, End, Bad}
 use Rattle.records.specs.Records.{Records, records, before, byNext, nextRecord, recordsFrom, recordsOf}
-use Rattle.records.specs.Written.{lengthBytes, writtenRecord, writtenLog, AllShort, ReadsBack}
+use Rattle.records.specs.Written.{lengthBytes, writtenRecord, writtenLog, AllShort, LogReadsBack}
 use Rattle.records.proofs.Found.{small, large}
 
 -- byte i behind the front
@@ -95,6 +95,6 @@ enough (packet ∷ packets) = go (ltb (length packet) 128) (enough packets)
     go true h = simp length-append (omega arith)
     go false h = simp length-append (omega arith)
 
-pub reads-back : ReadsBack
+pub log-reads-back : LogReadsBack
 unfolding recordsOf
-reads-back packets short = from-front (suc (length (writtenLog packets))) packets [] (omega (arith, enough packets)) short
+log-reads-back packets short = from-front (suc (length (writtenLog packets))) packets [] (omega (arith, enough packets)) short

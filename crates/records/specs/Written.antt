@@ -24,5 +24,5 @@ AllShort [] = Unit {0}
 AllShort (packet ∷ packets) = (length packet < 16384) × AllShort packets
 
 -- a written log reads back as its records
-abbrev pub ReadsBack : Type 0
-ReadsBack = (packets : List (List ℕ)) → AllShort packets → recordsOf (writtenLog packets) ≡ records packets true
+abbrev pub LogReadsBack : Type 0
+LogReadsBack = (packets : List (List ℕ)) → AllShort packets → recordsOf (writtenLog packets) ≡ records packets true

@@ -9,7 +9,7 @@ use lib.ListN.{length, take, length-append}
 use Rattle.lists.specs.Bytes.{high, low}
 use Rattle.cutting.proofs.Pad.{length-pad}
 use Rattle.cutting.specs.declared.Heading.{Heading}
-use Rattle.cutting.specs.Cutting.{segmentCount, dataOf, isFirst, isFinal, padOf, flagsOf, fieldOf, packetOf}
+use Rattle.cutting.specs.Cutting.{segmentCount, segmentData, isFirst, isFinal, padOf, flagsOf, fieldOf, packetOf}
 use Rattle.segments.proofs.Sizes.{lent, length-data, data-part}
 
 -- bytes 0 to 8, with what stands in bytes 6 and 7-8
@@ -43,13 +43,13 @@ front-is h flags size false false = refl
 module _ (h : Heading) (mtu : ℕ) (pdu : List ℕ) (k : ℕ) where
   -- the front of the packet as the code makes it
   abbrev front : List ℕ
-  front = take (frontOf (isFirst k) (isFinal mtu pdu k)) (headOf h (flagsOf (isFirst k) (isFinal mtu pdu k) (length (dataOf mtu pdu k))) (cond (isFirst k) (h .stream) (length pdu)))
+  front = take (frontOf (isFirst k) (isFinal mtu pdu k)) (headOf h (flagsOf (isFirst k) (isFinal mtu pdu k) (length (segmentData mtu pdu k))) (cond (isFirst k) (h .stream) (length pdu)))
 
-  packet-is : packetOf h mtu pdu k ≡ front ++ dataOf mtu pdu k ++ padOf (length (dataOf mtu pdu k))
+  packet-is : packetOf h mtu pdu k ≡ front ++ segmentData mtu pdu k ++ padOf (length (segmentData mtu pdu k))
   unfolding packetOf
-  packet-is = ap (λ (l : List ℕ). l ++ dataOf mtu pdu k ++ padOf (length (dataOf mtu pdu k))) (sym (front-is h _ (length pdu) (isFirst k) (isFinal mtu pdu k)))
+  packet-is = ap (λ (l : List ℕ). l ++ segmentData mtu pdu k ++ padOf (length (segmentData mtu pdu k))) (sym (front-is h _ (length pdu) (isFirst k) (isFinal mtu pdu k)))
 
-  length-packet : length (packetOf h mtu pdu k) ≡ frontOf (isFirst k) (isFinal mtu pdu k) + length (dataOf mtu pdu k) + length (dataOf mtu pdu k) % 2
+  length-packet : length (packetOf h mtu pdu k) ≡ frontOf (isFirst k) (isFinal mtu pdu k) + length (segmentData mtu pdu k) + length (segmentData mtu pdu k) % 2
   length-packet = ap length packet-is ∙ simp (length-append, length-front, length-pad)
 
 -- From what the code has of segment k: n bytes of data behind a front of so many bytes, where the PDU makes `count` segments.
@@ -57,7 +57,7 @@ module _ (h : Heading) (mtu : ℕ) (pdu : List ℕ) (k count n front : ℕ)
     (whole : count ≡ segmentCount mtu (length pdu))
     (held : n ≡ min mtu (length pdu - k * mtu))
     (before : front ≡ frontOf (eqb k 0) (eqb (k + 1) count)) where
-  holds : length (dataOf mtu pdu k) ≡ n
+  holds : length (segmentData mtu pdu k) ≡ n
   holds = length-data mtu pdu k ∙ sym held
 
   pub cut-length : length (packetOf h mtu pdu k) ≡ front + n + n % 2

@@ -12,7 +12,7 @@ use lib.ListN.{length, take, drop, length-take, length-drop}
 use lib.Seq.{take-all}
 use borrow.Author.Tests.{ltb-false}
 use Rattle.sizes.specs.Sizes.{badMTU}
-use Rattle.cutting.specs.Cutting.{badSize, segmentCount, dataOf}
+use Rattle.cutting.specs.Cutting.{badSize, segmentCount, segmentData}
 
 or-false : (a b : Bool) → (a || b) ≡ false → (a ≡ false) × (b ≡ false)
 or-false true b e = (e, cc)
@@ -39,8 +39,8 @@ begins mtu size k h l =
     omega (arith, suc-mul k mtu)
 
 -- how many bytes of data it holds
-pub length-data : (mtu : ℕ) (pdu : List ℕ) (k : ℕ) → length (dataOf mtu pdu k) ≡ min mtu (length pdu - k * mtu)
-unfolding dataOf
+pub length-data : (mtu : ℕ) (pdu : List ℕ) (k : ℕ) → length (segmentData mtu pdu k) ≡ min mtu (length pdu - k * mtu)
+unfolding segmentData
 length-data mtu pdu k = simp (length-take, length-drop)
 
 -- the part of the PDU that the code lends: from there to n bytes on
@@ -48,8 +48,8 @@ abbrev pub lent : ℕ → List ℕ → ℕ → ℕ → List ℕ
 lent mtu pdu k n = take (k * mtu + n - k * mtu) (drop (k * mtu) pdu)
 
 -- it is the data
-pub data-part : (mtu : ℕ) (pdu : List ℕ) (k n : ℕ) → n ≡ min mtu (length pdu - k * mtu) → lent mtu pdu k n ≡ dataOf mtu pdu k
-unfolding dataOf
+pub data-part : (mtu : ℕ) (pdu : List ℕ) (k n : ℕ) → n ≡ min mtu (length pdu - k * mtu) → lent mtu pdu k n ≡ segmentData mtu pdu k
+unfolding segmentData
 data-part mtu pdu k n e =
     let same : k * mtu + n - k * mtu ≡ n = omega arith in
     rw same (go (decLe mtu (length pdu - k * mtu)))

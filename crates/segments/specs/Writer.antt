@@ -40,8 +40,8 @@ unfoldable pub writing : List ℕ → Heading → ℕ → List ℕ → ℕ → W
 writing out h mtu pdu k = wroteBy out (packetOf h mtu pdu k) (verdict (writerTable out h mtu pdu k))
 
 -- the number of segments of a PDU; 0 where the writer would refuse the MTU or the length
-unfoldable pub countOf : ℕ → ℕ → ℕ
-countOf mtu size = cond (badMTU mtu) 0 (cond (badSize size) 0 (segmentCount mtu size))
+unfoldable pub countToWrite : ℕ → ℕ → ℕ
+countToWrite mtu size = cond (badMTU mtu) 0 (cond (badSize size) 0 (segmentCount mtu size))
 
 -- the promise of `write_segment`
 abbrev pub WritePromise : List ℕ → Heading → ℕ → List ℕ → ℕ → Written → List ℕ → Type 0
@@ -49,4 +49,4 @@ WritePromise out h mtu pdu k r after = wroteOf (saidOfWriter r) after ≡ writin
 
 -- the promise of `segment_count`
 abbrev pub CountPromise : ℕ → ℕ → ℕ → Type 0
-CountPromise mtu size r = r ≡ countOf mtu size
+CountPromise mtu size r = r ≡ countToWrite mtu size

@@ -20,10 +20,10 @@ use Rattle.wire.proofs.Forms.{with-field, without-field}
 use Rattle.rules.specs.Segments.{malformed}
 use Rattle.stream_rooms.specs.Placing as placing
 use Rattle.cutting.specs.declared.Heading.{Heading}
-use Rattle.cutting.specs.Cutting.{segmentCount, dataOf, isFirst, isFinal, padOf, flagsOf, fieldOf, packetOf}
+use Rattle.cutting.specs.Cutting.{segmentCount, segmentData, isFirst, isFinal, padOf, flagsOf, fieldOf, packetOf}
 use Rattle.segments.proofs.Sizes.{good-mtu, begins, length-data}
 use Rattle.flows.specs.ByFlow.{AreBytes}
-use Rattle.sending.specs.Segment.{cutSegment, flowOf, segmentFor, InRange, SegmentsReadBack}
+use Rattle.sending.specs.Segment.{cutSegment, headingFlow, segmentFor, InRange, SegmentsReadBack}
 
 -- ---- Numbers
 
@@ -160,8 +160,8 @@ bytes-drop zero l h = h
 bytes-drop (suc n) [] h = no-bytes
 bytes-drop (suc n) (x ∷ xs) h = bytes-drop n xs (λ i. h (suc i))
 
-pub bytes-data : (mtu : ℕ) (pdu : List ℕ) (k : ℕ) → AreBytes pdu → AreBytes (dataOf mtu pdu k)
-unfolding dataOf
+pub bytes-data : (mtu : ℕ) (pdu : List ℕ) (k : ℕ) → AreBytes pdu → AreBytes (segmentData mtu pdu k)
+unfolding segmentData
 bytes-data mtu pdu k h = bytes-take mtu (drop (k * mtu) pdu) (bytes-drop (k * mtu) pdu h)
 
 bytes-pad : (n : ℕ) → AreBytes (padOf n)
@@ -190,7 +190,7 @@ shape h first final size bytes =
     ∷ (fieldOf first final (h .stream) size ++ bytes ++ padOf (length bytes))
 
 abbrev segment : Heading → (first final : Bool) → (size : ℕ) → List ℕ → Segment
-segment h first final size bytes = cutSegment (flowOf h) first final (h .stream) size (length bytes)
+segment h first final size bytes = cutSegment (headingFlow h) first final (h .stream) size (length bytes)
 
 -- two segments are equal by their fields
 by-fields : (b b′ e e′ o o′ q q′ : Bool) (s s′ c c′ f f′ from r r′ : ℕ)
@@ -282,7 +282,7 @@ module _ (h : Heading) (range : InRange h) (size : ℕ) (bytes : List ℕ) where
   is-data : (first final : Bool) → placing.dataOf (shape h first final size bytes) (segment h first final size bytes) ≡ bytes
   unfolding fieldOf
   is-data first final =
-      ap (λ (n : ℕ). take n (drop (cond (first || final) 9 7) (shape h first final size bytes))) (cut-length (flowOf h) first final (h .stream) size (length bytes))
+      ap (λ (n : ℕ). take n (drop (cond (first || final) 9 7) (shape h first final size bytes))) (cut-length (headingFlow h) first final (h .stream) size (length bytes))
       ∙ go first final
     where
       go : (first final : Bool) → take (length bytes) (drop (cond (first || final) 9 7) (shape h first final size bytes)) ≡ bytes
@@ -315,7 +315,7 @@ module _ (h : Heading) (range : InRange h) (size : ℕ) (bytes : List ℕ) where
       (f .is-byte) (omega arith) (omega arith) (omega arith) (omega arith) (range .cos) (ltb-true _ 256 (fl .is-byte)) tail
 
 -- a segment that the PDU has holds a byte
-pub some-data : (mtu : ℕ) (pdu : List ℕ) (k : ℕ) → badMTU mtu ≡ false → k < segmentCount mtu (length pdu) → 0 < length (dataOf mtu pdu k)
+pub some-data : (mtu : ℕ) (pdu : List ℕ) (k : ℕ) → badMTU mtu ≡ false → k < segmentCount mtu (length pdu) → 0 < length (segmentData mtu pdu k)
 some-data mtu pdu k allowed below =
     let m = good-mtu mtu allowed in
     let b : k * mtu < length pdu = begins mtu (length pdu) k (omega arith) below in
@@ -324,18 +324,18 @@ some-data mtu pdu k allowed below =
 -- the segment of a packet that the writer cuts
 pub segment-of-cut : (h : Heading) (mtu : ℕ) (pdu : List ℕ) (k : ℕ) → InRange h → segmentOf (packetOf h mtu pdu k) ≡ segmentFor h mtu pdu k
 unfolding packetOf
-segment-of-cut h mtu pdu k range = is-segment h range (length pdu) (dataOf mtu pdu k) (isFirst k) (isFinal mtu pdu k)
+segment-of-cut h mtu pdu k range = is-segment h range (length pdu) (segmentData mtu pdu k) (isFirst k) (isFinal mtu pdu k)
 
 pub segments-read-back : SegmentsReadBack
 unfolding packetOf
 segments-read-back h mtu pdu k c =
-    let bytes : List ℕ = dataOf mtu pdu k in
+    let bytes : List ℕ = segmentData mtu pdu k in
     let fl = flags-of (isFirst k) (isFinal mtu pdu k) (length bytes) in
     record {
       read = is-parsed h (c .heading) (length pdu) bytes (isFirst k) (isFinal mtu pdu k);
       priority = first-byte (h .priority) (c .heading .priority) .of-priority;
-      well-formed = cut-well-formed (flowOf h) (isFirst k) (isFinal mtu pdu k) (h .stream) (length pdu) (length bytes) (some-data mtu pdu k (c .allowed) (c .segment));
-      length-of-data = cut-length (flowOf h) (isFirst k) (isFinal mtu pdu k) (h .stream) (length pdu) (length bytes);
+      well-formed = cut-well-formed (headingFlow h) (isFirst k) (isFinal mtu pdu k) (h .stream) (length pdu) (length bytes) (some-data mtu pdu k (c .allowed) (c .segment));
+      length-of-data = cut-length (headingFlow h) (isFirst k) (isFinal mtu pdu k) (h .stream) (length pdu) (length bytes);
       data-of = is-data h (c .heading) (length pdu) bytes (isFirst k) (isFinal mtu pdu k);
       pdu-length = λ e e′. rw (e, e′) (pdu-length-back (length pdu) (c .some-byte) (c .size));
       reserved = fl .reserved;

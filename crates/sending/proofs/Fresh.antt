@@ -9,7 +9,7 @@ use Rattle.wire.specs.declared.Flow.{Flow}
 use Rattle.contexts.specs.State.{isFreeStream, isOfFlow, flowContext}
 use Rattle.contexts.specs.Words.{stateOf, wordsOf}
 use Rattle.flows.specs.Board.{room, view, freshBoard}
-use Rattle.sending.specs.Statements.{FreshBegins}
+use Rattle.sending.specs.OfSendings.{FreshBegins}
 
 fresh-room : (device mtu R : ℕ) (streams messages response : List ℕ) → room (freshBoard device mtu R streams messages response) ≡ R
 unfolding stateOf wordsOf

@@ -15,10 +15,10 @@ use lib.Seq.{length-take-le, take-all, drop-drop}
 use lib.Dec.{eqb, leb}
 use borrow.Author.Tests.{eqb-true, eq-eqb, ne-eqb, leb-true, le-leb}
 use Rattle.wire.specs.declared.Flow.{Flow}
-use Rattle.cutting.specs.Cutting.{dataOf, packetOf}
-use Rattle.flows.specs.OneFlow.{PDU, pdu, Told, held, delivered, refused, Outcome, outcome}
+use Rattle.cutting.specs.Cutting.{segmentData, packetOf}
+use Rattle.flows.specs.OneFlow.{PDU, pdu, Told, held, delivered, refused, FlowOutcome, flowOutcome}
 use Rattle.flows.specs.Board.{delivery}
-use Rattle.sending.specs.Sending.{Each, Sent, isLost, packetCount, lossesFrom, losses, isWhole, Put, headingOf, putOf, putsFrom, flowPuts, FairPDU, Ranges}
+use Rattle.sending.specs.Sending.{Each, Sent, isLost, packetCount, lossesFrom, losses, isWhole, Put, headingFor, putOf, putsFrom, flowPuts, FairPDU, Ranges}
 use Rattle.sending.specs.OneFlow.{packetStep, deliveredPDU, also, flowDeliveries, arriving}
 use Rattle.sending.specs.Joint.{isJoint, jointPDU, pairPackets, JointExactly, JointOnly, JointLength, JointDelivered}
 use Rattle.sending.proofs.Losses.{count-lost, count-seen, none-lost, lost-counts}
@@ -82,7 +82,7 @@ module _ (device mtu R : ℕ) (flow : Flow) (ranges : Ranges device mtu R flow) 
   bytes = s .pdu .bytes
 
   abbrev packet : ℕ → List ℕ
-  packet k = packetOf (headingOf device flow s k) mtu (s .pdu .bytes) k
+  packet k = packetOf (headingFor device flow s k) mtu (s .pdu .bytes) k
 
   abbrev put : ℕ → Put
   put k = putOf device mtu flow s k
@@ -95,7 +95,7 @@ module _ (device mtu R : ℕ) (flow : Flow) (ranges : Ranges device mtu R flow) 
   unfolding putOf
   gives-lost k o xs e = rw e
 
-  gives-seen : (k : ℕ) (o o′ : Option PDU) (told : Told) (dropped : Bool) (xs : List Put) → isLost s k ≡ false → packetStep mtu R o (packet k) ≡ outcome o′ told dropped
+  gives-seen : (k : ℕ) (o o′ : Option PDU) (told : Told) (dropped : Bool) (xs : List Put) → isLost s k ≡ false → packetStep mtu R o (packet k) ≡ flowOutcome o′ told dropped
       → gives mtu R o (put k ∷ xs) ≡ also (deliveredPDU told) (gives mtu R o′ xs)
   unfolding putOf
   gives-seen k o o′ told dropped xs e step = rw (e, step)
@@ -135,7 +135,7 @@ module _ (device mtu R : ℕ) (flow : Flow) (ranges : Ranges device mtu R flow) 
           let size = inner-size device mtu R flow ranges s fair (suc k) inner in
           let so-far : length (take (suc k * mtu) bytes) ≡ suc k * mtu = length-take-le (suc k * mtu) bytes (omega arith) in
           leaves-seen (suc k) (some (before (suc k))) (some (before (suc (suc k)))) (puts (suc (suc k)) (suc n)) t
-          (ap (λ (x : Outcome). x .next) (at-inner device mtu R flow ranges s fair k (before (suc k)) inner (omega (arith, fair .fits)))
+          (ap (λ (x : FlowOutcome). x .next) (at-inner device mtu R flow ranges s fair k (before (suc k)) inner (omega (arith, fair .fits)))
           ∙ ap (λ (x : List ℕ). some (pdu (s .pdu .stream) x)) (data-behind device mtu R flow ranges s fair (suc k)))
           ∙ rest (count-seen (s .lost) (suc k) (suc n) 1 t one)
 
@@ -171,7 +171,7 @@ module _ (device mtu R : ℕ) (flow : Flow) (ranges : Ranges device mtu R flow) 
       stays n e lost l false first =
           opened n e lost
           (subst (λ (c : ℕ). leaves mtu R none (puts 0 c) ≡ some (before (suc n))) e
-          (leaves-seen 0 none (some (before 1)) (puts 1 (suc n)) first (ap (λ (x : Outcome). x .next) (at-start device mtu R flow ranges s fair none (omega arith)))
+          (leaves-seen 0 none (some (before 1)) (puts 1 (suc n)) first (ap (λ (x : FlowOutcome). x .next) (at-start device mtu R flow ranges s fair none (omega arith)))
           ∙ leaves-open n 0 (suc n) (omega arith) e lost (count-seen (s .lost) 0 (suc n) 1 first l)))
 
       go : (c : ℕ) → c ≡ packetCount mtu s → lossesFrom (s .lost) 0 c ≡ 1 → FirstLeaves
@@ -214,12 +214,12 @@ module _ (device mtu R : ℕ) (flow : Flow) (ranges : Ranges device mtu R flow) 
       go false t rest = gives-seen (suc k) none none (refused 8) false (puts (suc (suc k)) n) t (at-closed device mtu R flow ranges s fair k (omega arith)) ∙ rest
 
   -- what is behind packet k
-  behind-last : (k : ℕ) → suc k ≡ packetCount mtu s → dataOf mtu bytes k ≡ drop (k * mtu) bytes
-  unfolding dataOf
+  behind-last : (k : ℕ) → suc k ≡ packetCount mtu s → segmentData mtu bytes k ≡ drop (k * mtu) bytes
+  unfolding segmentData
   behind-last k e = let z = last-size device mtu R flow ranges s fair k e in take-all mtu (drop (k * mtu) bytes) (simp length-drop (omega arith))
 
-  behind-inner : (k : ℕ) → dataOf mtu bytes k ++ drop (suc k * mtu) bytes ≡ drop (k * mtu) bytes
-  unfolding dataOf
+  behind-inner : (k : ℕ) → segmentData mtu bytes k ++ drop (suc k * mtu) bytes ≡ drop (k * mtu) bytes
+  unfolding segmentData
   behind-inner k =
       ap (λ (x : List ℕ). take mtu (drop (k * mtu) bytes) ++ x) (ap (λ (j : ℕ). drop j bytes) (suc-mul k mtu) ∙ sym (drop-drop mtu (k * mtu) bytes))
       ∙ take-append-drop mtu (drop (k * mtu) bytes)
@@ -229,40 +229,40 @@ module _ (device mtu R : ℕ) (flow : Flow) (ranges : Ranges device mtu R flow) 
       → gives mtu R (some p) (puts (suc k) (suc n)) ≡ pdu (p .stream) (p .bytes ++ drop (suc k * mtu) bytes) ∷ []
   gives-joined zero k p e l so-far =
       let last : suc (suc k) ≡ packetCount mtu s = omega arith in
-      gives-seen (suc k) (some p) none (delivered (pdu (p .stream) (p .bytes ++ dataOf mtu bytes (suc k)))) false [] (none-lost (s .lost) (suc k) 0 l .0) (at-last device mtu R flow ranges s fair k p last so-far)
+      gives-seen (suc k) (some p) none (delivered (pdu (p .stream) (p .bytes ++ segmentData mtu bytes (suc k)))) false [] (none-lost (s .lost) (suc k) 0 l .0) (at-last device mtu R flow ranges s fair k p last so-far)
       ∙ ap (λ (x : List ℕ). pdu (p .stream) (p .bytes ++ x) ∷ []) (behind-last (suc k) last)
   gives-joined (suc n) k p e l so-far =
       let inner : suc (suc k) < packetCount mtu s = omega arith in
       let size = inner-size device mtu R flow ranges s fair (suc k) inner in
       let here = none-lost (s .lost) (suc k) (suc n) l in
-      let longer : PDU = pdu (p .stream) (p .bytes ++ dataOf mtu bytes (suc k)) in
-      let longer-is : length (longer .bytes) ≡ length (p .bytes) + length (dataOf mtu bytes (suc k)) = length-append (p .bytes) (dataOf mtu bytes (suc k)) in
+      let longer : PDU = pdu (p .stream) (p .bytes ++ segmentData mtu bytes (suc k)) in
+      let longer-is : length (longer .bytes) ≡ length (p .bytes) + length (segmentData mtu bytes (suc k)) = length-append (p .bytes) (segmentData mtu bytes (suc k)) in
       gives-seen (suc k) (some p) (some longer) held false (puts (suc (suc k)) (suc n)) (here .0) (at-inner device mtu R flow ranges s fair k p inner (omega (arith, fair .fits)))
       ∙ gives-joined n (suc k) longer (omega arith) (here .1) (omega arith)
-      ∙ ap (λ (x : List ℕ). pdu (p .stream) x ∷ []) (append-assoc (p .bytes) (dataOf mtu bytes (suc k)) (drop (suc (suc k) * mtu) bytes))
+      ∙ ap (λ (x : List ℕ). pdu (p .stream) x ∷ []) (append-assoc (p .bytes) (segmentData mtu bytes (suc k)) (drop (suc (suc k) * mtu) bytes))
       ∙ ap (λ (x : List ℕ). pdu (p .stream) (p .bytes ++ x) ∷ []) (behind-inner (suc k))
 
   -- behind more bytes than that: nothing, by 9 or 11
   gives-too-long : (n k : ℕ) (p : PDU) → suc k + suc n ≡ packetCount mtu s → lossesFrom (s .lost) (suc k) (suc n) ≡ 0 → suc k * mtu < length (p .bytes)
       → gives mtu R (some p) (puts (suc k) (suc n)) ≡ []
-  gives-too-long zero k p e l long = go (decLe (length (p .bytes) + length (dataOf mtu bytes (suc k))) R)
+  gives-too-long zero k p e l long = go (decLe (length (p .bytes) + length (segmentData mtu bytes (suc k))) R)
     where
-      go : Dec (length (p .bytes) + length (dataOf mtu bytes (suc k)) ≤ R) → gives mtu R (some p) (puts (suc k) 1) ≡ []
+      go : Dec (length (p .bytes) + length (segmentData mtu bytes (suc k)) ≤ R) → gives mtu R (some p) (puts (suc k) 1) ≡ []
       go (yes room) = gives-seen (suc k) (some p) none (refused 11) true [] (none-lost (s .lost) (suc k) 0 l .0) (at-last-wrong device mtu R flow ranges s fair k p (omega arith) room (λ t. omega arith))
       go (no over) = gives-seen (suc k) (some p) none (refused 9) true [] (none-lost (s .lost) (suc k) 0 l .0) (at-over device mtu R flow ranges s fair k p (omega arith) (omega arith))
   gives-too-long (suc n) k p e l long =
-      go (decLe (length (p .bytes) + length (dataOf mtu bytes (suc k))) R) (λ q h. gives-too-long n (suc k) q (omega arith) (none-lost (s .lost) (suc k) (suc n) l .1) h)
+      go (decLe (length (p .bytes) + length (segmentData mtu bytes (suc k))) R) (λ q h. gives-too-long n (suc k) q (omega arith) (none-lost (s .lost) (suc k) (suc n) l .1) h)
     where
       inner : suc (suc k) < packetCount mtu s
       inner = omega arith
 
-      go : Dec (length (p .bytes) + length (dataOf mtu bytes (suc k)) ≤ R)
+      go : Dec (length (p .bytes) + length (segmentData mtu bytes (suc k)) ≤ R)
           → ((q : PDU) → suc (suc k) * mtu < length (q .bytes) → gives mtu R (some q) (puts (suc (suc k)) (suc n)) ≡ [])
           → gives mtu R (some p) (puts (suc k) (suc (suc n))) ≡ []
       go (yes room) rest =
           let size = inner-size device mtu R flow ranges s fair (suc k) inner in
-          let longer : PDU = pdu (p .stream) (p .bytes ++ dataOf mtu bytes (suc k)) in
-          let longer-is : length (longer .bytes) ≡ length (p .bytes) + length (dataOf mtu bytes (suc k)) = length-append (p .bytes) (dataOf mtu bytes (suc k)) in
+          let longer : PDU = pdu (p .stream) (p .bytes ++ segmentData mtu bytes (suc k)) in
+          let longer-is : length (longer .bytes) ≡ length (p .bytes) + length (segmentData mtu bytes (suc k)) = length-append (p .bytes) (segmentData mtu bytes (suc k)) in
           gives-seen (suc k) (some p) (some longer) held false (puts (suc (suc k)) (suc n)) (none-lost (s .lost) (suc k) (suc n) l .0) (at-inner device mtu R flow ranges s fair k p inner (omega arith))
           ∙ rest longer (omega arith)
       go (no over) rest =

@@ -18,7 +18,7 @@ use Rattle.wire.specs.declared.MessageSegment.{MessageSegment}
 use Rattle.wire.specs.Type11.{isSingle, mailbox}
 use Rattle.sizes.specs.Sizes.{bytesOf}
 use Rattle.rules.specs.Messages.{lastWith}
-use Rattle.messages.specs.Rows.{foundFor as found, messageOpen}
+use Rattle.messages.specs.Rows.{messageFound as found, messageOpen}
 use Rattle.contexts.specs.State.{State, freeStream, freeMessage, messageIn}
 use Rattle.streams.specs.Rows.{foundFor, flowOpen, heldBefore, total, notOpen, passesRoom, noneFree}
 use Rattle.stream_rooms.specs.Placing as placing
@@ -28,7 +28,7 @@ use Rattle.messages.specs.Joining as message
 use Rattle.reading.specs.Table.{Lent, stateIn, segmentIn, messageSegmentIn, isState, is9, wrongMemory, wrongSizes, table}
 use Rattle.reading.specs.Read.{lent, ofStream, ofMessage, leaving, outcome, reading}
 use Rattle.flows.specs.Board.{room, inRoom}
-use Rattle.sending.specs.Statements.{LengthIsMeasured}
+use Rattle.sending.specs.OfSendings.{LengthIsMeasured}
 
 -- the answer is no delivery
 abbrev NoDelivery : answers.Said → Type 0
@@ -59,14 +59,14 @@ answer-none m n marks last = go (boxes.complete m marks)
     go true = message-none n (m .source) (m .letter) (mailbox m) (m .msglen * bytesOf (m .ssize) + last)
     go false = held-none
 
-messages-none : (s : State) (memory response p : List ℕ) (m : MessageSegment) → NoDelivery (message.accepted s memory response p m .says)
-unfolding message.accepted message.alone boxes.placed
+messages-none : (s : State) (memory response p : List ℕ) (m : MessageSegment) → NoDelivery (message.messageAccepted s memory response p m .says)
+unfolding message.messageAccepted message.deliveredAtOnce boxes.messagePlaced
 messages-none s memory response p m = go (isSingle m) (messageOpen s m)
   where
     go : (a b : Bool)
-        → NoDelivery (cond a (message.alone s memory response p m (freeMessage s)) (cond b
-        (boxes.placed s memory response p m (found s m) (messageIn s (found s m) .marks) (messageIn s (found s m) .last))
-        (boxes.placed s memory response p m (freeMessage s) 0 0)) .says)
+        → NoDelivery (cond a (message.deliveredAtOnce s memory response p m (freeMessage s)) (cond b
+        (boxes.messagePlaced s memory response p m (found s m) (messageIn s (found s m) .marks) (messageIn s (found s m) .last))
+        (boxes.messagePlaced s memory response p m (freeMessage s) 0 0)) .says)
     go true b = message-none (freeMessage s) (m .source) (m .letter) (mailbox m) (m .raw)
     go false true = answer-none m (found s m) (boxes.marksWith m (messageIn s (found s m) .marks)) (lastWith m (messageIn s (found s m) .last))
     go false false = answer-none m (freeMessage s) (boxes.marksWith m 0) (lastWith m 0)
@@ -156,10 +156,10 @@ length-is-measured b p context source cos st size = by-verdict (verdict (table x
     by-type : (t : Bool) → is9 x ≡ t → none (table x)
         → (cond t
         (ofStream x (stream.accepted (stateIn x) (b .streamMemory) p (segmentIn x)))
-        (ofMessage x (message.accepted (stateIn x) (b .messageMemory) (b .response) p (messageSegmentIn x)))) .says ≡ answers.delivered context source cos st size
+        (ofMessage x (message.messageAccepted (stateIn x) (b .messageMemory) (b .response) p (messageSegmentIn x)))) .says ≡ answers.delivered context source cos st size
         → length (inRoom (stateIn x .room) ((cond t
         (ofStream x (stream.accepted (stateIn x) (b .streamMemory) p (segmentIn x)))
-        (ofMessage x (message.accepted (stateIn x) (b .messageMemory) (b .response) p (messageSegmentIn x)))) .streamMemory) context size) ≡ size
+        (ofMessage x (message.messageAccepted (stateIn x) (b .messageMemory) (b .response) p (messageSegmentIn x)))) .streamMemory) context size) ≡ size
     by-type true nine rows e = measured-stream (stateIn x) (b .streamMemory) p (segmentIn x) (placeable nine rows) context source cos st size e
     by-type false nine rows e = absurd (messages-none (stateIn x) (b .messageMemory) (b .response) p (messageSegmentIn x) context source cos st size e)
 

@@ -20,10 +20,10 @@ use Rattle.wire.specs.Parsed.{parsed, parsedByType}
 use Rattle.flows.specs.OneFlow.{PDU}
 use Rattle.flows.specs.Board.{Board, Delivery, deliveredBy, read, after, room, view}
 use Rattle.flows.specs.ByFlow.{among, AreBytes, NoFlow, ByFlow}
-use Rattle.sending.specs.Sending.{Put, flowPuts, FlowSent, Turn, next, message, sentOn, flowsOf, Event, sent, headOf, advance, events, queues, left, tell, wholes, whole, deliveries, Each, FairFlow, FairTurn}
+use Rattle.sending.specs.Sending.{Put, flowPuts, FlowSent, Turn, next, message, sentOn, flowsOf, Event, sent, headOf, advance, events, queues, packetsLeft, tell, wholes, whole, deliveries, Each, FairFlow, FairTurn}
 use Rattle.sending.specs.OneFlow.{packetStep, deliveredPDU}
 use Rattle.flows.proofs.Flows.{same-true}
-use Rattle.sending.specs.Statements.{DeliveredIsWhole, DeliveredIsWholeAnyLoss, firstTurns, DeliveredAtEveryTurn, SamePacketsSameWhole}
+use Rattle.sending.specs.OfSendings.{DeliveredIsWhole, DeliveredIsWholeAnyLoss, firstTurns, DeliveredAtEveryTurn, SamePacketsSameWhole}
 use Rattle.sending.proofs.OneFlow.{afterPut, Good, one-flow}
 use Rattle.sending.proofs.Rooms.{carried}
 use Rattle.sending.proofs.Calls.{Own, by-own}
@@ -85,25 +85,25 @@ module _ (device mtu R : ℕ) (flows : List Flow) (Ok : Board → Type 0) (law :
 
   -- one turn of a flow, and then the rest by `rest`
   turn : (flow : Flow) (q : Flow → List Put) (b : Board) (es : List Event) → Ok b → AllGood b q → Listed q
-      → ((c : Board) → Ok c → AllGood c (advance q flow) → deliveries c (left es) ≡ wholes es)
-      → deliveries b (left (headOf flow (q flow) ++ es)) ≡ wholes (headOf flow (q flow) ++ es)
+      → ((c : Board) → Ok c → AllGood c (advance q flow) → deliveries c (packetsLeft es) ≡ wholes es)
+      → deliveries b (packetsLeft (headOf flow (q flow) ++ es)) ≡ wholes (headOf flow (q flow) ++ es)
   unfolding AllGood Listed
   turn flow q b es ok good listed rest = go (q flow) refl
     where
       arrives : (x : Put) (xs : List Put) → q flow ≡ x ∷ xs → x .lost ≡ false → among flow flows ≡ true
-          → deliveries b (x .packet ∷ left es) ≡ tell flow (x .whole) (wholes es)
+          → deliveries b (x .packet ∷ packetsLeft es) ≡ tell flow (x .whole) (wholes es)
       arrives x xs e lost known =
           let p : List ℕ = x .packet in
           let g : Good device mtu R flow (view b flow) (x ∷ xs) = subst (Good device mtu R flow (view b flow)) e (good flow) in
           let o : Own Ok mtu R flow b p = by-own device mtu R flows Ok law own-R flow known b p ok (g .0) in
           let seen : deliveredPDU (packetStep mtu R (view b flow) p .told) ≡ x .whole = sym (ap (λ (t : Bool). cond t none (deliveredPDU (packetStep mtu R (view b flow) p .told))) lost) ∙ g .1 in
           let left-with : view (after b p) flow ≡ afterPut mtu R (view b flow) x = o .own ∙ sym (ap (λ (t : Bool). cond t (view b flow) (packetStep mtu R (view b flow) p .next)) lost) in
-          o .delivers (deliveries (after b p) (left es))
-          ∙ ap (λ (y : Option PDU). tell flow y (deliveries (after b p) (left es))) seen
+          o .delivers (deliveries (after b p) (packetsLeft es))
+          ∙ ap (λ (y : Option PDU). tell flow y (deliveries (after b p) (packetsLeft es))) seen
           ∙ ap (tell flow (x .whole)) (rest (after b p) (o .ok) (moved b (after b p) q flow x xs e good left-with (o .others)))
 
       at : (x : Put) (xs : List Put) → q flow ≡ x ∷ xs → (t : Bool) → x .lost ≡ t → (k : Bool) → among flow flows ≡ k
-          → deliveries b (cond t (left es) (x .packet ∷ left es)) ≡ tell flow (x .whole) (wholes es)
+          → deliveries b (cond t (packetsLeft es) (x .packet ∷ packetsLeft es)) ≡ tell flow (x .whole) (wholes es)
       at x xs e t lost false known = absurd (nothing (sym e ∙ listed flow known))
         where
           nothing : x ∷ xs ≡ [] → ⊥
@@ -115,7 +115,7 @@ module _ (device mtu R : ℕ) (flows : List Flow) (Ok : Board → Type 0) (law :
           ∙ ap (λ (y : Option PDU). tell flow y (wholes es)) w
       at x xs e false lost true known = arrives x xs e lost known
 
-      go : (l : List Put) → q flow ≡ l → deliveries b (left (headOf flow l ++ es)) ≡ wholes (headOf flow l ++ es)
+      go : (l : List Put) → q flow ≡ l → deliveries b (packetsLeft (headOf flow l ++ es)) ≡ wholes (headOf flow l ++ es)
       go [] e = rest b ok (passed b q flow e good)
       go (x ∷ xs) e = at x xs e (x .lost) refl (among flow flows) refl
 
@@ -127,12 +127,12 @@ module _ (device mtu R : ℕ) (flows : List Flow) (Ok : Board → Type 0) (law :
       go (inl y) = law .of-message b p (y .0) ok (m .1) (y .1)
       go (inr y) = law .of-refused b p (y .0) ok (m .1) (y .1)
 
-  merge : (ts : List Turn) (q : Flow → List Put) (b : Board) → Ok b → AllGood b q → Listed q → Each FairTurn ts → deliveries b (left (events q ts)) ≡ wholes (events q ts)
+  merge : (ts : List Turn) (q : Flow → List Put) (b : Board) → Ok b → AllGood b q → Listed q → Each FairTurn ts → deliveries b (packetsLeft (events q ts)) ≡ wholes (events q ts)
   merge [] q b ok good listed fair = refl
   merge (message p ∷ ts) q b ok good listed fair =
       let no : NoFlow Ok R b p = between b p ok (fair .0) in
-      ap (λ (r : ℕ). deliveredBy r (after b p .streamMemory) (read b p .says) ++ deliveries (after b p) (left (events q ts))) (own-R (after b p) (no .ok))
-      ∙ ap (λ (ds : List Delivery). ds ++ deliveries (after b p) (left (events q ts))) (no .tells)
+      ap (λ (r : ℕ). deliveredBy r (after b p .streamMemory) (read b p .says) ++ deliveries (after b p) (packetsLeft (events q ts))) (own-R (after b p) (no .ok))
+      ∙ ap (λ (ds : List Delivery). ds ++ deliveries (after b p) (packetsLeft (events q ts))) (no .tells)
       ∙ merge ts q (after b p) (no .ok) (unfold AllGood in (λ flow. subst (λ (o : Option PDU). Good device mtu R flow o (q flow)) (sym (no .views flow)) (good flow))) listed (fair .1)
   merge (next flow ∷ ts) q b ok good listed fair =
       turn flow q b (events (advance q flow) ts) ok good listed (λ c ok′ good′. merge ts (advance q flow) c ok′ good′ (listed-on q flow listed) (fair .1))

@@ -9,10 +9,10 @@ use lib.Dec.{ltb}
 use borrow.Author.Tests.{ltb-true}
 use Rattle.wire.specs.Type9.{sameFlow}
 use Rattle.sizes.specs.Sizes.{badMTU}
-use Rattle.cutting.specs.Cutting.{segmentCount, dataOf, isFirst, isFinal, padOf, flagsOf, fieldOf, packetOf}
+use Rattle.cutting.specs.Cutting.{segmentCount, segmentData, isFirst, isFinal, padOf, flagsOf, fieldOf, packetOf}
 use Rattle.flows.specs.ByFlow.{AreBytes}
 use Rattle.sending.specs.Sending.{putOf, FairPDU, Fair}
-use Rattle.sending.specs.Mixture.{lossy, sound, odd, letterOne, reservedSize, mixture, MixtureIsFair}
+use Rattle.sending.specs.Mixture.{lossy, sound, odd, letterOne, reservedSsize, mixture, MixtureIsFair}
 
 -- whether every number of a list is below a bound
 under : ℕ → List ℕ → Bool
@@ -59,11 +59,11 @@ fair-mixture = record {
       record { source = omega arith; cos = omega arith; PDUs = (fair-lossy, (fair-sound, tt)); apart = (refl, tt) },
       (record { source = omega arith; cos = omega arith; PDUs = (fair-odd, tt); apart = tt }, tt),
     );
-    turns = (tt, (tt, ((refl, are-bytes letterOne refl), (tt, (tt, ((refl, are-bytes reservedSize refl), (tt, (tt, (tt, tt)))))))));
+    turns = (tt, (tt, ((refl, are-bytes letterOne refl), (tt, (tt, ((refl, are-bytes reservedSsize refl), (tt, (tt, (tt, tt)))))))));
   };
   one-loss = ((omega arith, (omega arith, tt)), ((omega arith, tt), tt));
 }
 
 pub mixture-is-fair : MixtureIsFair
-unfolding segmentCount dataOf isFirst isFinal padOf flagsOf fieldOf packetOf putOf sameFlow
+unfolding segmentCount segmentData isFirst isFinal padOf flagsOf fieldOf packetOf putOf sameFlow
 mixture-is-fair = record { fair = fair-mixture; loses = refl; left = refl; complete = refl }

@@ -21,10 +21,10 @@ use Rattle.message_rooms.specs.Placing as boxes
 use Rattle.messages.specs.Joining as message
 use Rattle.reading.specs.Table.{wrongSizes, table}
 use Rattle.reading.specs.Read.{reading}
-use Rattle.cutting.specs.Cutting.{segmentCount, dataOf, isFirst, isFinal, padOf, flagsOf, fieldOf, packetOf}
+use Rattle.cutting.specs.Cutting.{segmentCount, segmentData, isFirst, isFinal, padOf, flagsOf, fieldOf, packetOf}
 use Rattle.sending.specs.Sending.{putOf}
 use Rattle.sending.specs.Mixture.{MixtureDelivered}
 
 pub mixture-delivered : MixtureDelivered
-unfolding written firstOf any rows joined verdict badMTU sameFlow segmentAt segmentOf pduLength dataLength messageOf bytesOf inEights responseTo answered isFreeStream isFreeMessage isOfFlow isOfMessage flowContext freeStream messageContext freeMessage stateOf wordsOf badRoom badStream badMessage namedBy19 malformed reservedSize badLength pastLast streamRows.missized streamRows.notOpen streamRows.passesRoom streamRows.noneFree streamRows.lengthDiffers placing.placed stream.accepted stream.refusedClosing messageRows.foundFor messageRows.otherMessage messageRows.alreadyMarked messageRows.noneFree message.alone boxes.placed message.accepted wrongSizes table reading segmentCount dataOf isFirst isFinal padOf flagsOf fieldOf packetOf putOf
+unfolding written firstOf any rows joined verdict badMTU sameFlow segmentAt segmentOf pduLength dataLength messageOf bytesOf inEights responseTo answered isFreeStream isFreeMessage isOfFlow isOfMessage flowContext freeStream messageContext freeMessage stateOf wordsOf badRoom badStream badMessage namedBy19 malformed reservedSize badLength pastLast streamRows.missized streamRows.notOpen streamRows.passesRoom streamRows.noneFree streamRows.lengthDiffers placing.placed stream.accepted stream.refusedClosing messageRows.messageFound messageRows.otherMessage messageRows.alreadyMarked messageRows.neededNoneFree message.deliveredAtOnce boxes.messagePlaced message.messageAccepted wrongSizes table reading segmentCount segmentData isFirst isFinal padOf flagsOf fieldOf packetOf putOf
 mixture-delivered = refl

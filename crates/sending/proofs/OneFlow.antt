@@ -14,10 +14,10 @@ use Rattle.wire.specs.declared.Flow.{Flow}
 use Rattle.wire.specs.declared.Parsed.the-variants.{Stream}
 use Rattle.wire.specs.Type9.{segmentOf}
 use Rattle.wire.specs.Parsed.{parsed}
-use Rattle.cutting.specs.Cutting.{dataOf, isFinal, packetOf}
-use Rattle.flows.specs.OneFlow.{PDU, pdu, Told, held, delivered, refused, outcome, isOpen}
+use Rattle.cutting.specs.Cutting.{segmentData, isFinal, packetOf}
+use Rattle.flows.specs.OneFlow.{PDU, pdu, Told, held, delivered, refused, flowOutcome, isOpen}
 use Rattle.flows.specs.ByFlow.{AreBytes}
-use Rattle.sending.specs.Sending.{Sent, isLost, packetCount, lossesFrom, losses, isWhole, Put, headingOf, putOf, putsFrom, flowPuts, Each, FairPDU, Apart, Ranges}
+use Rattle.sending.specs.Sending.{Sent, isLost, packetCount, lossesFrom, losses, isWhole, Put, headingFor, putOf, putsFrom, flowPuts, Each, FairPDU, Apart, Ranges}
 use Rattle.sending.specs.OneFlow.{packetStep, deliveredPDU}
 use Rattle.sending.proofs.Losses.{none-lost}
 use Rattle.sending.proofs.Steps.{mtu-pos, packet-read, packet-bytes, packet-flow, final-is, inner-is, some-packet, last-size, inner-size, data-behind, all-taken, at-single, at-start, at-inner, at-last, at-last-wrong, at-closed}
@@ -43,7 +43,7 @@ Good device mtu R flow o (x ∷ xs) = Proper device flow (x .packet) × (seenAt 
 
 -- packet k is
 pub proper-packet : (device mtu R : ℕ) (flow : Flow) → Ranges device mtu R flow → (s : Sent) → FairPDU R s → (k : ℕ) → k < packetCount mtu s
-    → Proper device flow (packetOf (headingOf device flow s k) mtu (s .pdu .bytes) k)
+    → Proper device flow (packetOf (headingFor device flow s k) mtu (s .pdu .bytes) k)
 proper-packet device mtu R flow ranges s fair k below = record {
   reads = packet-read device mtu R flow ranges s fair k below;
   of-flow = packet-flow device mtu R flow ranges s fair k;
@@ -55,7 +55,7 @@ module _ (device mtu R : ℕ) (flow : Flow) (ranges : Ranges device mtu R flow) 
   Good′ = Good device mtu R flow
 
   abbrev packet : ℕ → List ℕ
-  packet k = packetOf (headingOf device flow s k) mtu (s .pdu .bytes) k
+  packet k = packetOf (headingFor device flow s k) mtu (s .pdu .bytes) k
 
   abbrev put : ℕ → Put
   put k = putOf device mtu flow s k
@@ -70,7 +70,7 @@ module _ (device mtu R : ℕ) (flow : Flow) (ranges : Ranges device mtu R flow) 
   put-lost k o xs below e w g = (proper k below, rw e (sym w), rw e g)
 
   put-seen : (k : ℕ) (o o′ : Option PDU) (told : Told) (dropped : Bool) (xs : List Put) → k < packetCount mtu s → isLost s k ≡ false
-      → packetStep mtu R o (packet k) ≡ outcome o′ told dropped → deliveredPDU told ≡ put k .whole → Good′ o′ xs → Good′ o (put k ∷ xs)
+      → packetStep mtu R o (packet k) ≡ flowOutcome o′ told dropped → deliveredPDU told ≡ put k .whole → Good′ o′ xs → Good′ o (put k ∷ xs)
   unfolding putOf
   put-seen k o o′ told dropped xs below e step w g =
       (proper k below, rw (e, step) w, rw (e, step) g)
@@ -111,7 +111,7 @@ module _ (device mtu R : ℕ) (flow : Flow) (ranges : Ranges device mtu R flow) 
       let here = none-lost (s .lost) (suc k) (suc n) l in
       put-seen (suc k) _ _ _ false (putsFrom device mtu flow s (suc (suc k)) (suc n) ++ more) (omega arith) (here .0)
       (at-inner device mtu R flow ranges s fair k (pdu (s .pdu .stream) (take (suc k * mtu) (s .pdu .bytes))) inner (omega (arith, fair .fits))
-      ∙ ap (λ (b : List ℕ). outcome (some (pdu (s .pdu .stream) b)) held false) (data-behind device mtu R flow ranges s fair (suc k)))
+      ∙ ap (λ (b : List ℕ). flowOutcome (some (pdu (s .pdu .stream) b)) held false) (data-behind device mtu R flow ranges s fair (suc k)))
       (sym (whole-inner (suc k) inner))
       (tail-whole n (suc k) (omega arith) w (here .1) g)
 
@@ -153,10 +153,10 @@ module _ (device mtu R : ℕ) (flow : Flow) (ranges : Ranges device mtu R flow) 
       others = putsFrom device mtu flow s (suc (suc k)) (suc n) ++ more
 
       longer : PDU
-      longer = pdu (p .stream) (p .bytes ++ dataOf mtu (s .pdu .bytes) (suc k))
+      longer = pdu (p .stream) (p .bytes ++ segmentData mtu (s .pdu .bytes) (suc k))
 
       longer-is : length (longer .bytes) ≡ length (p .bytes) + mtu
-      longer-is = length-append (p .bytes) (dataOf mtu (s .pdu .bytes) (suc k)) ∙ ap (λ (x : ℕ). length (p .bytes) + x) (inner-size device mtu R flow ranges s fair (suc k) inner .1)
+      longer-is = length-append (p .bytes) (segmentData mtu (s .pdu .bytes) (suc k)) ∙ ap (λ (x : ℕ). length (p .bytes) + x) (inner-size device mtu R flow ranges s fair (suc k) inner .1)
 
       Why : PDU → Type 0
       Why q = (length (q .bytes) < suc (suc k) * mtu) ⊎ (0 < lossesFrom (s .lost) (suc (suc k)) (suc n))

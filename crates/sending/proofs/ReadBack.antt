@@ -9,12 +9,12 @@ use lib.ListN.{length, take}
 use lib.Seq.{length-take-le}
 use Rattle.answers.specs.Answers as answers
 use Rattle.wire.specs.declared.Flow.{Flow}
-use Rattle.flows.specs.OneFlow.{PDU, pdu, Told, held, delivered, refused, Outcome, outcome}
+use Rattle.flows.specs.OneFlow.{PDU, pdu, Told, held, delivered, refused, FlowOutcome, flowOutcome}
 use Rattle.flows.specs.Board.{Board, Delivery, delivery, deliveredBy, read, inRoom, view}
 use Rattle.flows.specs.ByFlow.{Tells}
 use Rattle.sending.specs.Sending.{Sent, packetCount, FairPDU, Ranges}
 use Rattle.sending.specs.OneFlow.{packetStep}
-use Rattle.sending.specs.Statements.{packetAt, boardAt, HandsBack, ReadsBack, ReadBack}
+use Rattle.sending.specs.OfSendings.{packetAt, boardAt, HandsBack, ReadsBack, ReadBack}
 use Rattle.sending.proofs.Steps.{inner-size, data-behind, all-taken, at-single, at-start, at-inner, at-last}
 use Rattle.sending.proofs.OneFlow.{proper-packet}
 use Rattle.sending.proofs.Rooms.{Carried, carried}
@@ -85,20 +85,20 @@ module _ (device mtu R : ℕ) (flow : Flow) (s : Sent) (b : Board) (ranges : Ran
   so-far k h = let z = inner-size device mtu R flow ranges s fair k h in length-take-le (suc k * mtu) bytes (omega arith)
 
   -- what the endpoint does at it
-  step-inner : (k : ℕ) → suc k < packetCount mtu s → (dropped : Bool) × (packetStep mtu R (before k) (packetAt device mtu flow s k) ≡ outcome (before (suc k)) held dropped)
+  step-inner : (k : ℕ) → suc k < packetCount mtu s → (dropped : Bool) × (packetStep mtu R (before k) (packetAt device mtu flow s k) ≡ flowOutcome (before (suc k)) held dropped)
   step-inner zero h = (false, at-start device mtu R flow ranges s fair none h)
   step-inner (suc k) h =
       let l = so-far k (omega arith) in
       let z = inner-size device mtu R flow ranges s fair (suc k) h in (
         false,
         at-inner device mtu R flow ranges s fair k (pdu (s .pdu .stream) (take (suc k * mtu) bytes)) h (omega (arith, fair .fits))
-            ∙ ap (λ (x : List ℕ). outcome (some (pdu (s .pdu .stream) x)) held false) (data-behind device mtu R flow ranges s fair (suc k)),
+            ∙ ap (λ (x : List ℕ). flowOutcome (some (pdu (s .pdu .stream) x)) held false) (data-behind device mtu R flow ranges s fair (suc k)),
       )
 
   step-last : (k : ℕ) → suc k ≡ packetCount mtu s → packetStep mtu R (before k) (packetAt device mtu flow s k) .told ≡ delivered (s .pdu)
-  step-last zero e = ap (λ (x : Outcome). x .told) (at-single device mtu R flow ranges s fair none e)
+  step-last zero e = ap (λ (x : FlowOutcome). x .told) (at-single device mtu R flow ranges s fair none e)
   step-last (suc k) e =
-      ap (λ (x : Outcome). x .told) (at-last device mtu R flow ranges s fair k (pdu (s .pdu .stream) (take (suc k * mtu) bytes)) e (so-far k (omega arith)))
+      ap (λ (x : FlowOutcome). x .told) (at-last device mtu R flow ranges s fair k (pdu (s .pdu .stream) (take (suc k * mtu) bytes)) e (so-far k (omega arith)))
       ∙ ap (λ (x : List ℕ). delivered (pdu (s .pdu .stream) x)) (data-behind device mtu R flow ranges s fair (suc k) ∙ all-taken device mtu R flow ranges s fair (suc k) e)
 
   -- the board before packet k
@@ -118,7 +118,7 @@ module _ (device mtu R : ℕ) (flow : Flow) (s : Sent) (b : Board) (ranges : Ran
       let c = call k (omega arith) at in
       record {
         ok = c .ok;
-        has = c .own ∙ ap (λ (o : Option PDU). packetStep mtu R o (packetAt device mtu flow s k) .next) (at .has) ∙ ap (λ (x : Outcome). x .next) (step-inner k below .1);
+        has = c .own ∙ ap (λ (o : Option PDU). packetStep mtu R o (packetAt device mtu flow s k) .next) (at .has) ∙ ap (λ (x : FlowOutcome). x .next) (step-inner k below .1);
       }
 
   tells-at : (k : ℕ) (told : Told) → k < packetCount mtu s → packetStep mtu R (before k) (packetAt device mtu flow s k) .told ≡ told
@@ -130,7 +130,7 @@ module _ (device mtu R : ℕ) (flow : Flow) (s : Sent) (b : Board) (ranges : Ran
 
   reads-back : ReadsBack device mtu R flow s b
   reads-back = record {
-    each = λ k h. tells-at k held (omega arith) (ap (λ (x : Outcome). x .told) (step-inner k h .1));
+    each = λ k h. tells-at k held (omega arith) (ap (λ (x : FlowOutcome). x .told) (step-inner k h .1));
     last = λ k e.
         hands-back R flow (s .pdu) (boardAt device mtu flow s b (suc k)) _
         (λ context source cos stream size e′.

@@ -11,7 +11,7 @@ use Rattle.wire.specs.declared.MessageSegment.{MessageSegment}
 use Rattle.wire.specs.Type11.{isSingle}
 use Rattle.contexts.specs.State.{State, freeMessage, messageIn}
 use Rattle.contexts.specs.Words.{stateOf, wordsOf}
-use Rattle.messages.specs.Rows.{foundFor as found, messageOpen}
+use Rattle.messages.specs.Rows.{messageFound as found, messageOpen}
 use Rattle.stream_rooms.specs.Placing as placing
 use Rattle.streams.specs.Joining as stream
 use Rattle.message_rooms.specs.Placing as boxes
@@ -20,7 +20,7 @@ use Rattle.reading.specs.Table.{Lent, stateIn, segmentIn, messageSegmentIn, is9
 use Rattle.reading.specs.Read.{lent, ofStream, ofMessage, leaving, outcome, reading}
 use Rattle.flows.specs.Board.{Board, after, room, view}
 use Rattle.flows.specs.ByFlow.{OwnFlow, NoFlow, ByFlow}
-use Rattle.sending.specs.Statements.{Begins}
+use Rattle.sending.specs.OfSendings.{Begins}
 
 -- words tell the R of their state
 words-room : (s : State) → stateOf (wordsOf s) .room ≡ s .room
@@ -34,14 +34,14 @@ refused-room x number flowClosed = words-room (stream.refusedClosing (stateIn x)
 refused-room x number allERROR = refl
 refused-room x number allRETRY = refl
 
-message-room : (s : State) (memory response p : List ℕ) (m : MessageSegment) → message.accepted s memory response p m .state .room ≡ s .room
-unfolding message.accepted message.alone boxes.placed
+message-room : (s : State) (memory response p : List ℕ) (m : MessageSegment) → message.messageAccepted s memory response p m .state .room ≡ s .room
+unfolding message.messageAccepted message.deliveredAtOnce boxes.messagePlaced
 message-room s memory response p m = go (isSingle m) (messageOpen s m)
   where
     go : (a b : Bool)
-        → cond a (message.alone s memory response p m (freeMessage s)) (cond b
-        (boxes.placed s memory response p m (found s m) (messageIn s (found s m) .marks) (messageIn s (found s m) .last))
-        (boxes.placed s memory response p m (freeMessage s) 0 0)) .state .room ≡ s .room
+        → cond a (message.deliveredAtOnce s memory response p m (freeMessage s)) (cond b
+        (boxes.messagePlaced s memory response p m (found s m) (messageIn s (found s m) .marks) (messageIn s (found s m) .last))
+        (boxes.messagePlaced s memory response p m (freeMessage s) 0 0)) .state .room ≡ s .room
     go true b = refl
     go false true = refl
     go false false = refl
@@ -49,11 +49,11 @@ message-room s memory response p m = go (isSingle m) (messageOpen s m)
 accepted-room : (x : Lent) (t : Bool)
     → stateOf (cond t
     (ofStream x (stream.accepted (stateIn x) (x .streamMemory) (x .packet) (segmentIn x)))
-    (ofMessage x (message.accepted (stateIn x) (x .messageMemory) (x .response) (x .packet) (messageSegmentIn x))) .words) .room ≡ stateIn x .room
+    (ofMessage x (message.messageAccepted (stateIn x) (x .messageMemory) (x .response) (x .packet) (messageSegmentIn x))) .words) .room ≡ stateIn x .room
 unfolding stream.accepted placing.placed
 accepted-room x true = words-room (stream.accepted (stateIn x) (x .streamMemory) (x .packet) (segmentIn x) .state)
 accepted-room x false =
-    words-room (message.accepted (stateIn x) (x .messageMemory) (x .response) (x .packet) (messageSegmentIn x) .state)
+    words-room (message.messageAccepted (stateIn x) (x .messageMemory) (x .response) (x .packet) (messageSegmentIn x) .state)
     ∙ message-room (stateIn x) (x .messageMemory) (x .response) (x .packet) (messageSegmentIn x)
 
 pub room-stays : (b : Board) (p : List ℕ) → room (after b p) ≡ room b

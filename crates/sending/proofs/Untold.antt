@@ -11,8 +11,8 @@ use lib.Dec.{eqb, leb}
 use borrow.Author.Tests.{eqb-true, leb-true, eq-eqb, ne-eqb}
 use Rattle.wire.specs.declared.Flow.{Flow}
 use Rattle.lists.specs.Bytes.{high, low}
-use Rattle.cutting.specs.Cutting.{segmentCount, dataOf, isFirst, isFinal, padOf, flagsOf, fieldOf, packetOf}
-use Rattle.sending.specs.Sending.{Sent, isLost, priorityOf, packetCount, lossesFrom, losses, Put, headingOf, putOf, putsFrom, flowPuts, FairPDU}
+use Rattle.cutting.specs.Cutting.{segmentCount, segmentData, isFirst, isFinal, padOf, flagsOf, fieldOf, packetOf}
+use Rattle.sending.specs.Sending.{Sent, isLost, priorityOf, packetCount, lossesFrom, losses, Put, headingFor, putOf, putsFrom, flowPuts, FairPDU}
 use Rattle.sending.specs.OneFlow.{arriving}
 use Rattle.sending.specs.Joint.{isJoint, jointPDU, pairPackets, Pair, jointSent, JointUntold}
 use Rattle.sending.proofs.Cut.{bytes-append, bytes-take, bytes-drop}
@@ -41,7 +41,7 @@ is-joint mtu a b e = go (eqb (packetCount mtu a) 2) (isLost a 1) (leb 2 (packetC
 -- n packets from number k on
 abbrev packetsFrom : (device mtu : ℕ) → Flow → Sent → (k n : ℕ) → List (List ℕ)
 packetsFrom device mtu flow s k zero = []
-packetsFrom device mtu flow s k (suc n) = packetOf (headingOf device flow s k) mtu (s .pdu .bytes) k ∷ packetsFrom device mtu flow s (suc k) n
+packetsFrom device mtu flow s k (suc n) = packetOf (headingFor device flow s k) mtu (s .pdu .bytes) k ∷ packetsFrom device mtu flow s (suc k) n
 
 -- none of them lost, they all arrive
 module _ (device mtu : ℕ) (flow : Flow) (s : Sent) (more : List Put) where
@@ -49,7 +49,7 @@ module _ (device mtu : ℕ) (flow : Flow) (s : Sent) (more : List Put) where
   unfolding putOf
   arriving-lost k xs e = rw e
 
-  arriving-seen : (k : ℕ) (xs : List Put) → isLost s k ≡ false → arriving (putOf device mtu flow s k ∷ xs) ≡ packetOf (headingOf device flow s k) mtu (s .pdu .bytes) k ∷ arriving xs
+  arriving-seen : (k : ℕ) (xs : List Put) → isLost s k ≡ false → arriving (putOf device mtu flow s k ∷ xs) ≡ packetOf (headingFor device flow s k) mtu (s .pdu .bytes) k ∷ arriving xs
   unfolding putOf
   arriving-seen k xs e = rw e
 
@@ -57,7 +57,7 @@ module _ (device mtu : ℕ) (flow : Flow) (s : Sent) (more : List Put) where
   all-arrive zero k e = refl
   all-arrive (suc n) k e =
       let h = none-lost (s .lost) k n e in
-      arriving-seen k (putsFrom device mtu flow s (suc k) n ++ more) (h .0) ∙ ap (λ (l : List (List ℕ)). packetOf (headingOf device flow s k) mtu (s .pdu .bytes) k ∷ l) (all-arrive n (suc k) (h .1))
+      arriving-seen k (putsFrom device mtu flow s (suc k) n ++ more) (h .0) ∙ ap (λ (l : List (List ℕ)). packetOf (headingFor device flow s k) mtu (s .pdu .bytes) k ∷ l) (all-arrive n (suc k) (h .1))
 
 -- ---- Two packets are the same by their parts
 
@@ -78,8 +78,8 @@ abbrev fieldAt : ℕ → Sent → ℕ → List ℕ
 fieldAt mtu s k = fieldOf (isFirst k) (isFinal mtu (s .pdu .bytes) k) (s .pdu .stream) (length (s .pdu .bytes))
 
 same-packet : (device mtu : ℕ) (flow : Flow) (s s′ : Sent) (k : ℕ) → priorityOf s k ≡ priorityOf s′ k → isFinal mtu (s .pdu .bytes) k ≡ isFinal mtu (s′ .pdu .bytes) k
-    → fieldAt mtu s k ≡ fieldAt mtu s′ k → dataOf mtu (s .pdu .bytes) k ≡ dataOf mtu (s′ .pdu .bytes) k
-    → packetOf (headingOf device flow s k) mtu (s .pdu .bytes) k ≡ packetOf (headingOf device flow s′ k) mtu (s′ .pdu .bytes) k
+    → fieldAt mtu s k ≡ fieldAt mtu s′ k → segmentData mtu (s .pdu .bytes) k ≡ segmentData mtu (s′ .pdu .bytes) k
+    → packetOf (headingFor device flow s k) mtu (s .pdu .bytes) k ≡ packetOf (headingFor device flow s′ k) mtu (s′ .pdu .bytes) k
 unfolding packetOf
 same-packet device mtu flow s s′ k e₁ e₂ e₃ e₄ = same-parts device flow k _ _ _ _ _ _ _ _ e₁ e₂ e₃ e₄
 
@@ -97,8 +97,8 @@ module _ (device mtu R : ℕ) (flow : Flow) (a b : Sent) (pair : Pair device mtu
   same-length : length (jointPDU mtu a b .bytes) ≡ length (b .pdu .bytes)
   same-length = joint-length device mtu R flow a b pair test
 
-  later-data : (k : ℕ) → dataOf mtu (jointPDU mtu a b .bytes) (suc k) ≡ dataOf mtu (b .pdu .bytes) (suc k)
-  unfolding dataOf
+  later-data : (k : ℕ) → segmentData mtu (jointPDU mtu a b .bytes) (suc k) ≡ segmentData mtu (b .pdu .bytes) (suc k)
+  unfolding segmentData
   later-data k = ap (take mtu) (
       ap (λ (n : ℕ). drop n (jointPDU mtu a b .bytes)) (let e : suc k * mtu ≡ length (take mtu (a .pdu .bytes)) + k * mtu = omega (arith, front-length) in e)
       ∙ drop-append-add (take mtu (a .pdu .bytes)) (drop mtu (b .pdu .bytes)) (k * mtu)
@@ -106,18 +106,18 @@ module _ (device mtu R : ℕ) (flow : Flow) (a b : Sent) (pair : Pair device mtu
       ∙ ap (λ (n : ℕ). drop n (b .pdu .bytes)) (let e : mtu + k * mtu ≡ suc k * mtu = omega arith in e)
       )
 
-  first-data : dataOf mtu (jointPDU mtu a b .bytes) 0 ≡ dataOf mtu (a .pdu .bytes) 0
-  unfolding dataOf
+  first-data : segmentData mtu (jointPDU mtu a b .bytes) 0 ≡ segmentData mtu (a .pdu .bytes) 0
+  unfolding segmentData
   first-data = rw (zero-mul mtu) (take-at (take mtu (a .pdu .bytes)) (drop mtu (b .pdu .bytes)) mtu front-length)
 
-  first-packet : packetOf (headingOf device flow (jointSent mtu a b) 0) mtu (jointPDU mtu a b .bytes) 0 ≡ packetOf (headingOf device flow a 0) mtu (a .pdu .bytes) 0
+  first-packet : packetOf (headingFor device flow (jointSent mtu a b) 0) mtu (jointPDU mtu a b .bytes) 0 ≡ packetOf (headingFor device flow a 0) mtu (a .pdu .bytes) 0
   unfolding isFirst isFinal fieldOf
   first-packet =
       same-packet device mtu flow (jointSent mtu a b) a 0 refl
       (ne-eqb (0 + 1) (packetCount mtu (jointSent mtu a b)) (λ e. omega (arith, j .several, ap (segmentCount mtu) same-length)) ∙ sym (ne-eqb (0 + 1) (packetCount mtu a) (λ e. omega (arith, j .two))))
       refl first-data
 
-  later-packet : (k : ℕ) → packetOf (headingOf device flow (jointSent mtu a b) (suc k)) mtu (jointPDU mtu a b .bytes) (suc k) ≡ packetOf (headingOf device flow b (suc k)) mtu (b .pdu .bytes) (suc k)
+  later-packet : (k : ℕ) → packetOf (headingFor device flow (jointSent mtu a b) (suc k)) mtu (jointPDU mtu a b .bytes) (suc k) ≡ packetOf (headingFor device flow b (suc k)) mtu (b .pdu .bytes) (suc k)
   unfolding isFirst isFinal
   later-packet k =
       let final : isFinal mtu (jointPDU mtu a b .bytes) (suc k) ≡ isFinal mtu (b .pdu .bytes) (suc k) = ap (λ (n : ℕ). eqb (suc k + 1) (segmentCount mtu n)) same-length in
@@ -132,7 +132,7 @@ module _ (device mtu R : ℕ) (flow : Flow) (a b : Sent) (pair : Pair device mtu
   later-packets zero k = refl
   later-packets (suc n) k =
       ap (λ (p : List ℕ). p ∷ packetsFrom device mtu flow (jointSent mtu a b) (suc (suc k)) n) (later-packet k)
-      ∙ ap (λ (l : List (List ℕ)). packetOf (headingOf device flow b (suc k)) mtu (b .pdu .bytes) (suc k) ∷ l) (later-packets n (suc k))
+      ∙ ap (λ (l : List (List ℕ)). packetOf (headingFor device flow b (suc k)) mtu (b .pdu .bytes) (suc k) ∷ l) (later-packets n (suc k))
 
   -- the first's start arrives, since its end is the one that is lost
   start-arrives : isLost a 0 ≡ false
@@ -145,11 +145,11 @@ module _ (device mtu R : ℕ) (flow : Flow) (a b : Sent) (pair : Pair device mtu
       go true e = absurd (omega (arith, count-lost (a .lost) 0 1 0 e one, lost-counts (a .lost) 1 1 1 (j .end-lost) (omega arith) (omega arith)))
       go false e = refl
 
-  first-left : (more : List Put) → arriving (putsFrom device mtu flow a 0 (packetCount mtu a) ++ more) ≡ packetOf (headingOf device flow a 0) mtu (a .pdu .bytes) 0 ∷ arriving more
+  first-left : (more : List Put) → arriving (putsFrom device mtu flow a 0 (packetCount mtu a) ++ more) ≡ packetOf (headingFor device flow a 0) mtu (a .pdu .bytes) 0 ∷ arriving more
   first-left more =
-      subst (λ (c : ℕ). arriving (putsFrom device mtu flow a 0 c ++ more) ≡ packetOf (headingOf device flow a 0) mtu (a .pdu .bytes) 0 ∷ arriving more) (sym (j .two))
+      subst (λ (c : ℕ). arriving (putsFrom device mtu flow a 0 c ++ more) ≡ packetOf (headingFor device flow a 0) mtu (a .pdu .bytes) 0 ∷ arriving more) (sym (j .two))
       (arriving-seen device mtu flow a more 0 (putOf device mtu flow a 1 ∷ more) start-arrives
-      ∙ ap (λ (l : List (List ℕ)). packetOf (headingOf device flow a 0) mtu (a .pdu .bytes) 0 ∷ l) (arriving-lost device mtu flow a more 1 more (j .end-lost)))
+      ∙ ap (λ (l : List (List ℕ)). packetOf (headingFor device flow a 0) mtu (a .pdu .bytes) 0 ∷ l) (arriving-lost device mtu flow a more 1 more (j .end-lost)))
 
   second-left : (n : ℕ) → packetCount mtu b ≡ suc n → arriving (putsFrom device mtu flow b 0 (packetCount mtu b) ++ []) ≡ packetsFrom device mtu flow b 1 n ++ []
   second-left n e =
@@ -159,7 +159,7 @@ module _ (device mtu R : ℕ) (flow : Flow) (a b : Sent) (pair : Pair device mtu
       ∙ all-arrive device mtu flow b [] n 1 (count-lost (b .lost) 0 n 0 (j .start-lost) one))
 
   joint-left : (n : ℕ) → packetCount mtu b ≡ suc n
-      → arriving (flowPuts device mtu flow (jointSent mtu a b ∷ [])) ≡ packetOf (headingOf device flow (jointSent mtu a b) 0) mtu (jointPDU mtu a b .bytes) 0 ∷ (packetsFrom device mtu flow (jointSent mtu a b) 1 n ++ [])
+      → arriving (flowPuts device mtu flow (jointSent mtu a b ∷ [])) ≡ packetOf (headingFor device flow (jointSent mtu a b) 0) mtu (jointPDU mtu a b .bytes) 0 ∷ (packetsFrom device mtu flow (jointSent mtu a b) 1 n ++ [])
   joint-left n e =
       let count : packetCount mtu (jointSent mtu a b) ≡ suc n = ap (segmentCount mtu) same-length ∙ e in
       all-arrive device mtu flow (jointSent mtu a b) [] (packetCount mtu (jointSent mtu a b)) 0 (no-losses 0 (packetCount mtu (jointSent mtu a b)))
@@ -172,7 +172,7 @@ module _ (device mtu R : ℕ) (flow : Flow) (a b : Sent) (pair : Pair device mtu
       go zero e = absurd (omega (arith, j .several))
       go (suc n) e =
           first-left (putsFrom device mtu flow b 0 (packetCount mtu b) ++ [])
-          ∙ ap (λ (l : List (List ℕ)). packetOf (headingOf device flow a 0) mtu (a .pdu .bytes) 0 ∷ l) (second-left n e ∙ ap (λ (l : List (List ℕ)). l ++ []) (sym (later-packets n 0)))
+          ∙ ap (λ (l : List (List ℕ)). packetOf (headingFor device flow a 0) mtu (a .pdu .bytes) 0 ∷ l) (second-left n e ∙ ap (λ (l : List (List ℕ)). l ++ []) (sym (later-packets n 0)))
           ∙ ap (λ (p : List ℕ). p ∷ (packetsFrom device mtu flow (jointSent mtu a b) 1 n ++ [])) (sym first-packet)
           ∙ sym (joint-left n e)
 

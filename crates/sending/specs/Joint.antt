@@ -12,7 +12,7 @@ use Rattle.flows.specs.OneFlow.{PDU, pdu}
 use Rattle.flows.specs.Board.{Board, delivery}
 use Rattle.sending.specs.Sending.{Sent, isLost, priorityOf, packetCount, losses, isWhole, flowPuts, deliveries, Ranges, FairPDU}
 use Rattle.sending.specs.OneFlow.{flowDeliveries, arriving}
-use Rattle.sending.specs.Statements.{Begins}
+use Rattle.sending.specs.OfSendings.{Begins}
 
 -- the first has exactly two packets and loses its end; the second, of two or more, loses its start
 unfoldable pub isJoint : ℕ → Sent → Sent → Bool

@@ -1,7 +1,7 @@
 pub mod Segment
 pub mod Sending
 pub mod OneFlow
-pub mod Statements
+pub mod OfSendings
 pub mod Joint
 pub mod Mixture
 pub mod Meaning

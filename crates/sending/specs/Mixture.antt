@@ -30,14 +30,14 @@ odd = record { pdu = pdu 3 (replicate 33 3); lost = []; priorities = 1 ∷ [] }
 abbrev pub letterOne : List ℕ
 letterOne = 0x1B ∷ 0x00 ∷ 0x01 ∷ 0x00 ∷ 0x02 ∷ 0x09 ∷ 0x60 ∷ 0x11 ∷ 0x12 ∷ 0x13 ∷ 0x14 ∷ 0x15 ∷ 0x16 ∷ 0x17 ∷ 0x18 ∷ []
 
-abbrev pub reservedSize : List ℕ
-reservedSize = 0x1B ∷ 0x00 ∷ 0x01 ∷ 0x00 ∷ 0x02 ∷ 0x00 ∷ 0x60 ∷ []
+abbrev pub reservedSsize : List ℕ
+reservedSsize = 0x1B ∷ 0x00 ∷ 0x01 ∷ 0x00 ∷ 0x02 ∷ 0x00 ∷ 0x60 ∷ []
 
 abbrev pub mixture : Sending
 mixture = record {
   flows = record { flow = five; sent = lossy ∷ sound ∷ [] } ∷ record { flow = six; sent = odd ∷ [] } ∷ [];
   turns =
-      next five ∷ next six ∷ message letterOne ∷ next five ∷ next five ∷ message reservedSize
+      next five ∷ next six ∷ message letterOne ∷ next five ∷ next five ∷ message reservedSsize
       ∷ next six ∷ next five ∷ next six ∷ [];
 }
 
@@ -50,7 +50,7 @@ pub record MixtureIsFair : Type 0 where
       ∷ (0x59 ∷ 0x00 ∷ 0x01 ∷ 0x00 ∷ 0x06 ∷ 0x02 ∷ 0x80 ∷ 0x00 ∷ 0x03 ∷ replicate 32 3)
       ∷ letterOne
       ∷ (0x19 ∷ 0x00 ∷ 0x01 ∷ 0x00 ∷ 0x05 ∷ 0x01 ∷ 0x80 ∷ 0x00 ∷ 0x02 ∷ replicate 32 9)
-      ∷ reservedSize
+      ∷ reservedSsize
       ∷ (0x19 ∷ 0x00 ∷ 0x01 ∷ 0x00 ∷ 0x06 ∷ 0x02 ∷ 0x43 ∷ 0x00 ∷ 0x21 ∷ 0x03 ∷ 0x00 ∷ [])
       ∷ (0x19 ∷ 0x00 ∷ 0x01 ∷ 0x00 ∷ 0x05 ∷ 0x01 ∷ 0x40 ∷ 0x00 ∷ 0x28 ∷ replicate 8 9)
       ∷ []

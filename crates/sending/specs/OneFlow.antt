@@ -5,11 +5,11 @@ use mathlib.Core.Bool.{cond}
 use mathlib.Core.Option.{Option, none, some}
 use Rattle.wire.specs.Type9.{segmentOf}
 use Rattle.stream_rooms.specs.Placing.{dataOf}
-use Rattle.flows.specs.OneFlow.{PDU, Told, held, delivered, refused, Outcome, flowStep}
+use Rattle.flows.specs.OneFlow.{PDU, Told, held, delivered, refused, FlowOutcome, flowStep}
 use Rattle.sending.specs.Sending.{Put}
 
 -- what the one-flow endpoint does at a packet
-abbrev pub packetStep : (mtu R : ℕ) → Option PDU → List ℕ → Outcome
+abbrev pub packetStep : (mtu R : ℕ) → Option PDU → List ℕ → FlowOutcome
 packetStep mtu R before p = flowStep mtu R before (segmentOf p) (dataOf p (segmentOf p))
 
 -- the PDU that an answer delivers, if one

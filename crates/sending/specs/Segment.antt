@@ -16,7 +16,7 @@ use Rattle.wire.specs.Parsed.{parsed}
 use Rattle.rules.specs.Segments.{malformed}
 use Rattle.stream_rooms.specs.Placing as placing
 use Rattle.cutting.specs.declared.Heading.{Heading}
-use Rattle.cutting.specs.Cutting.{segmentCount, dataOf, isFirst, isFinal, packetOf}
+use Rattle.cutting.specs.Cutting.{segmentCount, segmentData, isFirst, isFinal, packetOf}
 use Rattle.flows.specs.ByFlow.{AreBytes}
 
 -- the segment of a flow with n bytes of data: S and E as given, the streamID with S, else with E the PDU length (65,536 as 0)
@@ -32,12 +32,12 @@ cutSegment flow first final stream size n = record {
   pad = eqb (n % 2) 1;
 }
 
-abbrev pub flowOf : Heading → Flow
-flowOf h = record { source = h .source; cos = h .cos }
+abbrev pub headingFlow : Heading → Flow
+headingFlow h = record { source = h .source; cos = h .cos }
 
 -- segment k of a PDU
 abbrev pub segmentFor : Heading → ℕ → List ℕ → ℕ → Segment
-segmentFor h mtu pdu k = cutSegment (flowOf h) (isFirst k) (isFinal mtu pdu k) (h .stream) (length pdu) (length (dataOf mtu pdu k))
+segmentFor h mtu pdu k = cutSegment (headingFlow h) (isFirst k) (isFinal mtu pdu k) (h .stream) (length pdu) (length (segmentData mtu pdu k))
 
 -- a heading whose fields fit their places
 pub record InRange (h : Heading) : Type 0 where
@@ -61,8 +61,8 @@ pub record ReadsAs (h : Heading) (mtu : ℕ) (pdu : List ℕ) (k : ℕ) (p : Lis
   pub read : parsed (h .destination) p ≡ Stream g
   pub priority : packet.priority p ≡ h .priority
   pub well-formed : malformed g ≡ false
-  pub length-of-data : dataLength g ≡ length (dataOf mtu pdu k)
-  pub data-of : placing.dataOf p g ≡ dataOf mtu pdu k
+  pub length-of-data : dataLength g ≡ length (segmentData mtu pdu k)
+  pub data-of : placing.dataOf p g ≡ segmentData mtu pdu k
   -- the end says the PDU's length
   pub pdu-length : isFirst k ≡ false → isFinal mtu pdu k ≡ true → pduLength (g .field) ≡ length pdu
   -- the three reserved bits are 0, and the pad byte is

@@ -57,8 +57,8 @@ pub record Put : Type 0 where
   pub lost : Bool
   pub whole : Option PDU
 
-abbrev pub headingOf : (device : ℕ) → Flow → Sent → ℕ → Heading
-headingOf device flow s k = record {
+abbrev pub headingFor : (device : ℕ) → Flow → Sent → ℕ → Heading
+headingFor device flow s k = record {
   destination = device;
   source = flow .source;
   cos = flow .cos;
@@ -69,7 +69,7 @@ headingOf device flow s k = record {
 -- packet k of a PDU. The PDU is whole with its last packet, if no packet is lost
 unfoldable pub putOf : (device mtu : ℕ) → Flow → Sent → ℕ → Put
 putOf device mtu flow s k = record {
-  packet = packetOf (headingOf device flow s k) mtu (s .pdu .bytes) k;
+  packet = packetOf (headingFor device flow s k) mtu (s .pdu .bytes) k;
   lost = isLost s k;
   whole = cond (isFinal mtu (s .pdu .bytes) k && isWhole mtu s) (some (s .pdu)) none;
 }
@@ -131,10 +131,10 @@ queues device mtu s flow = flowPuts device mtu flow (sentOn (s .flows) flow)
 
 -- ---- Two readings of it: the packets that are left, and the PDUs that are whole
 
-abbrev pub left : List Event → List (List ℕ)
-left [] = []
-left (put flow x ∷ es) = cond (x .lost) (left es) (x .packet ∷ left es)
-left (sent p ∷ es) = p ∷ left es
+abbrev pub packetsLeft : List Event → List (List ℕ)
+packetsLeft [] = []
+packetsLeft (put flow x ∷ es) = cond (x .lost) (packetsLeft es) (x .packet ∷ packetsLeft es)
+packetsLeft (sent p ∷ es) = p ∷ packetsLeft es
 
 abbrev pub tell : Flow → Option PDU → List Delivery → List Delivery
 tell flow none ds = ds
@@ -147,7 +147,7 @@ wholes (sent p ∷ es) = wholes es
 
 -- what a sending leaves on the backplane
 abbrev pub packets : (device mtu : ℕ) → Sending → List (List ℕ)
-packets device mtu s = left (events (queues device mtu s) (s .turns))
+packets device mtu s = packetsLeft (events (queues device mtu s) (s .turns))
 
 -- its whole PDUs, in the order of their last packets
 abbrev pub whole : (device mtu : ℕ) → Sending → List Delivery

@@ -44,10 +44,10 @@ pub record Passed (s : State) (g : Segment) (found count : ℕ) : Type 0 where
   pub within : count ≤ g .raw
   pub small : count ≤ s .mtu
 
-pub record Begins (s : State) (g : Segment) (found count : ℕ) : Type 0 where
+pub record BeginsPDU (s : State) (g : Segment) (found count : ℕ) : Type 0 where
   pub passed : Passed s g found count
   pub start : g .begins ≡ true
 
-pub record Continues (s : State) (g : Segment) (found count : ℕ) : Type 0 where
+pub record ContinuesPDU (s : State) (g : Segment) (found count : ℕ) : Type 0 where
   pub passed : Passed s g found count
   pub start : g .begins ≡ false

@@ -6,7 +6,7 @@ ghost use mathlib.Core.Path.{_≡_};
 ghost use Rattle.answers.specs.Answers.{said};
 ghost use Rattle.contexts.specs.Words.{stateOf};
 ghost use Rattle.stream_rooms.specs.Placing.{joining, Ready};
-ghost use Rattle.streams.specs.Step.{begun, continued, stepped, Begins, Continues};
+ghost use Rattle.streams.specs.Step.{begun, continued, stepped, BeginsPDU, ContinuesPDU};
 
 // A start or single: the flow's own context from its beginning, else the lowest free one.
 fn begin(
@@ -18,7 +18,7 @@ fn begin(
     count: usize,
 ) -> Reading
     requires { ⌜ Ready (now state) (now memory) (now packet) g ⌝ }
-    requires { ⌜ Begins (stateOf (now state)) g found count ⌝ }
+    requires { ⌜ BeginsPDU (stateOf (now state)) g found count ⌝ }
     ensures { λ r. ⌜ joining (said (r .answer)) (r .dropped) (stateOf (now (state .exit))) (now (memory .exit)) ≡ begun (stateOf (now (state .entry))) (now (memory .entry)) (now (packet .entry)) g ⌝ }
 {
     let stream = g.field;
@@ -45,7 +45,7 @@ fn go_on(
     count: usize,
 ) -> Reading
     requires { ⌜ Ready (now state) (now memory) (now packet) g ⌝ }
-    requires { ⌜ Continues (stateOf (now state)) g found count ⌝ }
+    requires { ⌜ ContinuesPDU (stateOf (now state)) g found count ⌝ }
     ensures { λ r. ⌜ joining (said (r .answer)) (r .dropped) (stateOf (now (state .exit))) (now (memory .exit)) ≡ continued (stateOf (now (state .entry))) (now (memory .entry)) (now (packet .entry)) g ⌝ }
 {
     if 16 <= found {

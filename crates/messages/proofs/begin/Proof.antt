@@ -1,6 +1,6 @@
 -- `messages::begin` meets its contract: a free context is taken with no marks, or none is free.
 use Rattle.messages.proofs.Laws.{begin-none, begin-placed}
-use Rattle.message_rooms.specs.Placing.{placed}
+use Rattle.message_rooms.specs.Placing.{messagePlaced}
 use Rattle.contexts.proofs.Marks.{nothing-marked}
 use lib.Pow.{pow-pos}
 use Prim.Native.Nat.{ℕ, _+_}
@@ -57,7 +57,7 @@ returns-2 c =
     let p = s .args .packet .now in
     let m = s .args .m in
     let f = c .before .before .before .before .before .before .before .before .before .before .before .free-message .ensures in
-    c .before .before .before .before .before .before .place .ensures ∙ (ap (λ (n : ℕ). placed st mem rep p m n 0 0) f ∙ begin-placed st mem rep p m (s .pre .1 .1) (s .pre .1 .2) (rw (← f) (c .before .before .before .before .before .before .before .before .before .before .if1 .left)))
+    c .before .before .before .before .before .before .place .ensures ∙ (ap (λ (n : ℕ). messagePlaced st mem rep p m n 0 0) f ∙ begin-placed st mem rep p m (s .pre .1 .1) (s .pre .1 .2) (rw (← f) (c .before .before .before .before .before .before .before .before .before .before .if1 .left)))
 
 pub begin-spec : {M : Type 1} → statement M
 begin-spec =

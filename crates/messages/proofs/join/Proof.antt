@@ -1,7 +1,7 @@
 -- `messages::join` meets its contract: rows 23 and 24, else one more segment of the message found.
 use Rattle.messages.proofs.Laws.{join-msglen, join-ssize, join-marked, join-placed, found-message, last-le}
 use Rattle.message_rooms.proofs.Laws.{marks-le}
-use Rattle.message_rooms.specs.Placing.{placed}
+use Rattle.message_rooms.specs.Placing.{messagePlaced}
 use Prim.Native.Nat.{ℕ}
 use Rattle.contexts.specs.Words.{stateOf}
 use mathlib.Core.Path.{refl, ap, sym, _∙_}
@@ -122,7 +122,7 @@ returns-4 c =
     let p = s .args .packet .now in
     let m = s .args .m in
     c .before .before .before .before .before .before .place .ensures
-    ∙ (ap (λ (n : ℕ). placed st mem rep p m n (c .before .before .before .before .before .before .before .before .before .before .before .before .before .before .before .before .before .before .before .message-at .result .marks) (c .before .before .before .before .before .before .before .before .before .before .before .before .before .before .before .before .before .before .before .message-at .result .last)) (s .pre .1 .3)
+    ∙ (ap (λ (n : ℕ). messagePlaced st mem rep p m n (c .before .before .before .before .before .before .before .before .before .before .before .before .before .before .before .before .before .before .before .message-at .result .marks) (c .before .before .before .before .before .before .before .before .before .before .before .before .before .before .before .before .before .before .before .message-at .result .last)) (s .pre .1 .3)
     ∙ join-placed st mem rep p m (s .pre .1 .1) (c .before .before .before .before .before .before .before .before .before .before .before .before .before .before .before .before .before .before .before .message-at .result) (rw (← s .pre .1 .3) (s .pre .1 .2)) (rw (← s .pre .1 .3) (c .before .before .before .before .before .before .before .before .before .before .before .before .before .before .before .before .before .before .before .message-at .ensures)) (c .before .before .before .before .before .before .before .before .before .before .before .before .before .before .before .before .if1 .left) (c .before .before .before .before .before .before .before .before .before .before .before .before .before .if2 .left) (sym (c .before .before .before .before .before .before .before .before .before .before .before .marked .ensures) ∙ c .before .before .before .before .before .before .before .before .before .before .if3 .left))
 
 pub join-spec : {M : Type 1} → statement M

@@ -1,6 +1,6 @@
 -- `messages::take_alone` meets its contract: the lowest free context, or none is free.
 use Rattle.messages.proofs.Laws.{alone-none, alone-taken, taking}
-use Rattle.messages.specs.Joining.{alone}
+use Rattle.messages.specs.Joining.{deliveredAtOnce}
 use Rattle.sizes.proofs.Laws.{bytes-le}
 use lib.ListN.{length-take, length-drop}
 use Prim.Native.Nat.{ℕ}
@@ -86,7 +86,7 @@ returns-2 c =
     let m = s .args .m in
     let f = c .before .before .before .before .before .before .before .before .before .before .before .before .before .before .before .before .free-message .ensures in
     taking st mem rep p m _ _ _ _ _ (c .mailbox-of .ensures) (c .before .before .before .before .before .before .before .put-message .ensures ∙ ap (λ (x : MessageContext). withMessage st (c .before .before .before .before .before .before .before .before .before .before .before .before .before .before .before .before .free-message .result) x) (c .before .before .before .before .before .before .before .before .closed .ensures)) (c .before .before .before .before .before .before .before .before .before .before .before .before .store .ensures) (c .before .before .before .done .ensures)
-    ∙ (ap (λ (n : ℕ). alone st mem rep p m n) f ∙ alone-taken st mem rep p m (s .pre .1 .1) (rw (← f) (c .before .before .before .before .before .before .before .before .before .before .before .before .before .before .before .if1 .left)))
+    ∙ (ap (λ (n : ℕ). deliveredAtOnce st mem rep p m n) f ∙ alone-taken st mem rep p m (s .pre .1 .1) (rw (← f) (c .before .before .before .before .before .before .before .before .before .before .before .before .before .before .before .if1 .left)))
 
 pub take-alone-spec : {M : Type 1} → statement M
 take-alone-spec =

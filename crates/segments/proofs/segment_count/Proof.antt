@@ -1,5 +1,5 @@
 -- `segments::segment_count` meets its contract: by its two tests. What they leave is what `count_of` requires.
-use Rattle.segments.specs.Writer.{countOf}
+use Rattle.segments.specs.Writer.{countToWrite}
 use mathlib.Core.Path.{sym, _∙_}
 use native.Mathlib.Omega.{arith}
 use Rattle.segments.proofs.Sizes.{good-mtu, good-size}
@@ -11,14 +11,14 @@ bad-mtu-requires : tie.Need-bad-mtu-requires
 bad-mtu-requires c κs = search needs
 
 returns : tie.Need-returns
-unfolding countOf
+unfolding countToWrite
 returns c = simp (← c .before .bad-mtu .ensures, c .if1 .taken)
 
 bad-size-requires : tie.Need-bad-size-requires
 bad-size-requires c κs = search needs
 
 returns-2 : tie.Need-returns-2
-unfolding countOf
+unfolding countToWrite
 returns-2 c =
     let first = c .before .before in
     simp (← first .before .bad-mtu .ensures, first .if1 .left, ← c .before .bad-size .ensures, c .if2 .taken)
@@ -30,7 +30,7 @@ count-of-requires c κs =
     (omega arith, omega arith, good-size _ (sym (c .before .bad-size .ensures) ∙ c .if2 .left))
 
 returns-3 : tie.Need-returns-3
-unfolding countOf
+unfolding countToWrite
 returns-3 c =
     let second = c .before in
     let first = second .before .before in

@@ -10,7 +10,7 @@ use Rattle.cutting.specs.Cutting.{packetOf}
 use Rattle.flows.specs.OneFlow.{PDU}
 use Rattle.flows.specs.Board.{Board, read, after, room, inRoom, view, freshBoard}
 use Rattle.flows.specs.ByFlow.{ByFlow}
-use Rattle.sending.specs.Sending.{Sent, packetCount, headingOf, FairPDU, Ranges, Sending, flowsOf, packets, whole, deliveries, Fair, FairAnyLoss}
+use Rattle.sending.specs.Sending.{Sent, packetCount, headingFor, FairPDU, Ranges, Sending, flowsOf, packets, whole, deliveries, Fair, FairAnyLoss}
 
 -- A board of that device, MTU and R on which no flow is open, and from which on the laws between a flow and the endpoint hold.
 pub record Begins (device mtu R : ℕ) (flows : List Flow) (b : Board) : Type 1 where
@@ -62,7 +62,7 @@ SamePacketsSameWhole =
 
 -- packet k of a PDU of that flow
 abbrev pub packetAt : (device mtu : ℕ) → Flow → Sent → ℕ → List ℕ
-packetAt device mtu flow s k = packetOf (headingOf device flow s k) mtu (s .pdu .bytes) k
+packetAt device mtu flow s k = packetOf (headingFor device flow s k) mtu (s .pdu .bytes) k
 
 -- the board after the first k packets
 abbrev pub boardAt : (device mtu : ℕ) → Flow → Sent → Board → ℕ → Board

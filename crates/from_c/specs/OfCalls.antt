@@ -17,7 +17,7 @@ use Rattle.bursts.specs.declared.Burst.{Burst}
 use Rattle.records.specs.Records.{records, recordsOf}
 use Rattle.bursts.specs.Bursts.{Run, run, behind, turned, atEnd, stopped, lentTable, roomFor, readBurst, BurstPromise}
 use Rattle.kaiverohm.specs.declared.Heading.{Heading}
-use Rattle.kaiverohm.specs.Exports.{SetupPromise, ReadPromise, AbandonStreamPromise, AbandonMessagePromise, WritePromise}
+use Rattle.kaiverohm.specs.Exports.{SetupFromCPromise, ReadFromCPromise, AbandonStreamFromCPromise, AbandonMessageFromCPromise, WriteFromCPromise}
 
 -- ---- What a report says of the response is what reading wrote there.
 
@@ -47,18 +47,18 @@ BurstIsCalls =
 
 -- ---- Determinism: any two outcomes that a promise allows are one, in the answer and in everything lent.
 
-abbrev pub SetupOnce : Type 0
-SetupOnce =
+abbrev pub SetupFromCOnce : Type 0
+SetupFromCOnce =
     (words : List ℕ) (device mtu room : ℕ) (r r′ : Numbers) (after after′ : List ℕ)
-    → SetupPromise words device mtu room r after
-    → SetupPromise words device mtu room r′ after′
+    → SetupFromCPromise words device mtu room r after
+    → SetupFromCPromise words device mtu room r′ after′
     → (r ≡ r′) × (after ≡ after′)
 
-abbrev pub ReadOnce : Type 0
-ReadOnce =
+abbrev pub ReadFromCOnce : Type 0
+ReadFromCOnce =
     (x : Lent) (r r′ : Report) (words words′ streams streams′ messages messages′ response response′ : List ℕ)
-    → ReadPromise x r words streams messages response
-    → ReadPromise x r′ words′ streams′ messages′ response′
+    → ReadFromCPromise x r words streams messages response
+    → ReadFromCPromise x r′ words′ streams′ messages′ response′
     → (r ≡ r′) × (words ≡ words′) × (streams ≡ streams′) × (messages ≡ messages′) × (response ≡ response′)
 
 abbrev pub BurstOnce : Type 0
@@ -68,18 +68,18 @@ BurstOnce =
     → BurstPromise pause start burst r′ words′ streams′ messages′ responses′ reports′
     → (r ≡ r′) × (words ≡ words′) × (streams ≡ streams′) × (messages ≡ messages′) × (responses ≡ responses′) × (reports ≡ reports′)
 
-abbrev pub AbandonStreamOnce : Type 0
-AbandonStreamOnce =
+abbrev pub AbandonStreamFromCOnce : Type 0
+AbandonStreamFromCOnce =
     (words : List ℕ) (n : ℕ) (r r′ : Numbers) (after after′ : List ℕ)
-    → AbandonStreamPromise words n r after
-    → AbandonStreamPromise words n r′ after′
+    → AbandonStreamFromCPromise words n r after
+    → AbandonStreamFromCPromise words n r′ after′
     → (r ≡ r′) × (after ≡ after′)
 
-abbrev pub AbandonMessageOnce : Type 0
-AbandonMessageOnce =
+abbrev pub AbandonMessageFromCOnce : Type 0
+AbandonMessageFromCOnce =
     (words : List ℕ) (n : ℕ) (r r′ : Numbers) (after after′ : List ℕ)
-    → AbandonMessagePromise words n r after
-    → AbandonMessagePromise words n r′ after′
+    → AbandonMessageFromCPromise words n r after
+    → AbandonMessageFromCPromise words n r′ after′
     → (r ≡ r′) × (after ≡ after′)
 
 abbrev pub StreamPlaceOnce : Type 0
@@ -88,9 +88,9 @@ StreamPlaceOnce = (words : List ℕ) (size n l : ℕ) (r r′ : Place) → Strea
 abbrev pub MessagePlaceOnce : Type 0
 MessagePlaceOnce = (words : List ℕ) (size n l : ℕ) (r r′ : Place) → MessagePlacePromise words size n l r → MessagePlacePromise words size n l r′ → r ≡ r′
 
-abbrev pub WriteOnce : Type 0
-WriteOnce =
+abbrev pub WriteFromCOnce : Type 0
+WriteFromCOnce =
     (out : List ℕ) (h : Heading) (mtu : ℕ) (pdu : List ℕ) (k : ℕ) (r r′ : Numbers) (after after′ : List ℕ)
-    → WritePromise out h mtu pdu k r after
-    → WritePromise out h mtu pdu k r′ after′
+    → WriteFromCPromise out h mtu pdu k r after
+    → WriteFromCPromise out h mtu pdu k r′ after′
     → (r ≡ r′) × (after ≡ after′)
