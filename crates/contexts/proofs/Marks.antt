@@ -1,29 +1,37 @@
--- Laws of the marks: a walk over them, and room for one more.
+-- Laws of the marks: all of them as one number, and room for one more.
 use Prim.Native.Nat.{ℕ, zero, suc, _≤_, _<_, _+_, _-_, _*_, _/_, _%_, _^_}
 use mathlib.Core.Path.{_≡_, ap, sym, _∙_}
-use mathlib.Core.Bool.{Bool, true, false, _&&_, and-false}
+use mathlib.Core.Bool.{Bool, true, false, _&&_, and-true, and-false}
 use native.Mathlib.Omega.{arith}
 use native.Mathlib.Decide.{ℕ-discrete}
 use native.Mathlib.Nat.{one-mul, mod-eq-of-lt, mod-lt, zero-div, add-mul, mul-le-mul-right, pow-succ', div-lt-iff-lt-mul, div-add-mod'}
-use borrow.Author.Tests.{eqb-false}
+use lib.Dec.{eqb}
+use borrow.Author.Tests.{eqb-false, eq-eqb, ne-eqb}
 use lib.Pow.{pow-mono, pow-pos, pow-add}
-use native.Mathlib.Numerals.{add-one}
+use lib.Arith.{mod-mul}
 use Rattle.contexts.specs.Marks.{marked, allMarked}
 
--- one unmarked below the count, and not all are marked
-pub one-missing : (marks k count : ℕ) → k < count → marked marks k ≡ false → allMarked marks count ≡ false
-unfolding allMarked
-one-missing marks k ℕ.zero h e = absurd (omega arith)
-one-missing marks k (suc count) h e = go (ℕ-discrete k count) (λ below. one-missing marks k count below e)
+-- one digit more: both digits and rest are greatest where the sum is
+one-more : (rest p digit : ℕ) → rest < p → digit < 2 → (eqb rest (p - 1) && eqb digit 1) ≡ eqb (digit * p + rest) (2 * p - 1)
+one-more rest p ℕ.zero r d = and-false (eqb rest (p - 1)) ∙ sym (ne-eqb (0 * p + rest) (2 * p - 1) (λ e. omega arith))
+one-more rest p (suc ℕ.zero) r d = and-true (eqb rest (p - 1)) ∙ go (ℕ-discrete rest (p - 1))
   where
-    go : Dec (k ≡ count) → (k < count → allMarked marks count ≡ false) → (allMarked marks count && marked marks count) ≡ false
-    go (yes q) ih = ap (λ (j : ℕ). allMarked marks count && marked marks j) (sym q) ∙ (ap (λ (b : Bool). allMarked marks count && b) e ∙ and-false (allMarked marks count))
-    go (no q) ih = ap (λ (b : Bool). b && marked marks count) (ih (omega arith))
+    go : Dec (rest ≡ p - 1) → eqb rest (p - 1) ≡ eqb (1 * p + rest) (2 * p - 1)
+    go (yes e) = eq-eqb rest (p - 1) e ∙ sym (eq-eqb (1 * p + rest) (2 * p - 1) (omega arith))
+    go (no e) = ne-eqb rest (p - 1) e ∙ sym (ne-eqb (1 * p + rest) (2 * p - 1) (λ q. e (omega arith)))
+one-more rest p (suc (suc digit)) r d = absurd (omega arith)
 
--- the walk's turn
-pub one-more : (marks k : ℕ) → allMarked marks k ≡ true → marked marks k ≡ true → allMarked marks (k + 1) ≡ true
-unfolding allMarked
-one-more marks k a e = rw add-one (rw (a, e))
+-- segments 0 to count-1 are all marked where the number of their marks is the greatest
+pub all-greatest : (marks count : ℕ) → allMarked marks count ≡ eqb (marks % 2 ^ count) (2 ^ count - 1)
+unfolding allMarked marked
+all-greatest marks ℕ.zero = sym (eq-eqb (marks % 1) 0 (omega arith))
+all-greatest marks (suc n) =
+    let p : ℕ = 2 ^ n in
+    let rest : marks % p < p = mod-lt marks (pow-pos n) in
+    let whole : marks % 2 ^ suc n ≡ marks / p % 2 * p + marks % p = ap (λ (k : ℕ). marks % k) (pow-succ' 2 n) ∙ mod-mul marks (omega arith) (pow-pos n) in
+    ap (λ (b : Bool). b && eqb (marks / p % 2) 1) (all-greatest marks n)
+    ∙ one-more (marks % p) p (marks / p % 2) rest (omega arith)
+    ∙ sym (ap (λ (k : ℕ). eqb (marks % 2 ^ suc n) (k - 1)) (pow-succ' 2 n) ∙ ap (λ (k : ℕ). eqb k (2 * p - 1)) whole)
 
 -- the weight of a mark, as the machine shifts it
 pub power-fits : (k : ℕ) → k ≤ 16 → (1 * 2 ^ k % 18446744073709551616 ≡ 2 ^ k) × (1 * 2 ^ k % 18446744073709551616 ≤ 65536)

@@ -231,20 +231,13 @@ pub fn marked(marks: u16, k: usize) -> bool
     (marks >> k) % 2 == 1
 }
 
-// Whether segments 0 to count-1 are all marked: a walk over the marks.
+// Whether segments 0 to count-1 are all marked: what the marks say of these is the greatest number of so many bits.
 pub fn all_marked(marks: u16, count: usize) -> bool
     requires { ⌜ count ≤ 16 ⌝ }
     ensures { λ r. ⌜ r ≡ allMarked marks count ⌝ }
 {
-    let mut k = 0;
-    while k < count {
-        if marked(marks, k) {
-            k += 1;
-        } else {
-            return false;
-        }
-    }
-    true
+    let weight = power(count);
+    marks as usize % weight == weight - 1
 }
 
 // A state of zeros.

@@ -38,17 +38,19 @@ pub fn data_length(g: Segment) -> usize
     g.raw
 }
 
-// The bytes that an ssize code means, by the code; 0: reserved.
-const SSIZES: [usize; 16] = [0, 0, 0, 0, 0, 0, 0, 0, 0, 8, 16, 32, 64, 128, 256, 0];
-
 // The bytes that an ssize code means; 0 where it is reserved or no code.
 pub fn bytes_of(code: usize) -> usize
     ensures { λ r. ⌜ r ≡ bytesOf code ⌝ }
 {
-    if code < 16 {
-        return SSIZES[code];
+    match code {
+        9 => 8,
+        10 => 16,
+        11 => 32,
+        12 => 64,
+        13 => 128,
+        14 => 256,
+        _ => 0,
     }
-    0
 }
 
 // Whether n bytes are 8 to `size` in eights.
