@@ -37,15 +37,16 @@
      5  type 9 with an extended header     17  the priority is over 3
      6  type 9: no data, odd, or O wrong   18  the MTU is not allowed
      7  type 9: wrong size for the MTU     19  the state is none
-     8  continuation or end, no start      20  ssize is reserved
+     8  nothing of its flow is under way   20  ssize is reserved
      9  the PDU is longer than a room      21  segment of the wrong length
     10  all 16 stream contexts in use      22  segment number past the last
-    11  end: not as many bytes as it says  23  an open message differs
+    11  end: not as many bytes as it says  23  other msglen or ssize than before
     12  a buffer of the wrong size         24  the segment is there already
                                            25  all 8 message contexts in use
 
-   'The state is none' means: MTU or R out of range, or an open context that no
-   run of calls leaves. It was never set up, or somebody wrote over it.
+   'The state is none' means that row 19 of the table names it: its MTU or R is
+   out of range, or an open context has numbers that cannot be. It was never set
+   up, or somebody wrote over it.
 
    In the project, docs/REFUSALS.md has these in full and in their order,
    docs/DECISIONS.md what was decided where the paper is open. Promises are in
