@@ -7,7 +7,7 @@
 
 enum { DEVICE = 1, MTU = 32, ROOM = 2048 };
 
-/* All that an endpoint keeps. Any place that C can have them in is good. */
+/* All that an endpoint keeps. These may stand anywhere in memory. */
 static uint64_t state[KAIVEROHM_STATE_WORDS];
 static uint8_t streams[KAIVEROHM_STREAM_CONTEXTS * ROOM];
 static uint8_t messages[KAIVEROHM_MESSAGE_MEMORY];

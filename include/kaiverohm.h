@@ -26,10 +26,31 @@
    by its number or read as it stands, and every byte written is one that the
    promise names.
 
-   Numbers of refusals are those of the paper (docs/DECISIONS.md says where
-   the paper is open). 'All stays' means: no byte of any buffer changes.
+   'The paper' is the association's document 01, 'The rack endpoint and its
+   rules'. Numbers of refusals are those of its table. 'All stays' means: no
+   byte of any buffer changes.
 
-   Promises are in crates/: each function names its file and its promise. */
+     1  too short to have a whole head     13  no such context
+     2  device IDs not of 16 bits          14  a PDU of 0 or over 65,536 bytes
+     3  for another device                 15  the PDU has no such segment
+     4  neither type 9 nor type 11         16  out is shorter than the packet
+     5  type 9 with an extended header     17  the priority is over 3
+     6  type 9: no data, odd, or O wrong   18  the MTU is not allowed
+     7  type 9: wrong size for the MTU     19  the state is none
+     8  nothing of its flow is under way   20  ssize is reserved
+     9  the PDU is longer than a room      21  segment of the wrong length
+    10  all 16 stream contexts in use      22  segment number past the last
+    11  end: not as many bytes as it says  23  other msglen or ssize than before
+    12  a buffer of the wrong size         24  the segment is there already
+                                           25  all 8 message contexts in use
+
+   'The state is none' means that row 19 of the table names it: its MTU or R is
+   out of range, or an open context has numbers that cannot be. It was never set
+   up, or somebody wrote over it.
+
+   In the project, docs/REFUSALS.md has these in full and in their order,
+   docs/DECISIONS.md what was decided where the paper is open. Promises are in
+   crates/: each function names its file and its promise. */
 
 #ifndef KAIVEROHM_H
 #define KAIVEROHM_H
@@ -144,11 +165,13 @@ struct kaiverohm_answer kaiverohm_setup(uint64_t *state, size_t state_words,
    packet:         any number of bytes, read.
    Answers HELD, DELIVERED, MESSAGE or REFUSED by the first row of the paper's
    table that holds: 19, 12, 1 to 11, 20 to 25.
-     held, delivered  a stream room, or a message room and the response, and
-                      the context's words are written.
-     refused          19, 12, 1 to 5, 8, 10: all stays. 6, 7, 9, 11: the flow's
-                      context is closed if it was open, all else stays.
-                      20 to 25: the response is written, all else stays.
+     type 9 accepted   its data go into a stream room, and the context's words
+                       are written.
+     type 11 accepted  its data go into a message room, and the context's words
+                       and the response are written.
+     refused           19, 12, 1 to 5, 8, 10: all stays. 6, 7, 9, 11: the flow's
+                       context is closed if it was open, all else stays.
+                       20 to 25: the response is written, all else stays.
    report.response says whether the response was written (crates/from_c/specs/
    OfCalls.antt, ReportsReply). A delivered room keeps its bytes until its
    context is next used.

@@ -1,10 +1,12 @@
 #!/usr/bin/env python3
 """Writes docs/layers.svg, the picture of docs/ARCHITECTURE.md: the crates as layers. It stops if crates.txt has another set of crates,
-or if a crate stands on one in its own layer or above.
+if a crate stands on one in its own layer or above, or if docs/ARCHITECTURE.md does not speak of it.
 
-Run it from anywhere: python3 docs/pictures/layers.py
+    docs/pictures/layers.py           writes the picture
+    docs/pictures/layers.py --check   ends with 1 if the picture is another
 """
 import pathlib
+import sys
 
 ROOT = pathlib.Path(__file__).resolve().parents[2]
 
@@ -54,6 +56,10 @@ def test():
         for dep in deps:
             if dep in place and place[dep] <= place[crate]:
                 raise SystemExit(f"layers.py: {crate} stands on {dep}, which is not below it")
+    page = (ROOT / "docs" / "ARCHITECTURE.md").read_text(encoding="utf-8")
+    for crate in below:
+        if f"**`{crate}`**" not in page:
+            raise SystemExit(f"layers.py: docs/ARCHITECTURE.md does not speak of {crate}")
 
 
 def text(x, y, words, size=14, fill=INK, anchor="middle", weight="normal"):
@@ -85,4 +91,10 @@ def picture():
 
 
 test()
-(ROOT / "docs" / "layers.svg").write_text(picture(), encoding="utf-8")
+stored = ROOT / "docs" / "layers.svg"
+if sys.argv[1:] == ["--check"]:
+    if stored.read_text(encoding="utf-8") != picture():
+        raise SystemExit("layers.py: docs/layers.svg is another picture")
+    print("layers: every crate has its place and its words")
+else:
+    stored.write_text(picture(), encoding="utf-8")

@@ -21,7 +21,7 @@
 enum { GUARD = 64, WORDS = KAIVEROHM_STATE_WORDS, PACKET = 700, BURST = 40 };
 
 static uint64_t seed;
-static unsigned long long packets, bursts, calls, states19;
+static unsigned long long packets, bursts, calls, states19, twins;
 static unsigned long long refusals[32], kinds[8], stops[5];
 
 static void fail(const char *format, ...)
@@ -314,7 +314,7 @@ static void any_segment(void)
     h.priority %= 6;
     scatter(pdu, sizeof pdu);
     uint64_t mtu = one_in(4) ? below(300) : 32 + 4 * below(57);
-    same_segment(packet, below(300), h, mtu, pdu, below(sizeof pdu), below(20));
+    same_segment(packet, below(300), h, mtu, pdu, one_in(20) ? 0 : below(sizeof pdu), below(20));
 }
 
 static size_t stream_packet(uint8_t *packet, uint64_t mtu, uint64_t room)
@@ -505,9 +505,26 @@ static uint64_t odd_number(const struct board *b)
     }
 }
 
+/* Two open contexts of one flow or one message: the lower number counts. */
+static void twin_contexts(struct board *b)
+{
+    int streams = one_in(2);
+    size_t count = streams ? 16 : 8, width = streams ? 5 : 8, first = streams ? 3 : 83;
+    size_t from = first + width * below(count), to = first + width * below(count);
+    if (from == to || words(b)[from] == 0)
+        return;
+    for (size_t i = 0; i < width; i++)
+        words(b)[to + i] = *second_word(&b->second, to + i) = words(b)[from + i];
+    twins++;
+}
+
 /* Any words may stand in a state. Both boards get the same ones. */
 static void odd_state(struct board *b)
 {
+    if (one_in(3)) {
+        twin_contexts(b);
+        return;
+    }
     for (uint64_t k = 1 + below(3); k > 0; k--) {
         size_t i = one_in(6) ? below(3) : 3 + below(WORDS - 3);
         words(b)[i] = *second_word(&b->second, i) = odd_number(b);
@@ -716,24 +733,27 @@ static void many_bursts(uint64_t mtu, uint64_t room, unsigned count)
     no_board(&b);
 }
 
-/* The longest PDU: 65,536 bytes, whose length is written as 0. */
+/* The longest PDU: 65,536 bytes, whose length is written as 0. One byte more is refused. */
 static void longest(void)
 {
-    static uint8_t pdu[KAIVEROHM_LARGEST_PDU];
-    struct board b = board(256, sizeof pdu);
+    enum { LONGEST = KAIVEROHM_LARGEST_PDU };
+    static uint8_t pdu[LONGEST + 1];
+    struct board b = board(256, LONGEST);
     struct kaiverohm_heading h = {.destination = 1, .source = 9, .stream = 3, .cos = 1, .priority = 1};
     uint8_t packet[PACKET];
-    same_answer(kaiverohm_setup(words(&b), WORDS, 1, 256, sizeof pdu),
-                second_setup(&b.second, 1, 256, sizeof pdu), "setup");
-    scatter(pdu, sizeof pdu);
+    same_answer(kaiverohm_setup(words(&b), WORDS, 1, 256, LONGEST),
+                second_setup(&b.second, 1, 256, LONGEST), "setup");
+    scatter(pdu, LONGEST + 1);
     unsigned long long before = kinds[KAIVEROHM_DELIVERED];
     for (uint64_t k = 0; k < 256; k++) {
-        size_t length = same_segment(packet, 265, h, 256, pdu, sizeof pdu, k);
-        read_one(&b, WORDS, 16 * sizeof pdu, KAIVEROHM_MESSAGE_MEMORY, 7, packet, length);
+        size_t length = same_segment(packet, 265, h, 256, pdu, LONGEST, k);
+        read_one(&b, WORDS, 16 * LONGEST, KAIVEROHM_MESSAGE_MEMORY, 7, packet, length);
     }
     if (kinds[KAIVEROHM_DELIVERED] != before + 1)
         fail("the longest PDU is not delivered");
-    same_bytes(b.streams.bytes, pdu, sizeof pdu, "the longest PDU");
+    same_bytes(b.streams.bytes, pdu, LONGEST, "the longest PDU");
+    if (same_segment(packet, 265, h, 256, pdu, LONGEST + 1, 0) != 0)
+        fail("a PDU that is too long is written");
     no_board(&b);
 }
 
@@ -757,8 +777,8 @@ int main(int argc, char **argv)
 
     longest();
 
-    printf("packets %llu, bursts %llu, other calls %llu, states that 19 names %llu\n", packets,
-           bursts, calls, states19);
+    printf("packets %llu, bursts %llu, other calls %llu, states that 19 names %llu, with twins %llu\n",
+           packets, bursts, calls, states19, twins);
     printf("held %llu, delivered %llu, messages %llu, refused:", kinds[KAIVEROHM_HELD],
            kinds[KAIVEROHM_DELIVERED], kinds[KAIVEROHM_MESSAGE]);
     for (unsigned n = 0; n < 32; n++)
