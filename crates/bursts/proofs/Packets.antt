@@ -18,7 +18,8 @@ use Rattle.reading.specs.Step.{ReadyToRead}
 use Rattle.reading.proofs.Kept.{stays-good}
 use Rattle.reports.specs.declared.Report.{Report}
 use Rattle.reports.specs.Reports.{reportOf, wordsOfReport}
-use Rattle.bursts.specs.Bursts.{run, slot, answersPlaced, Fit, Room, PacketPromise}
+use Rattle.bursts.specs.Bursts.{run, slot, answersPlaced}
+use Rattle.bursts.specs.Inside.{Fit, Room, PacketPromise}
 
 -- the 8 bytes that are lent
 slot-size : (n : ℕ) → 8 * n + 8 - 8 * n ≡ 8

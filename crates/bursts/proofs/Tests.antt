@@ -4,37 +4,39 @@ use mathlib.Core.Path.{_≡_, refl}
 use mathlib.Core.List.{List}
 use mathlib.Core.Bool.{Bool, true, false, cond}
 use native.Mathlib.Omega.{arith}
+use native.Mathlib.Nat.{min-le-left, min-le-right}
 use lib.Dec.{ltb}
 use lib.ListN.{length}
 use borrow.Author.Tests.{eq-eqb, ne-eqb, ltb-true, ltb-false}
 use Rattle.answers.specs.Refusals.{verdict}
 use Rattle.contexts.specs.Words.{stateOf, stateWords}
 use Rattle.refusal19.specs.Refusal19.{namedBy19}
-use Rattle.reading.specs.Table.{wrongSizes}
+use Rattle.reading.specs.Table.{wrongSizes, table}
 use Rattle.reading.proofs.Left.{sizes-fit}
-use Rattle.bursts.specs.Bursts.{Run, Finished, finished, answering, refusedAll, readBurst, lentTable, ran, lesser, roomFor, Fit, Room}
+use Rattle.bursts.specs.Bursts.{Run, Finished, finished, answering, refusedAll, readBurst, lentTable, ran, roomFor}
+use Rattle.bursts.specs.Inside.{Fit, Room}
 
 module _ (pause : ℕ) (r : Run) (burst : List ℕ) where
   abbrev refusing : ℕ → Finished
   refusing number = finished (answering refusedAll number 0 0) (r .words) (r .streamMemory) (r .messageMemory) (r .responses) (r .reports)
 
   pub short : (length (r .words) ≡ stateWords → ⊥) → refusing 12 ≡ readBurst pause r burst
-  unfolding readBurst lentTable verdict
+  unfolding readBurst lentTable table verdict
   short l = rw (ne-eqb (length (r .words)) stateWords l)
 
   module _ (l : length (r .words) ≡ stateWords) where
     pub named : namedBy19 (stateOf (r .words)) ≡ true → refusing 19 ≡ readBurst pause r burst
-    unfolding readBurst lentTable verdict
+    unfolding readBurst lentTable table verdict
     named h = rw (eq-eqb (length (r .words)) stateWords l, h)
 
     module _ (h : namedBy19 (stateOf (r .words)) ≡ false) where
       pub missized : wrongSizes (stateOf (r .words)) (r .streamMemory) (r .messageMemory) (r .responses) ≡ true → refusing 12 ≡ readBurst pause r burst
-      unfolding readBurst lentTable verdict
+      unfolding readBurst lentTable table verdict
       missized w = rw (eq-eqb (length (r .words)) stateWords l, h, w)
 
       module _ (w : wrongSizes (stateOf (r .words)) (r .streamMemory) (r .messageMemory) (r .responses) ≡ false) where
         pub accepted : ran pause (roomFor (length (r .reports)) (length (r .responses))) burst r ≡ readBurst pause r burst
-        unfolding readBurst lentTable verdict
+        unfolding readBurst lentTable table verdict
         accepted = rw (eq-eqb (length (r .words)) stateWords l, h, w)
 
         pub fits : Fit (r .words) (r .streamMemory) (r .messageMemory)
@@ -42,24 +44,9 @@ module _ (pause : ℕ) (r : Run) (burst : List ℕ) where
             let s = sizes-fit (stateOf (r .words)) (r .streamMemory) (r .messageMemory) (r .responses) w in
             record { whole = l; good = h; rooms = s .0; boxes = s .1 }
 
--- the lesser of two numbers is at most each
-lesser-first : (a b : ℕ) → lesser a b ≤ a
-lesser-first a b = go (ltb a b) refl
-  where
-    go : (t : Bool) → ltb a b ≡ t → cond t a b ≤ a
-    go true e = omega arith
-    go false e = ltb-false a b e
-
-lesser-second : (a b : ℕ) → lesser a b ≤ b
-lesser-second a b = go (ltb a b) refl
-  where
-    go : (t : Bool) → ltb a b ≡ t → cond t a b ≤ b
-    go true e = omega (arith, ltb-true a b e)
-    go false e = omega arith
-
 pub has-room : (responses reports : List ℕ) → Room responses reports 0 (roomFor (length reports) (length responses))
 unfolding roomFor
 has-room responses reports =
-    let a = lesser-first (length reports / 9) (length responses / 8) in
-    let b = lesser-second (length reports / 9) (length responses / 8) in
+    let a = min-le-left (length reports / 9) (length responses / 8) in
+    let b = min-le-right (length reports / 9) (length responses / 8) in
     record { replies = omega (arith, b); answers = omega (arith, a) }

@@ -1,22 +1,19 @@
 -- A burst: packets in the log's record form, read one after another, each by the state and the memories that the one before left.
-use Prim.Native.Nat.{ℕ, zero, suc, _+_, _*_, _/_, _≤_}
+use Prim.Native.Nat.{ℕ, zero, suc, min, _+_, _*_, _/_}
 use mathlib.Core.Path.{_≡_}
 use mathlib.Core.List.{List, [], _∷_}
-use mathlib.Core.Bool.{false, cond, not, _||_, _&&_}
+use mathlib.Core.Bool.{cond}
 use lib.ListN.{length, take, drop}
-use lib.Dec.{eqb, ltb}
+use lib.Dec.{eqb}
 use Rattle.lists.specs.Bytes.{written}
-use Rattle.answers.specs.Refusals.{Row, row, all, Verdict, refuse, accept, verdict}
-use Rattle.contexts.specs.Words.{stateOf, stateWords}
-use Rattle.refusal19.specs.Refusal19.{namedBy19}
-use Rattle.reading.specs.Table.{Lent, stateIn, isState, wrongMemory}
+use Rattle.answers.specs.Refusals.{Row, Verdict, refuse, accept, verdict}
+use Rattle.reading.specs.Table.{Lent, table}
 use Rattle.reading.specs.Read.{Left, lent, reading}
 use Rattle.records.specs.declared.Next.{Next}
 use Rattle.records.specs.declared.Next.the-variants.{Record, End, Bad}
 use Rattle.records.specs.Records.{nextRecord}
 use Rattle.reports.specs.Reports.{reportOf, wordsOfReport}
 use Rattle.bursts.specs.declared.Burst.{Burst}
-use Rattle.bursts.specs.declared.Turn.{Turn}
 
 -- ---- one packet of a burst
 
@@ -141,18 +138,12 @@ ran pause zero burst r = stopped (turn pause zero burst r)
 ran pause (suc room) burst r = onward (ran pause room burst) (turn pause (suc room) burst r)
 
 -- the packets that have room: 9 words of report and 8 bytes of response for each
-abbrev pub lesser : ℕ → ℕ → ℕ
-lesser a b = cond (ltb a b) a b
-
 unfoldable pub roomFor : ℕ → ℕ → ℕ
-roomFor reportWords responseBytes = lesser (reportWords / 9) (responseBytes / 8)
+roomFor reportWords responseBytes = min (reportWords / 9) (responseBytes / 8)
 
--- the rows of the refusal table that look at no packet: tested once
+-- the rows of the refusal table that look at no packet, 19 and 12, its first two: tested once
 unfoldable pub lentTable : Lent → List Row
-lentTable x =
-    row 19 (isState x && namedBy19 (stateIn x)) all
-    ∷ row 12 (not (isState x) || wrongMemory x) all
-    ∷ []
+lentTable x = take 2 (table x)
 
 abbrev pub burstBy : ℕ → Run → List ℕ → Verdict → Finished
 burstBy pause r burst (refuse number leaves) = finished (answering refusedAll number 0 0) (r .words) (r .streamMemory) (r .messageMemory) (r .responses) (r .reports)
@@ -164,31 +155,3 @@ readBurst pause r burst = burstBy pause r burst (verdict (lentTable (lent (r .wo
 -- the promise of `read_burst`
 abbrev pub BurstPromise : ℕ → Run → List ℕ → Burst → List ℕ → List ℕ → List ℕ → List ℕ → List ℕ → Type 0
 BurstPromise pause r burst answer words streamMemory messageMemory responses reports = finished answer words streamMemory messageMemory responses reports ≡ readBurst pause r burst
-
--- ---- what a turn may rely on, and keeps
-
--- rows 19 and 12 have passed
-pub record Fit (words streams messages : List ℕ) : Type 0 where
-  pub whole : length words ≡ stateWords
-  pub good : namedBy19 (stateOf words) ≡ false
-  pub rooms : length streams ≡ 16 * stateOf words .room
-  pub boxes : length messages ≡ 32768
-
--- the promise of reading one packet of a burst
-pub record PacketPromise (r : Run) (packet : List ℕ) (k : ℕ) (words streamMemory messageMemory responses reports : List ℕ) : Type 0 where
-  pub leaves : run words streamMemory messageMemory responses reports (r .count + 1) (r .next) ≡ behind r packet (r .next)
-  pub kind : k ≡ kindIn r packet
-
--- the promise of a turn
-abbrev pub TurnPromise : ℕ → ℕ → List ℕ → Run → Turn → List ℕ → List ℕ → List ℕ → List ℕ → List ℕ → Type 0
-TurnPromise pause room burst r t words streamMemory messageMemory responses reports =
-    turned (t .stop) (run words streamMemory messageMemory responses reports (t .count) (t .next)) ≡ turn pause room burst r
-
--- there is room for the reports and the responses of `room` packets more
-pub record Room (responses reports : List ℕ) (count room : ℕ) : Type 0 where
-  pub replies : 8 * (count + room) ≤ length responses
-  pub answers : 9 * (count + room) ≤ length reports
-
--- the promise of the run behind the tests
-abbrev pub RunPromise : ℕ → ℕ → List ℕ → Run → Burst → List ℕ → List ℕ → List ℕ → List ℕ → List ℕ → Type 0
-RunPromise pause room burst r answer words streamMemory messageMemory responses reports = finished answer words streamMemory messageMemory responses reports ≡ ran pause room burst r

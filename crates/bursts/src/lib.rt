@@ -2,7 +2,8 @@
 // by what the one before left, and has a report and a response of its own.
 use records::Next;
 ghost use mathlib.Core.Path.{_≡_};
-ghost use Rattle.bursts.specs.Bursts.{run, pauseOf, refusedAll, answering, roomFor, Fit, Room, PacketPromise, TurnPromise, RunPromise, BurstPromise};
+ghost use Rattle.bursts.specs.Bursts.{run, pauseOf, refusedAll, answering, roomFor, BurstPromise};
+ghost use Rattle.bursts.specs.Inside.{Fit, Room, PacketPromise, TurnPromise, RunPromise};
 
 // The bytes of `responses` that each packet has for its own.
 pub const SLOT: usize = 8;

@@ -7,8 +7,7 @@ use lib.ListN.{length}
 use Rattle.lists.specs.Bytes.{byte}
 use Rattle.answers.specs.Answers.{Said, held, delivered, message, refused, ready, closed, free, wrote}
 use Rattle.segments.specs.Writer.{Wrote}
-use Rattle.flows.specs.Board.{Board, Delivery, deliveredBy, boardLeft, room, inRoom}
-use Rattle.examples.specs.Example.{exampleBoard}
+use Rattle.flows.specs.Board.{Board, Delivery, deliveredBy, boardLeft, room, inRoom, paperBoard}
 use Rattle.examples.specs.Impostors.{Endpoint, deliveriesBy, one, another, packetsOfPDU, endOf, started, endGets, ReadMeets, HeldOrRefused, SilentBreaks3, SameBreaks2, countMover, CountMoverBreaks2, CountMoverBreaks3, inventor, InventorBreaks2, IdleWriterBreaks2}
 use Rattle.examples.proofs.Computing.{computing}
 
@@ -36,7 +35,7 @@ nothing e h b (p ∷ ps) = rw (nothing-by (room (boardLeft (e b p))) (e b p .str
 
 pub silent-breaks3 : SilentBreaks3
 silent-breaks3 e h d =
-    let z : _≡_ {A = ℕ} 0 1 = ap length (sym (nothing e h exampleBoard (packetsOfPDU one)) ∙ d) in
+    let z : _≡_ {A = ℕ} 0 1 = ap length (sym (nothing e h paperBoard (packetsOfPDU one)) ∙ d) in
     omega arith
 
 -- ---- always the same

@@ -3,13 +3,13 @@ use Prim.Native.Nat.{ℕ, zero, suc, _+_, _%_}
 use mathlib.Core.Path.{_≡_}
 use mathlib.Core.List.{List, [], _∷_, map}
 use mathlib.Core.Bool.{Bool, true, false, cond, _&&_}
-use lib.ListN.{length, replicate}
+use lib.ListN.{length}
 use lib.Dec.{eqb}
 use Rattle.lists.specs.Bytes.{byte, word}
 use Rattle.answers.specs.Answers.{Said, held, delivered, message, refused, ready, closed, free, wrote}
 use Rattle.cutting.specs.declared.Heading.{Heading}
 use Rattle.cutting.specs.Cutting.{segmentCount, packetOf}
-use Rattle.flows.specs.Board.{Board, freshBoard, read, after, room, inRoom}
+use Rattle.flows.specs.Board.{Board, paperBoard, read, after, room, inRoom}
 
 -- ---- What is sent
 
@@ -66,10 +66,6 @@ example number sent lines = record { number = number; sent = sent; lines = lines
 
 -- ---- What is computed
 
--- device 1, MTU 32, R 2,048, memories of zeros, a response buffer of 7
-abbrev pub exampleBoard : Board
-exampleBoard = freshBoard 1 32 2048 (replicate 32768 0) (replicate 32768 0) (replicate 7 0)
-
 -- the bytes that an answer delivers: those that its room holds at that moment
 abbrev pub deliveredBytes : Board → Said → List ℕ
 deliveredBytes b (delivered context source cos stream size) = inRoom (room b) (b .streamMemory) context size
@@ -107,7 +103,7 @@ computed b (p ∷ ps) (arrives says dropped facts ∷ lines) = arrives (read b p
 
 -- an example comes out as it says
 abbrev pub Holds : Example → Type 0
-Holds e = computed exampleBoard (e .sent) (e .lines) ≡ e .lines
+Holds e = computed paperBoard (e .sent) (e .lines) ≡ e .lines
 
 -- every row of a table does
 abbrev pub AllHold : List Example → Type 0

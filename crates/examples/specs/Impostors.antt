@@ -11,8 +11,8 @@ use Rattle.reading.specs.Read as reading
 use Rattle.cutting.specs.Cutting.{packetOf}
 use Rattle.segments.specs.Writer.{writing, wroteOf}
 use Rattle.flows.specs.OneFlow.{PDU, pdu}
-use Rattle.flows.specs.Board.{Board, Delivery, delivery, deliveredBy, read, boardLeft, room, inRoom}
-use Rattle.examples.specs.Example.{counting, cut, exampleBoard}
+use Rattle.flows.specs.Board.{Board, Delivery, delivery, deliveredBy, read, boardLeft, room, inRoom, paperBoard}
+use Rattle.examples.specs.Example.{counting, cut}
 use Rattle.examples.specs.Table.{heading, firstPDU, secondPDU}
 
 -- ---- The demands, of one PDU
@@ -44,7 +44,7 @@ packetsOfPDU x = cut (heading 2 (x .stream)) 32 (x .bytes)
 
 -- the board when the end comes, and what the end gets
 abbrev pub started : Endpoint → PDU → Board
-started e x = boardLeft (e exampleBoard (startOf x))
+started e x = boardLeft (e paperBoard (startOf x))
 
 abbrev pub endGets : Endpoint → PDU → reading.Left
 endGets e x = e (started e x) (endOf x)
@@ -57,7 +57,7 @@ pub record ReadsBackPDU (e : Endpoint) (x : PDU) : Type 0 where
 
 -- DEMAND 3: what is delivered is exactly what was sent whole
 abbrev pub DeliversWhole : Endpoint → PDU → Type 0
-DeliversWhole e x = deliveriesBy e exampleBoard (packetsOfPDU x) ≡ delivery (record { source = 2; cos = 5 }) x ∷ []
+DeliversWhole e x = deliveriesBy e paperBoard (packetsOfPDU x) ≡ delivery (record { source = 2; cos = 5 }) x ∷ []
 
 -- the endpoint itself meets them
 pub record Meets (e : Endpoint) (x : PDU) : Type 0 where

@@ -23,6 +23,7 @@ use Rattle.streams.specs.Rows.{foundFor, missized}
 use Rattle.streams.specs.Joining as stream
 use Rattle.stream_rooms.specs.Placing as streamRoom
 use Rattle.streams.specs.Step as step
+use Rattle.streams.specs.Inside.{Passed}
 use Rattle.streams.proofs.Laws.{size-le, passed, begin-own, begin-free, go-closed, go-passes, go-differs, go-placed, step-begins, step-continues}
 use Rattle.reading.proofs.Cases.{by-test}
 use Rattle.flows.specs.OneFlow.{PDU, pdu, held, delivered, refused, FlowOutcome, flowOutcome, isOpen, flowRefused, flowJoined, flowStep}
@@ -143,7 +144,7 @@ module _ (flows : List Flow) (s : State) (memory p : List ℕ) (g : Segment) (ok
         start-small = omega (arith, size-le (g .ends) (dataLength g) (s .mtu) e, good s fine .holds)
 
         -- the code's facts on the packet
-        now : step.Passed s g (foundFor s g) (dataLength g)
+        now : Passed s g (foundFor s g) (dataLength g)
         now = passed s g {count = dataLength g} {mtu = s .mtu} refl refl {found = foundFor s g} refl e
 
         sim-begins : (before : Option PDU) → Own (s .streams) (g .flow) → ltb (own (s .streams) (g .flow)) 16 ≡ isOpen before → g .begins ≡ true → Stepped before

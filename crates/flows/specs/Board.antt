@@ -4,7 +4,7 @@ use mathlib.Core.Path.{_≡_}
 use mathlib.Core.List.{List, [], _∷_}
 use mathlib.Core.Bool.{Bool, cond}
 use mathlib.Core.Option.{Option, none, some}
-use lib.ListN.{length, take, drop}
+use lib.ListN.{length, take, drop, replicate}
 use lib.Dec.{ltb}
 use Rattle.answers.specs.Answers as answers
 use Rattle.wire.specs.declared.Flow.{Flow}
@@ -72,6 +72,10 @@ freshBoard device mtu room streamMemory messageMemory response = record {
   messageMemory = messageMemory;
   response = response;
 }
+
+-- the board of document 01's examples and of its log program: device 1, MTU 32, R 2,048, memories of zeros and a response buffer of 7
+abbrev pub paperBoard : Board
+paperBoard = freshBoard 1 32 2048 (replicate 32768 0) (replicate 32768 0) (replicate 7 0)
 
 -- what a flow has on the board: closed (none), or the streamID and the bytes so far
 abbrev pub viewOf : State → List ℕ → Flow → Option PDU

@@ -27,12 +27,6 @@ among flow (x ∷ xs) = sameFlow flow x || among flow xs
 abbrev pub AreBytes : List ℕ → Type 0
 AreBytes packet = (i : ℕ) → byte packet i < 256
 
--- what the one-flow endpoint delivers
-abbrev pub toldDelivery : Flow → Told → List Delivery
-toldDelivery flow held = []
-toldDelivery flow (delivered p) = delivery flow p ∷ []
-toldDelivery flow (refused number) = []
-
 -- an answer of the endpoint is the one-flow endpoint's, context number aside
 abbrev pub Tells : ℕ → List ℕ → Flow → answers.Said → Told → Type 0
 Tells room memory flow says held = says ≡ answers.held

@@ -63,11 +63,6 @@ first-passes {A} p (x ∷ xs) d h = go (p x) refl h (first-passes p xs d)
     go true e h r = e
     go false e h r = r (omega arith)
 
--- `any` by the walk's number
-pub any-below : {A : Type 0} (p : A → Bool) (l : List A) (n : ℕ) → length l ≡ n → any p l ≡ ltb (firstOf p l) n
-unfolding any
-any-below p l n z = ap (λ (k : ℕ). ltb (firstOf p l) k) z
-
 -- where none passes, each does not
 pub none-passes : {A : Type 0} (p : A → Bool) (l : List A) (d : A) → any p l ≡ false → (i : ℕ) → i < length l → p (getD l i d) ≡ false
 unfolding any

@@ -11,7 +11,7 @@ use lib.Dec.{ltb}
 use borrow.Author.Tests.{le-ltb}
 use Rattle.lists.specs.Bytes.{written}
 use Rattle.lists.proofs.Written.{written-front, length-written}
-use Rattle.flows.specs.Board.{Board, read, after}
+use Rattle.flows.specs.Board.{Board, read, after, paperBoard}
 use Rattle.records.specs.declared.Next.{Next}
 use Rattle.records.specs.declared.Next.the-variants.{Record, End, Bad}
 use Rattle.records.specs.Records.{Records, records, before, byNext, nextRecord, recordsFrom, recordsOf}
@@ -19,7 +19,7 @@ use Rattle.records.proofs.Found.{Inside, inside}
 use Rattle.lines.specs.Lines.{lineOf, endLine, badLog}
 use Rattle.lines.specs.Puts.{LinePut, linePut, putLine}
 use Rattle.logrun.specs.declared.Piece.the-variants.{Line, Last}
-use Rattle.logrun.specs.Output.{logBoard, linesOf, outputOf, output}
+use Rattle.logrun.specs.Output.{linesOf, outputOf, output}
 use Rattle.logrun.specs.Printing.{Printing, printedBy, printed, onPiece, pieces, PiecesMakeOutput}
 
 -- a line in a buffer with room: the buffer's first bytes are the line, and the room stays
@@ -67,5 +67,5 @@ from-place (suc most) b log at count out h room = go (nextRecord log at) refl (�
 pub pieces-make-output : PiecesMakeOutput
 unfolding output recordsOf
 pieces-make-output log out small room =
-    from-place (suc (length log)) logBoard log 0 0 out (omega arith) room
+    from-place (suc (length log)) paperBoard log 0 0 out (omega arith) room
     ∙ sym (rw (le-ltb 65536 (length log) small))

@@ -11,13 +11,13 @@ use lib.Dec.{ltb}
 use borrow.Author.Tests.{le-ltb}
 use Rattle.lists.specs.Bytes.{written}
 use Rattle.lists.proofs.Written.{written-front}
-use Rattle.flows.specs.Board.{Board, read, after}
+use Rattle.flows.specs.Board.{Board, read, after, paperBoard}
 use Rattle.records.specs.declared.Next.{Next}
 use Rattle.records.specs.declared.Next.the-variants.{Record, End, Bad}
 use Rattle.records.specs.Records.{Records, before, byNext, nextRecord, recordsFrom, recordsOf}
 use Rattle.records.proofs.Found.{inside}
 use Rattle.lines.specs.Lines.{lineOf, endLine, badLog}
-use Rattle.logrun.specs.Output.{logBoard, outputOf, output}
+use Rattle.logrun.specs.Output.{outputOf, output}
 use Rattle.logrun.specs.Running.{Running, running, ranBy, ranFrom, ranOf, RunLeft, runLeftBy, leaves, LogRunPromise, onRun, runs, RunsMakeOutput}
 use Rattle.logrun.specs.declared.Ran.{Ran}
 use Rattle.logrun.proofs.Pieces.{one-more}
@@ -139,11 +139,11 @@ from-place (suc most) b log at count out h few room =
 pub runs-make-output : RunsMakeOutput
 unfolding output recordsOf
 runs-make-output log out small room =
-    from-place (suc (length log)) logBoard log 0 0 out (omega arith) (omega arith) room
+    from-place (suc (length log)) paperBoard log 0 0 out (omega arith) (omega arith) room
     ∙ sym (rw (le-ltb 65536 (length log) small))
 
 -- ---- what a caller's loop adds up: the bytes put and those still to come
-pub still-first : (log : List ℕ) → length log ≤ 65536 → still logBoard log 0 0 ≡ output log
+pub still-first : (log : List ℕ) → length log ≤ 65536 → still paperBoard log 0 0 ≡ output log
 unfolding output recordsOf
 still-first log small = sym (rw (le-ltb 65536 (length log) small))
 

@@ -2,15 +2,11 @@
 use Prim.Native.Nat.{ℕ, _+_}
 use mathlib.Core.List.{List, [], _∷_, _++_}
 use mathlib.Core.Bool.{Bool, cond}
-use lib.ListN.{length, replicate}
+use lib.ListN.{length}
 use lib.Dec.{ltb}
-use Rattle.flows.specs.Board.{Board, freshBoard, read, after}
+use Rattle.flows.specs.Board.{Board, paperBoard, read, after}
 use Rattle.records.specs.Records.{Records, recordsOf}
 use Rattle.lines.specs.Lines.{lineOf, endLine, badLog}
-
--- our device is 1, MTU 32, R 2,048; the memories begin as zeros
-abbrev pub logBoard : Board
-logBoard = freshBoard 1 32 2048 (replicate 32768 0) (replicate 32768 0) (replicate 7 0)
 
 -- one line for each record
 abbrev pub linesOf : Board → List (List ℕ) → List ℕ
@@ -23,4 +19,4 @@ outputOf b count r = linesOf b (r .packets) ++ cond (r .clean) (endLine (count +
 
 -- a log over 65,536 bytes prints `bad log` alone
 unfoldable pub output : List ℕ → List ℕ
-output log = cond (ltb 65536 (length log)) badLog (outputOf logBoard 0 (recordsOf log))
+output log = cond (ltb 65536 (length log)) badLog (outputOf paperBoard 0 (recordsOf log))

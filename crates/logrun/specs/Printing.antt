@@ -3,7 +3,7 @@ use Prim.Native.Nat.{ℕ, zero, suc, _+_, _≤_, _<_}
 use mathlib.Core.Path.{_≡_}
 use mathlib.Core.List.{List, [], _++_}
 use lib.ListN.{length, take, drop}
-use Rattle.flows.specs.Board.{Board, read, after}
+use Rattle.flows.specs.Board.{Board, read, after, paperBoard}
 use Rattle.records.specs.declared.Next.{Next}
 use Rattle.records.specs.declared.Next.the-variants.{Record, End, Bad}
 use Rattle.records.specs.Records.{nextRecord}
@@ -11,7 +11,7 @@ use Rattle.lines.specs.Lines.{lineOf, endLine, badLog}
 use Rattle.lines.specs.Puts.{lineRoom, putLine}
 use Rattle.logrun.specs.declared.Piece.{Piece}
 use Rattle.logrun.specs.declared.Piece.the-variants.{Line, Last}
-use Rattle.logrun.specs.Output.{logBoard, output}
+use Rattle.logrun.specs.Output.{output}
 
 -- ---- what `next_line` answers and leaves
 
@@ -68,4 +68,4 @@ pieces (suc most) b log at count out =
 
 -- the pieces make the output, and there are no more than the log has bytes, and one
 abbrev pub PiecesMakeOutput : Type 0
-PiecesMakeOutput = (log out : List ℕ) → length log ≤ 65536 → lineRoom ≤ length out → pieces (suc (length log)) logBoard log 0 0 out ≡ output log
+PiecesMakeOutput = (log out : List ℕ) → length log ≤ 65536 → lineRoom ≤ length out → pieces (suc (length log)) paperBoard log 0 0 out ≡ output log

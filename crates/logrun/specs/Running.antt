@@ -6,14 +6,14 @@ use mathlib.Core.List.{List, [], _++_}
 use lib.ListN.{length, take, drop}
 use lib.Dec.{ltb}
 use Rattle.lists.specs.Bytes.{written}
-use Rattle.flows.specs.Board.{Board, read, after}
+use Rattle.flows.specs.Board.{Board, read, after, paperBoard}
 use Rattle.records.specs.declared.Next.{Next}
 use Rattle.records.specs.declared.Next.the-variants.{Record, End, Bad}
 use Rattle.records.specs.Records.{nextRecord}
 use Rattle.lines.specs.Lines.{lineOf, endLine, badLog}
 use Rattle.lines.specs.Puts.{lineRoom}
 use Rattle.logrun.specs.declared.Ran.{Ran}
-use Rattle.logrun.specs.Output.{logBoard, output}
+use Rattle.logrun.specs.Output.{output}
 
 -- ---- the lines of a run
 
@@ -95,4 +95,4 @@ runs (suc most) b log at count out =
 
 -- runs into a buffer that has room for a line make the output, and there are no more than the log has bytes, and one
 abbrev pub RunsMakeOutput : Type 0
-RunsMakeOutput = (log out : List ℕ) → length log ≤ 65536 → lineRoom ≤ length out → runs (suc (length log)) logBoard log 0 0 out ≡ output log
+RunsMakeOutput = (log out : List ℕ) → length log ≤ 65536 → lineRoom ≤ length out → runs (suc (length log)) paperBoard log 0 0 out ≡ output log

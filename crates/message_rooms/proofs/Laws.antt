@@ -14,7 +14,8 @@ use Rattle.sizes.specs.Sizes.{bytesOf}
 use Rattle.responses.specs.Type13.{DONE, answered}
 use Rattle.contexts.specs.State.{State}
 use Rattle.rules.specs.Messages.{lastWith}
-use Rattle.message_rooms.specs.Placing.{messageJoining, messageData, marksWith, messagePlaced, MessageKept}
+use Rattle.message_rooms.specs.Placing.{messageJoining, messageData, marksWith, messagePlaced}
+use Rattle.message_rooms.specs.Inside.{MessageKept}
 
 -- ---- numbers that stay inside
 

@@ -1,20 +1,17 @@
 -- What a type 11 segment leaves in one context and its room (document 01, 'Cutting and joining PDUs', messages).
-use Prim.Native.Nat.{ℕ, _≤_, _<_, _+_, _*_, _^_}
-use mathlib.Core.Path.{_≡_}
+use Prim.Native.Nat.{ℕ, _+_, _*_}
 use mathlib.Core.List.{List}
-use mathlib.Core.Bool.{Bool, false, cond}
-use lib.ListN.{length, drop}
+use mathlib.Core.Bool.{Bool, cond}
+use lib.ListN.{drop}
 use Rattle.lists.specs.Bytes.{written}
-use Rattle.answers.specs.Answers.{Said, held, message, refused}
+use Rattle.answers.specs.Answers.{Said, held, message}
 use Rattle.wire.specs.declared.MessageSegment.{MessageSegment}
-use Rattle.wire.specs.Type11.{isSingle, mailbox, messageDataFrom}
+use Rattle.wire.specs.Type11.{mailbox, messageDataFrom}
 use Rattle.sizes.specs.Sizes.{bytesOf}
 use Rattle.responses.specs.Type13.{DONE, answered}
 use Rattle.contexts.specs.declared.MessageContext.{MessageContext}
 use Rattle.contexts.specs.State.{State, withMessage, closedMessage}
-use Rattle.contexts.specs.Words.{stateOf, stateWords}
-use Rattle.contexts.specs.Marks.{marked, withMark, allMarked}
-use Rattle.refusal19.specs.Refusal19.{namedBy19}
+use Rattle.contexts.specs.Marks.{withMark, allMarked}
 use Rattle.rules.specs.Messages.{lastWith}
 
 -- the answer, the state, the message memory and the response buffer
@@ -66,34 +63,3 @@ messagePlaced s memory response p m n marks last =
     (withMessage s n (contextWith m (marksWith m marks) (lastWith m last)))
     (written memory (n * 4096 + m .msgseg * bytesOf (m .ssize)) (messageData p))
     (answered response p DONE)
-
--- ---- what the functions rely on and promise those above
-
--- words of a state that 19 does not name, buffers that 12 allows, a packet with its head
-pub record MessageReady (words memory response packet : List ℕ) (m : MessageSegment) : Type 0 where
-  pub whole : length words ≡ stateWords
-  pub good : namedBy19 (stateOf words) ≡ false
-  pub size : length memory ≡ 32768
-  pub reply : 7 ≤ length response
-  pub inside : 7 + m .raw ≡ length packet
-  pub segments : m .msglen < 16
-  pub number : m .msgseg < 16
-  pub boxes : m .mbox < 4
-
--- the segment is one more of its message: context n, and marks that leave it out
-pub record MessageFits (m : MessageSegment) (n marks last : ℕ) : Type 0 where
-  pub context : n < 8
-  pub several : isSingle m ≡ false
-  pub inside : marks < 2 ^ (m .msglen + 1)
-  pub unmarked : marked marks (m .msgseg) ≡ false
-  pub short : last ≤ 256
-
--- context n delivered or kept
-pub record MessageKept (s : State) (m : MessageSegment) (n marks last : ℕ) (says : Said) (after : State) : Type 0 where
-  pub answer : says ≡ answerWith m n marks last
-  pub state : after ≡ withMessage s n (contextWith m marks last)
-
--- a refusal and its response
-pub record Replied (before packet : List ℕ) (number status : ℕ) (says : Said) (after : List ℕ) : Type 0 where
-  pub answer : says ≡ refused number
-  pub response : after ≡ answered before packet status

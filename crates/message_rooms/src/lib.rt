@@ -9,8 +9,9 @@ ghost use Rattle.answers.specs.Answers.{said};
 ghost use Rattle.responses.specs.Type13.{DONE, answered};
 ghost use Rattle.contexts.specs.State.{closedMessage};
 ghost use Rattle.contexts.specs.Words.{stateOf, stateWords};
-ghost use Rattle.rules.specs.Messages.{Sound};
-ghost use Rattle.message_rooms.specs.Placing.{messageJoining, messagePlaced, MessageReady, MessageFits, MessageKept, Replied};
+ghost use Rattle.rules.specs.Inside.{Sound};
+ghost use Rattle.message_rooms.specs.Placing.{messageJoining, messagePlaced};
+ghost use Rattle.message_rooms.specs.Inside.{MessageReady, MessageFits, MessageKept, Replied};
 
 // The bytes of a message context's room.
 pub const ROOM: usize = 4096;

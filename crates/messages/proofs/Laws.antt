@@ -22,7 +22,8 @@ use Rattle.contexts.specs.Words.{stateOf}
 use Rattle.contexts.proofs.Words.{eight}
 use Rattle.refusal19.proofs.Good.{Message, good, message-found}
 use Rattle.rules.specs.Messages.{judged}
-use Rattle.message_rooms.specs.Placing.{messageJoining, messagePlaced, Replied}
+use Rattle.message_rooms.specs.Placing.{messageJoining, messagePlaced}
+use Rattle.message_rooms.specs.Inside.{Replied}
 use Rattle.message_rooms.proofs.Laws.{data-whole}
 use Rattle.messages.specs.Rows.{messageFound, messageOpen, otherMessage, alreadyMarked, neededNoneFree}
 use Rattle.messages.specs.Joining.{deliveredAtOnce, messageAccepted}

@@ -8,8 +8,9 @@ ghost use Rattle.answers.specs.Answers.{said};
 ghost use Rattle.wire.specs.Type11.{isSingle};
 ghost use Rattle.contexts.specs.State.{messageContext};
 ghost use Rattle.contexts.specs.Words.{stateOf};
-ghost use Rattle.rules.specs.Messages.{Sound};
-ghost use Rattle.message_rooms.specs.Placing.{messageJoining, MessageReady};
+ghost use Rattle.rules.specs.Inside.{Sound};
+ghost use Rattle.message_rooms.specs.Placing.{messageJoining};
+ghost use Rattle.message_rooms.specs.Inside.{MessageReady};
 ghost use Rattle.messages.specs.Step.{matched, messageStepped};
 
 // A single-segment message: the lowest free context, delivered at once.

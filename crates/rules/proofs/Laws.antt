@@ -9,7 +9,8 @@ use Rattle.wire.specs.declared.MessageSegment.{MessageSegment}
 use Rattle.wire.specs.Type11.{isSingle, isLast}
 use Rattle.sizes.specs.Sizes.{bytesOf, inEights}
 use Rattle.sizes.proofs.Laws.{eights-le}
-use Rattle.rules.specs.Messages.{reservedSize, badLength, pastLast, judged, lastWith, Sound}
+use Rattle.rules.specs.Messages.{reservedSize, badLength, pastLast, judged, lastWith}
+use Rattle.rules.specs.Inside.{Sound}
 
 raw-le : (m : MessageSegment) → badLength m ≡ false → m .raw ≤ bytesOf (m .ssize)
 unfolding badLength

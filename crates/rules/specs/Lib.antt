@@ -1,2 +1,3 @@
 pub mod Segments
 pub mod Messages
+pub mod Inside

@@ -1,7 +1,6 @@
 -- What makes a type 11 packet wrong by itself: rows 20 to 22 (document 01, 'Refusal numbers').
-use Prim.Native.Nat.{ℕ, _≤_}
-use mathlib.Core.Path.{_≡_}
-use mathlib.Core.Bool.{Bool, false, cond, not, _&&_}
+use Prim.Native.Nat.{ℕ}
+use mathlib.Core.Bool.{Bool, cond, not, _&&_}
 use lib.Dec.{eqb, ltb}
 use Rattle.wire.specs.declared.MessageSegment.{MessageSegment}
 use Rattle.wire.specs.Type11.{isSingle, isLast}
@@ -26,8 +25,3 @@ judged m = cond (reservedSize m) 20 (cond (badLength m) 21 (cond (pastLast m) 22
 -- the kept length of the last segment, with this segment
 abbrev pub lastWith : MessageSegment → ℕ → ℕ
 lastWith m last = cond (eqb (m .msgseg) (m .msglen)) (m .raw) last
-
--- rows 20 to 22 passed
-pub record Sound (m : MessageSegment) : Type 0 where
-  pub fits : m .raw ≤ bytesOf (m .ssize)
-  pub past : isSingle m ≡ false → m .msgseg ≤ m .msglen

@@ -12,7 +12,8 @@ use Rattle.answers.specs.Answers.{Said}
 use Rattle.wire.specs.declared.Segment.{Segment}
 use Rattle.contexts.specs.declared.StreamContext.{StreamContext}
 use Rattle.contexts.specs.State.{State, withStream, closedStream}
-use Rattle.stream_rooms.specs.Placing.{joining, placed, Kept, Fits}
+use Rattle.stream_rooms.specs.Placing.{joining, placed}
+use Rattle.stream_rooms.specs.Inside.{Kept, Fits}
 
 -- room n ends inside the memory
 pub room-ends : (n base count room : ℕ) → n < 16 → base + count ≤ room → n * room + base + count ≤ 16 * room

@@ -10,7 +10,8 @@ ghost use lib.ListN.{length};
 ghost use Rattle.answers.specs.Answers.{said};
 ghost use Rattle.contexts.specs.Words.{stateOf, stateWords};
 ghost use Rattle.contexts.specs.State.{closedStream};
-ghost use Rattle.stream_rooms.specs.Placing.{joining, placed, Ready, Closing, Kept, Fits};
+ghost use Rattle.stream_rooms.specs.Placing.{joining, placed};
+ghost use Rattle.stream_rooms.specs.Inside.{Ready, Closing, Kept, Fits};
 
 // A closed context: all its fields 0.
 pub fn closed() -> StreamContext

@@ -15,10 +15,12 @@ use Rattle.contexts.specs.declared.StreamContext.{StreamContext}
 use Rattle.contexts.specs.State.{State, streamIn, flowContext, freeStream}
 use Rattle.refusal19.specs.Refusal19.{namedBy19}
 use Rattle.refusal19.proofs.Good.{neither, good}
-use Rattle.stream_rooms.specs.Placing.{Joined, joining, placed, Closing, Fits}
+use Rattle.stream_rooms.specs.Placing.{Joined, joining, placed}
+use Rattle.stream_rooms.specs.Inside.{Closing, Fits}
 use Rattle.streams.specs.Rows.{foundFor, total, missized, notOpen, passesRoom, noneFree, lengthDiffers}
 use Rattle.streams.specs.Joining.{accepted, refusedClosing}
-use Rattle.streams.specs.Step.{begun, continued, stepped, Passed, refusedStaying}
+use Rattle.streams.specs.Step.{begun, continued, stepped, refusedStaying}
+use Rattle.streams.specs.Inside.{Passed}
 use Rattle.rules.specs.Segments.{malformed, wrongO, wrongLength, wrongSize}
 
 -- the context found is one of the sixteen, or 16

@@ -1,3 +1,4 @@
 pub mod Rows
 pub mod Joining
 pub mod Step
+pub mod Inside

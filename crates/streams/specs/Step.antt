@@ -1,14 +1,12 @@
 -- A type 9 packet from row 6 on, in the order of the code; the refusal table (crate reading) says the same by rows.
-use Prim.Native.Nat.{ℕ, _≤_}
-use mathlib.Core.Path.{_≡_}
+use Prim.Native.Nat.{ℕ}
 use mathlib.Core.List.{List}
-use mathlib.Core.Bool.{true, false, cond}
+use mathlib.Core.Bool.{false, cond}
 use Rattle.answers.specs.Answers.{refused}
 use Rattle.wire.specs.declared.Segment.{Segment}
-use Rattle.sizes.specs.Sizes.{dataLength}
 use Rattle.contexts.specs.State.{State}
 use Rattle.stream_rooms.specs.Placing.{Joined, joining}
-use Rattle.streams.specs.Rows.{foundFor, missized, notOpen, passesRoom, noneFree, lengthDiffers}
+use Rattle.streams.specs.Rows.{missized, notOpen, passesRoom, noneFree, lengthDiffers}
 use Rattle.streams.specs.Joining.{accepted, refusedClosing}
 use Rattle.rules.specs.Segments.{malformed}
 
@@ -34,20 +32,3 @@ stepped s memory p g =
     cond (malformed g) (refusedClosing s memory g 6)
     (cond (missized s g) (refusedClosing s memory g 7)
     (cond (g .begins) (begun s memory p g) (continued s memory p g)))
-
--- ---- what the private functions promise each other
-
--- rows 6 and 7 passed
-pub record Passed (s : State) (g : Segment) (found count : ℕ) : Type 0 where
-  pub flow : found ≡ foundFor s g
-  pub size : count ≡ dataLength g
-  pub within : count ≤ g .raw
-  pub small : count ≤ s .mtu
-
-pub record BeginsPDU (s : State) (g : Segment) (found count : ℕ) : Type 0 where
-  pub passed : Passed s g found count
-  pub start : g .begins ≡ true
-
-pub record ContinuesPDU (s : State) (g : Segment) (found count : ℕ) : Type 0 where
-  pub passed : Passed s g found count
-  pub start : g .begins ≡ false

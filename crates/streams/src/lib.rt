@@ -5,8 +5,10 @@ use wire::Segment;
 ghost use mathlib.Core.Path.{_≡_};
 ghost use Rattle.answers.specs.Answers.{said};
 ghost use Rattle.contexts.specs.Words.{stateOf};
-ghost use Rattle.stream_rooms.specs.Placing.{joining, Ready};
-ghost use Rattle.streams.specs.Step.{begun, continued, stepped, BeginsPDU, ContinuesPDU};
+ghost use Rattle.stream_rooms.specs.Placing.{joining};
+ghost use Rattle.stream_rooms.specs.Inside.{Ready};
+ghost use Rattle.streams.specs.Step.{begun, continued, stepped};
+ghost use Rattle.streams.specs.Inside.{BeginsPDU, ContinuesPDU};
 
 // A start or single: the flow's own context from its beginning, else the lowest free one.
 fn begin(

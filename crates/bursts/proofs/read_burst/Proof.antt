@@ -1,7 +1,8 @@
 -- `bursts::read_burst` meets its contract: rows 19 and 12, then the run.
 use Rattle.bursts.proofs.Tests.{short, named, missized, accepted, fits, has-room}
 use Rattle.bursts.specs.declared.Burst.{Burst}
-use Rattle.bursts.specs.Bursts.{run, finished, ran, Room}
+use Rattle.bursts.specs.Bursts.{run, finished, ran}
+use Rattle.bursts.specs.Inside.{Room}
 use Prim.Native.Nat.{ℕ}
 use mathlib.Core.Path.{ap, sym, subst, _∙_}
 use borrow.Author.Needs.{needs}

@@ -1,16 +1,18 @@
 -- `bursts::room_for` meets its contract: the lesser of two quotients.
 use Rattle.bursts.specs.Bursts.{roomFor}
-use borrow.Author.Tests.{le-ltb, lt-ltb}
+use mathlib.Core.Path.{sym}
+use native.Mathlib.Omega.{arith}
+use native.Mathlib.Nat.{min-eq-left, min-eq-right}
 use Rattle.bursts.proofs.room_for.Statement.{statement}
 use Rattle.bursts.proofs.room_for.Tie as tie
 
 returns : tie.Need-returns
 unfolding roomFor
-returns c = simp (lt-ltb _ _ (c .if1 .taken))
+returns c = sym (min-eq-left (omega (arith, c .if1 .taken)))
 
 returns-2 : tie.Need-returns-2
 unfolding roomFor
-returns-2 c = simp (le-ltb _ _ (c .if1 .left))
+returns-2 c = sym (min-eq-right (c .if1 .left))
 
 pub room-for-spec : {M : Type 1} → statement M
 room-for-spec = tie.close (tie.spec returns returns-2)

@@ -1,0 +1,23 @@
+-- What the functions rely on and promise each other. No promise of a public call speaks of it.
+use Prim.Native.Nat.{ℕ, _≤_}
+use mathlib.Core.Path.{_≡_}
+use mathlib.Core.Bool.{true, false}
+use Rattle.wire.specs.declared.Segment.{Segment}
+use Rattle.sizes.specs.Sizes.{dataLength}
+use Rattle.contexts.specs.State.{State}
+use Rattle.streams.specs.Rows.{foundFor}
+
+-- rows 6 and 7 passed
+pub record Passed (s : State) (g : Segment) (found count : ℕ) : Type 0 where
+  pub flow : found ≡ foundFor s g
+  pub size : count ≡ dataLength g
+  pub within : count ≤ g .raw
+  pub small : count ≤ s .mtu
+
+pub record BeginsPDU (s : State) (g : Segment) (found count : ℕ) : Type 0 where
+  pub passed : Passed s g found count
+  pub start : g .begins ≡ true
+
+pub record ContinuesPDU (s : State) (g : Segment) (found count : ℕ) : Type 0 where
+  pub passed : Passed s g found count
+  pub start : g .begins ≡ false
