@@ -14,12 +14,12 @@ use Rattle.answers.specs.Answers.{said}
 use Rattle.contexts.specs.Words.{stateOf}
 use Rattle.reading.specs.Read.{Left, lent, reading, ReadPromise}
 use Rattle.reading.specs.Good.{StillGood}
-use Rattle.reading.specs.Step.{ReadyToRead}
+use Rattle.reading.specs.Inside.{Fit, ReadyToRead}
 use Rattle.reading.proofs.Kept.{stays-good}
 use Rattle.reports.specs.declared.Report.{Report}
 use Rattle.reports.specs.Reports.{reportOf, wordsOfReport}
 use Rattle.bursts.specs.Bursts.{run, slot, answersPlaced}
-use Rattle.bursts.specs.Inside.{Fit, Room, PacketPromise}
+use Rattle.bursts.specs.Inside.{Room, PacketPromise}
 
 -- the 8 bytes that are lent
 slot-size : (n : ℕ) → 8 * n + 8 - 8 * n ≡ 8
@@ -40,7 +40,7 @@ module _ (words streams messages responses reports : List ℕ) (count : ℕ) (fi
   slot-length = ap length slot-is ∙ simp (length-take, length-drop) (omega (arith, room .replies))
 
   pub ready : ReadyToRead words streams messages lentSlot
-  ready = record { whole = fit .whole; good = fit .good; rooms = fit .rooms; boxes = fit .boxes; reply = omega (arith, slot-length) }
+  ready = record { fit = fit; reply = omega (arith, slot-length) }
 
   module _ (packet : List ℕ) (r : Reading) (words′ streams′ messages′ reply reports′ : List ℕ) (report : Report) (promise : ReadPromise (lent words streams messages lentSlot packet) r words′ streams′ messages′ reply) where
     here : Left

@@ -14,7 +14,8 @@ use Rattle.refusal19.specs.Refusal19.{namedBy19}
 use Rattle.reading.specs.Table.{wrongSizes, table}
 use Rattle.reading.proofs.Left.{sizes-fit}
 use Rattle.bursts.specs.Bursts.{Run, Finished, finished, answering, refusedAll, readBurst, lentTable, ran, roomFor}
-use Rattle.bursts.specs.Inside.{Fit, Room}
+use Rattle.reading.specs.Inside.{Fit}
+use Rattle.bursts.specs.Inside.{Room}
 
 module _ (pause : ℕ) (r : Run) (burst : List ℕ) where
   abbrev refusing : ℕ → Finished

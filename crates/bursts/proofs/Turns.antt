@@ -12,7 +12,8 @@ use Rattle.records.specs.declared.Next.the-variants.{Record, End, Bad}
 use Rattle.records.specs.Records.{nextRecord}
 use Rattle.records.proofs.Found.{inside}
 use Rattle.bursts.specs.Bursts.{Run, run, behind, Turned, turned, packetTurn, turnBy, pauseOf, turn, atEnd, atBad, isFull, stopped, onward, ran}
-use Rattle.bursts.specs.Inside.{Fit, Room, PacketPromise}
+use Rattle.reading.specs.Inside.{Fit}
+use Rattle.bursts.specs.Inside.{Room, PacketPromise}
 
 module _ (burst : List ℕ) (pause room : ℕ) (r : Run) where
   pub at-end : nextRecord burst (r .next) ≡ End → turned atEnd r ≡ turn pause room burst r

@@ -2,20 +2,10 @@
 use Prim.Native.Nat.{ℕ, _+_, _*_, _≤_}
 use mathlib.Core.Path.{_≡_}
 use mathlib.Core.List.{List}
-use mathlib.Core.Bool.{false}
 use lib.ListN.{length}
-use Rattle.contexts.specs.Words.{stateOf, stateWords}
-use Rattle.refusal19.specs.Refusal19.{namedBy19}
 use Rattle.bursts.specs.declared.Burst.{Burst}
 use Rattle.bursts.specs.declared.Turn.{Turn}
 use Rattle.bursts.specs.Bursts.{Run, run, behind, kindIn, turned, turn, finished, ran}
-
--- rows 19 and 12 have passed
-pub record Fit (words streams messages : List ℕ) : Type 0 where
-  pub whole : length words ≡ stateWords
-  pub good : namedBy19 (stateOf words) ≡ false
-  pub rooms : length streams ≡ 16 * stateOf words .room
-  pub boxes : length messages ≡ 32768
 
 -- the promise of reading one packet of a burst
 pub record PacketPromise (r : Run) (packet : List ℕ) (k : ℕ) (words streamMemory messageMemory responses reports : List ℕ) : Type 0 where

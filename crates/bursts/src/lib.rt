@@ -3,7 +3,8 @@
 use records::Next;
 ghost use mathlib.Core.Path.{_≡_};
 ghost use Rattle.bursts.specs.Bursts.{run, pauseOf, refusedAll, answering, roomFor, BurstPromise};
-ghost use Rattle.bursts.specs.Inside.{Fit, Room, PacketPromise, TurnPromise, RunPromise};
+ghost use Rattle.reading.specs.Inside.{Fit};
+ghost use Rattle.bursts.specs.Inside.{Room, PacketPromise, TurnPromise, RunPromise};
 
 // The bytes of `responses` that each packet has for its own.
 pub const SLOT: usize = 8;

@@ -17,7 +17,7 @@ use Rattle.stream_rooms.specs.Placing as streamRoom
 use Rattle.message_rooms.specs.Placing as messageRoom
 use Rattle.reading.specs.Table.{Lent, wrongSizes}
 use Rattle.reading.specs.Read.{left, leaving, ofStream, ofMessage, reading, ReadPromise}
-use Rattle.reading.specs.Step.{Refusal}
+use Rattle.reading.specs.Inside.{Refusal}
 
 -- a refusal that changes nothing
 pub refusing : (x : Lent) (number : ℕ) (r : Reading) → Refusal number r → leaving x number all ≡ reading x → ReadPromise x r (x .words) (x .streamMemory) (x .messageMemory) (x .response)

@@ -2,3 +2,4 @@ pub mod Table
 pub mod Read
 pub mod Good
 pub mod Step
+pub mod Inside

@@ -9,7 +9,7 @@ ghost use Rattle.contexts.specs.Words.{stateOf, stateWords};
 ghost use Rattle.refusal19.specs.Refusal19.{namedBy19};
 ghost use Rattle.reading.specs.Table.{wrongSizes};
 ghost use Rattle.reading.specs.Read.{lent, ReadPromise};
-ghost use Rattle.reading.specs.Step.{ReadyToRead, Refusal};
+ghost use Rattle.reading.specs.Inside.{ReadyToRead, Refusal};
 
 // The bytes of the message memory: 8 rooms of 4,096.
 pub const MESSAGE_MEMORY: usize = 32768;

@@ -61,7 +61,7 @@ step-requires c κs =
     let s = c .before .before .before .before .before .before .before .before .before .before .before .before .before .before .before .before .before .before .before in
     let x = lent (s .args .state .now) (s .args .stream-memory .now) (s .args .message-memory .now) (s .args .response .now) (s .args .packet .now) in
     let fit = sizes-fit (stateOf (s .args .state .now)) (s .args .stream-memory .now) (s .args .message-memory .now) (s .args .response .now) (sym (c .before .before .before .before .before .wrong-memory .ensures) ∙ c .before .before .before .before .if3 .left) in
-    record { whole = c .before .before .before .before .before .before .before .before .before .before .before .before .before .if1 .left; good = sym (c .before .before .before .before .before .before .before .before .before .before .before .named-by-19 .ensures) ∙ c .before .before .before .before .before .before .before .before .before .before .if2 .left; rooms = fit .0; boxes = fit .1; reply = fit .2 }
+    record { fit = record { whole = c .before .before .before .before .before .before .before .before .before .before .before .before .before .if1 .left; good = sym (c .before .before .before .before .before .before .before .before .before .before .before .named-by-19 .ensures) ∙ c .before .before .before .before .before .before .before .before .before .before .if2 .left; rooms = fit .0; boxes = fit .1 }; reply = fit .2 }
 
 same-length-6 : tie.Need-same-length-6
 same-length-6 c = search needs

@@ -33,7 +33,7 @@ step-requires : tie.Need-step-requires
 step-requires c κs =
     let s = c .before .before .before .before .before .before .before .before .before .before .before .before .before in
     let l = stream-parsed (s .args .packet .now) _ _ (sym (c .before .before .before .before .before .parse .ensures) ∙ c .before .before .before .g .given .1) in
-    record { whole = s .pre .whole; good = s .pre .good; size = s .pre .rooms; inside = l .1 }
+    record { whole = s .pre .fit .whole; good = s .pre .fit .good; size = s .pre .fit .rooms; inside = l .1 }
 
 enum-known-m : tie.Need-enum-known-m
 enum-known-m c = search needs
@@ -47,7 +47,7 @@ step-requires-2 c κs =
     let a : getD p 5 0 < 256 = omega (arith, known 5) in
     let b : getD p 6 0 < 256 = omega (arith, known 6) in
     let k = message-small p _ l a b in
-    record { whole = s .pre .whole; good = s .pre .good; size = s .pre .boxes; reply = s .pre .reply; inside = k .0; segments = k .1; number = k .2; boxes = k .3 }
+    record { whole = s .pre .fit .whole; good = s .pre .fit .good; size = s .pre .fit .boxes; reply = s .pre .reply; inside = k .0; segments = k .1; number = k .2; boxes = k .3 }
 
 same-length : tie.Need-same-length
 same-length c = search needs
@@ -57,7 +57,7 @@ returns c =
     let s = c .before .before .before .before .before .before .before .before .before .before .before .before in
     let x = lent (s .args .state .now) (s .args .stream-memory .now) (s .args .message-memory .now) (s .args .response .now) (s .args .packet .now) in
     let e = (ap (λ (d : ℕ). parsed d (s .args .packet .now)) (sym (c .before .before .before .before .before .device .ensures)) ∙ (sym (c .before .before .before .before .parse .ensures) ∙ c .before .before .number .given .1)) in
-    refusing x _ _ (c .refused .ensures) (sym (by-packet x (s .pre .whole) (s .pre .good) (sizes-right (stateOf (s .args .state .now)) (s .args .stream-memory .now) (s .args .message-memory .now) (s .args .response .now) (s .pre .rooms) (s .pre .boxes) (s .pre .reply)) ∙ ap (byParsed x) e))
+    refusing x _ _ (c .refused .ensures) (sym (by-packet x (s .pre .fit .whole) (s .pre .fit .good) (sizes-right (stateOf (s .args .state .now)) (s .args .stream-memory .now) (s .args .message-memory .now) (s .args .response .now) (s .pre .fit .rooms) (s .pre .fit .boxes) (s .pre .reply)) ∙ ap (byParsed x) e))
 
 same-length-2 : tie.Need-same-length-2
 same-length-2 c = search needs
@@ -71,7 +71,7 @@ returns-2 c =
     let x = lent (s .args .state .now) (s .args .stream-memory .now) (s .args .message-memory .now) (s .args .response .now) (s .args .packet .now) in
     let e = (ap (λ (d : ℕ). parsed d (s .args .packet .now)) (sym (c .before .before .before .before .before .before .before .before .before .before .before .device .ensures)) ∙ (sym (c .before .before .before .before .before .before .before .before .before .before .parse .ensures) ∙ c .before .before .before .before .before .before .before .before .g .given .1)) in
     let t = c .before .before .before .before .step in
-    stream-left x _ _ (t .last .0) (t .last .1 .0) _ (t .kept .0 ∙ s .pre .whole) (t .ensures) ∙ sym (by-packet x (s .pre .whole) (s .pre .good) (sizes-right (stateOf (s .args .state .now)) (s .args .stream-memory .now) (s .args .message-memory .now) (s .args .response .now) (s .pre .rooms) (s .pre .boxes) (s .pre .reply)) ∙ ap (byParsed x) e)
+    stream-left x _ _ (t .last .0) (t .last .1 .0) _ (t .kept .0 ∙ s .pre .fit .whole) (t .ensures) ∙ sym (by-packet x (s .pre .fit .whole) (s .pre .fit .good) (sizes-right (stateOf (s .args .state .now)) (s .args .stream-memory .now) (s .args .message-memory .now) (s .args .response .now) (s .pre .fit .rooms) (s .pre .fit .boxes) (s .pre .reply)) ∙ ap (byParsed x) e)
 
 same-length-4 : tie.Need-same-length-4
 same-length-4 c = search needs
@@ -88,7 +88,7 @@ returns-3 c =
     let x = lent (s .args .state .now) (s .args .stream-memory .now) (s .args .message-memory .now) (s .args .response .now) (s .args .packet .now) in
     let e = (ap (λ (d : ℕ). parsed d (s .args .packet .now)) (sym (c .before .before .before .before .before .before .before .before .before .before .before .before .before .before .device .ensures)) ∙ (sym (c .before .before .before .before .before .before .before .before .before .before .before .before .before .parse .ensures) ∙ c .before .before .before .before .before .before .before .before .before .before .before .m .given .1)) in
     let t = c .before .before .before .before .before .before .step2 in
-    message-left x _ (t .last .0) (t .last .1 .0) (t .last .1 .1 .0) _ (t .kept .0 ∙ s .pre .whole) (t .ensures) ∙ sym (by-packet x (s .pre .whole) (s .pre .good) (sizes-right (stateOf (s .args .state .now)) (s .args .stream-memory .now) (s .args .message-memory .now) (s .args .response .now) (s .pre .rooms) (s .pre .boxes) (s .pre .reply)) ∙ ap (byParsed x) e)
+    message-left x _ (t .last .0) (t .last .1 .0) (t .last .1 .1 .0) _ (t .kept .0 ∙ s .pre .fit .whole) (t .ensures) ∙ sym (by-packet x (s .pre .fit .whole) (s .pre .fit .good) (sizes-right (stateOf (s .args .state .now)) (s .args .stream-memory .now) (s .args .message-memory .now) (s .args .response .now) (s .pre .fit .rooms) (s .pre .fit .boxes) (s .pre .reply)) ∙ ap (byParsed x) e)
 
 pub step-spec : {M : Type 1} → statement M
 step-spec =
