@@ -42,6 +42,7 @@ use Rattle.records.specs.Records.{nextRecord}
 use Rattle.records.specs.declared.Next.{Next}
 use Rattle.logreader.specs.Reader.{readerAt, foundBy}
 use Rattle.logreader.specs.declared.LogReader.{LogReader}
+use Rattle.logreader.proofs.Calls.{answers}
 use Rattle.logreader.proofs.LogReader as T
 use Rattle.logreader.proofs.LogReader.Laws as T′
 use Rattle.records.proofs.Next as S
@@ -114,9 +115,6 @@ module _ {M : Type 1} (𝓤 : URA M) (H : Heap 𝓤) (A : Atoms 𝓤) (W : Given
       move ! (2 ∷ []) $ drop ! $ nothing ! $ move ! (1 ∷ 0 ∷ []) $ fjoin ! $ move ! (2 ∷ 0 ∷ []) $
       use2 W (raw (New 𝓤 H A mem run .pre to-new)) (qed W ((‵ (flft κ q) ⊛ ‵ ftrue) ∷ ‵ (owns (ShrSlice (named 0) κ u8 ∷ []) (s, tt) (v ∷ [], tt)) ∷ []) ∵ join ! $ frame ! $ done !) $ frame ! $ done !
 
-  new-said : (r : LogReader) → ent 𝓤 (ensured 𝓤 H A new.ended (new.clauses 𝓤 H A mem run) (κ, tt) (s, tt) tt r) (fact 𝓤 (r ≡ readerAt s 0))
-  new-said r = exE 𝓤 _ (λ ws. snd∗ 𝓤 (sem 𝓤 H A (lasts new.ended (κ, tt) (s, tt) ws)) (fact 𝓤 (r ≡ readerAt s 0)))
-
   -- the call of `moved`, at the struct r with the machine value u
   abbrev to-moved : LogReader → Val → Moved 𝓤 H A mem run .Ghost
   to-moved r u = (((κ, tt), (q, tt), tt, (r, (n, tt)), (u ∷ [], (vint w64 n ∷ [], tt))), tt)
@@ -126,18 +124,12 @@ module _ {M : Type 1} (𝓤 : URA M) (H : Heap 𝓤) (A : Atoms 𝓤) (W : Given
       qed W (‵ (B (κ, tt) .own r (u ∷ [])) ∷ (‵ (flft κ q) ⊛ ‵ ftrue) ∷ []) ∵
       nothing ! $ owned ! usize (Is usize) (uint-makes 𝓤 H A W w64) n _ (refl, ok) $ fjoin ! $ move ! (1 ∷ 0 ∷ []) $ fjoin ! $ move ! (1 ∷ 0 ∷ []) $ join ! $ frame ! $ done !
 
-  moved-said : (r r′ : LogReader) → ent 𝓤 (ensured 𝓤 H A moved.ended (moved.clauses 𝓤 H A mem run) (κ, tt) (r, (n, tt)) tt r′) (fact 𝓤 (r′ ≡ readerAt (r .log) n))
-  moved-said r r′ = exE 𝓤 _ (λ ws. snd∗ 𝓤 (sem 𝓤 H A (lasts moved.ended (κ, tt) (r, (n, tt)) ws)) (fact 𝓤 (r′ ≡ readerAt (r .log) n)))
-
   -- the call of `found`, at the struct r with the machine value u
   abbrev to-found : LogReader → Val → Found 𝓤 H A mem run .Ghost
   to-found r u = (((κ, tt), (q, tt), tt, (r, tt), (u ∷ [], tt)), tt)
 
   goes-found : (r : LogReader) (u : Val) → ent 𝓤 (⋆ 𝓤 H A (‵ (B (κ, tt) .own r (u ∷ [])) ∷ (‵ (flft κ q) ⊛ ‵ ftrue) ∷ [])) (Found 𝓤 H A mem run .pre (to-found r u))
   goes-found r u = qed W (‵ (B (κ, tt) .own r (u ∷ [])) ∷ (‵ (flft κ q) ⊛ ‵ ftrue) ∷ []) ∵ nothing ! $ move ! (1 ∷ 0 ∷ []) $ fjoin ! $ move ! (1 ∷ 0 ∷ []) $ join ! $ frame ! $ done !
-
-  found-said : (r : LogReader) (t : Next) → ent 𝓤 (ensured 𝓤 H A found.ended (found.clauses 𝓤 H A mem run) (κ, tt) (r, tt) tt t) (fact 𝓤 (t ≡ foundBy r))
-  found-said r t = exE 𝓤 _ (λ ws. snd∗ 𝓤 (sem 𝓤 H A (lasts found.ended (κ, tt) (r, tt) ws)) (fact 𝓤 (t ≡ foundBy r)))
 
   exits : (t : Next) (u : Val) → t ≡ answer → ent 𝓤 (⋆ 𝓤 H A (‵ (S.the-row .own t (u ∷ [])) ∷ (‵ (flft κ q) ⊛ ‵ ftrue) ∷ ‵ Own ∷ [])) (Post u)
   exits t u e =
@@ -154,28 +146,22 @@ module _ {M : Type 1} (𝓤 : URA M) (H : Heap 𝓤) (A : Atoms 𝓤) (W : Given
         move ! (10 ∷ []) $ use1 W (raw (New 𝓤 H A mem run .pre to-new) ⊛ ‵ Own) goes-new $ split ! $
         -- [what `new` asks; what s owns; room for _4; …; room for _3; …; _2; …; _1; …; room for _0; …]
         calls-at ! fm (New 𝓤 H A mem run) known-new to-new (and-then ! (load ! (from ! (stop !)) (look ! 8 refl)) (no-more !)) (λ u.
-        use1 W (later (some (λ (r : LogReader). ((‵ (flft κ q) ⊛ ‵ ftrue) ⊛ ‵ (B (κ, tt) .own r (u ∷ []))) ⊛ raw (ensured 𝓤 H A new.ended (new.clauses 𝓤 H A mem run) (κ, tt) (s, tt) tt r)))) (id⊢ 𝓤 _) $ await ! tt $ pick ! (λ r.
-        split ! $ move ! (1 ∷ []) $ use1 W (raw (fact 𝓤 (r ≡ readerAt s 0))) (new-said r) $ heard ! (r ≡ readerAt s 0) (λ e. split ! $ move ! (1 ∷ []) $
+        answers ! tt new.ended (κ, tt) (s, tt) (B (κ, tt)) u (‵ (flft κ q) ⊛ ‵ ftrue) (λ r. r ≡ readerAt s 0) (id⊢ 𝓤 _) (λ r e is.
         -- [what the struct owns; the token; what s owns; room for _4; …; room for _3; …; _2; …; _1; …; room for _0; …]
-        peeks ! (B (κ, tt)) (Is (B (κ, tt))) (shows 𝓤 H A (B (κ, tt))) r (u ∷ []) (λ is.
         land ! (from ! (stop !)) (init ! 3 refl (LL.lawful (T.the-type αᵉ) (T′.the-laws αᵉ) 𝓤 H A W .typed r _ is .0)) $
         use2 W (raw (Moved 𝓤 H A mem run .pre (to-moved r u))) (goes-moved r u) $
         calls-at ! fm (Moved 𝓤 H A mem run) known-moved (to-moved r u) (and-then ! (load ! (from ! (stop !)) (look ! 2 refl)) (and-then ! (load ! (from ! (stop !)) (look ! 6 refl)) (no-more !))) (λ u′.
-        use1 W (later (some (λ (r′ : LogReader). ((‵ (flft κ q) ⊛ ‵ ftrue) ⊛ ‵ (B (κ, tt) .own r′ (u′ ∷ []))) ⊛ raw (ensured 𝓤 H A moved.ended (moved.clauses 𝓤 H A mem run) (κ, tt) (r, (n, tt)) tt r′)))) (id⊢ 𝓤 _) $ await ! tt $ pick ! (λ r′.
-        split ! $ move ! (1 ∷ []) $ use1 W (raw (fact 𝓤 (r′ ≡ readerAt (r .log) n))) (moved-said r r′) $ heard ! (r′ ≡ readerAt (r .log) n) (λ e′. split ! $ move ! (1 ∷ []) $
+        answers ! tt moved.ended (κ, tt) (r, (n, tt)) (B (κ, tt)) u′ (‵ (flft κ q) ⊛ ‵ ftrue) (λ r′. r′ ≡ readerAt (r .log) n) (id⊢ 𝓤 _) (λ r′ e′ is′.
         -- [what the moved struct owns; the token; what s owns; _4; …; room for _3; …; _2; …; _1; …; room for _0; …]
-        peeks ! (B (κ, tt)) (Is (B (κ, tt))) (shows 𝓤 H A (B (κ, tt))) r′ (u′ ∷ []) (λ is′.
         land ! (from ! (stop !)) (init ! 5 refl (LL.lawful (T.the-type αᵉ) (T′.the-laws αᵉ) 𝓤 H A W .typed r′ _ is′ .0)) $
         use2 W (raw (Found 𝓤 H A mem run .pre (to-found r′ u′))) (goes-found r′ u′) $
         calls-at ! fm (Found 𝓤 H A mem run) known-found (to-found r′ u′) (and-then ! (load ! (from ! (stop !)) (look ! 4 refl)) (no-more !)) (λ w.
-        use1 W (later (some (λ (t : Next). ((‵ (flft κ q) ⊛ ‵ ftrue) ⊛ ‵ (S.the-row .own t (w ∷ []))) ⊛ raw (ensured 𝓤 H A found.ended (found.clauses 𝓤 H A mem run) (κ, tt) (r′, tt) tt t)))) (id⊢ 𝓤 _) $ await ! tt $ pick ! (λ t.
-        split ! $ move ! (1 ∷ []) $ use1 W (raw (fact 𝓤 (t ≡ foundBy r′))) (found-said r′ t) $ heard ! (t ≡ foundBy r′) (λ e″. split ! $ move ! (1 ∷ []) $
+        answers ! tt found.ended (κ, tt) (r′, tt) S.the-row w (‵ (flft κ q) ⊛ ‵ ftrue) (λ t. t ≡ foundBy r′) (id⊢ 𝓤 _) (λ t e″ is″.
         -- [the result; the token; what s owns; _4; …; _3; …; _2; …; _1; …; room for _0; …]
-        peeks ! S.the-row (Is S.the-row) (shows 𝓤 H A S.the-row) t (w ∷ []) (λ is″.
         land ! (from ! (stop !)) (init ! 11 refl (EL.lawful S.the-type S′.the-laws 𝓤 H A W tt .typed t _ is″ .0)) $
         returns ! (look ! 11 refl) $ forget ! 3 refl $ forget ! 5 refl $ forget ! 7 refl $ forget ! 9 refl $ forget ! 11 refl $
         move ! (11 ∷ 12 ∷ []) $ free1 ! $ move ! (9 ∷ 10 ∷ []) $ free1 ! $ move ! (7 ∷ 8 ∷ []) $ free1 ! $ move ! (5 ∷ 6 ∷ []) $ free1 ! $ move ! (3 ∷ 4 ∷ []) $ free1 ! $ free0 ! $
-        by ! (exits t w (e″ ∙ (ap foundBy e′ ∙ ap (λ (y : LogReader). foundBy (readerAt (y .log) n)) e))))))))))))))))))))
+        by ! (exits t w (e″ ∙ (ap foundBy e′ ∙ ap (λ (y : LogReader). foundBy (readerAt (y .log) n)) e))))))))))))))
 
 module _ {M : Type 1} (𝓤 : URA M) (H : Heap 𝓤) (A : Atoms 𝓤) (W : Given 𝓤 H A) (mem : Memory → SProp 𝓤) (run : Routine → Fun 𝓤) where
   record-at-walks : (C : Calls 𝓤 H) (Λ : Loops 𝓤 H) → FmC 𝓤 H (W .laws) C → Triple 𝓤 (C #logreader·new) (New 𝓤 H A mem run) → Triple 𝓤 (C #logreader·moved) (Moved 𝓤 H A mem run) → Triple 𝓤 (C #logreader·found) (Found 𝓤 H A mem run)
