@@ -22,6 +22,7 @@ use types.Part.{whole, sub, look-in}
 use types.Run.{look, init, forget, stop, fld, from, load, of-opd, and-then, no-more, assigns, land, returns, enter, alloc1, alloc0, params1, pass1, pass0, free1, free0}
 use sound.WpLaws.{FmC, fmOf, WpFn-mono}
 use denote.RattleType.{RattleType, owns}
+use denote.Ref.{now}
 use denote.Signature.{namedLft}
 use denote.Steps.{nothing}
 use denote.Enum.Laws as EL
@@ -35,6 +36,7 @@ use denote.Triple.Walked.{says, Stays, stay-none, walkOf, goes-none, Walks, ends
 use denote.Exit.{yes}
 use Rattle.logreader.specs.Reader.{foundBy}
 use Rattle.logreader.specs.declared.LogReader.{LogReader}
+use Rattle.records.specs.Records.{nextRecord}
 use Rattle.records.specs.declared.Next.{Next}
 use Rattle.logreader.proofs.Calls.{NextRecord, to-record, goes-record, answers}
 use Rattle.logreader.proofs.LogReader as T
@@ -91,7 +93,7 @@ module _ {M : Type 1} (𝓤 : URA M) (H : Heap 𝓤) (A : Atoms 𝓤) (W : Given
         assigns ! (of-opd ! (load ! (from ! (fld ! refl (stop !))) (look-in ! 4 (sub ! 1 refl (whole !))))) (from ! (stop !)) (init ! 0 refl (tt, wt .1 .1 .0)) $
         move ! (8 ∷ []) $ use1 W (raw (NextRecord 𝓤 H A mem run .pre (to-record 𝓤 H A mem run κ q d)) ⊛ ‵ Own) (apart (wt .1 .1 .0 .fits)) $ split ! $
         calls-at ! fm (NextRecord 𝓤 H A mem run) known (to-record 𝓤 H A mem run κ q d) (and-then ! (load ! (from ! (stop !)) (look ! 4 refl)) (and-then ! (load ! (from ! (stop !)) (look ! 2 refl)) (no-more !))) (λ u.
-        answers ! tt next-record.ended (κ, tt) (d .log, (d .at, tt)) S.the-row u (‵ (flft κ q) ⊛ ‵ ftrue) (λ r. r ≡ answer) (id⊢ 𝓤 _) (λ r e is.
+        answers ! tt next-record.ended (κ, tt) (d .log, (d .at, tt)) S.the-row u (‵ (flft κ q) ⊛ ‵ ftrue) (λ r. r ≡ nextRecord (now (d .log)) (d .at)) (id⊢ 𝓤 _) (λ r e is.
         -- [the result; the token; what the struct owns; _3; …; _2; …; _1; …; room for _0; …]
         land ! (from ! (stop !)) (init ! 9 refl (EL.lawful S.the-type S′.the-laws 𝓤 H A W tt .typed r _ is .0)) $
         returns ! (look ! 9 refl) $ forget ! 3 refl $ forget ! 5 refl $ forget ! 7 refl $ forget ! 9 refl $

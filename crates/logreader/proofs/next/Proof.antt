@@ -28,7 +28,7 @@ use denote.Laws.{Is, shows}
 use denote.Memory.{mem, cellAt}
 use denote.Plain.{uint-makes, uint-lawful}
 use denote.Builtin.{usize}
-use denote.Ref.{RefT, NamedLft, MutRef, ptr-vals, mut-tells}
+use denote.Ref.{RefT, NamedLft, MutRef, ptr-vals, mut-tells, now}
 use denote.Signature.{Slot, plain, namedLft}
 use denote.Steps.{only, opens, closes, owned, peeks, nothing}
 use denote.Enum.Laws as EL
@@ -43,6 +43,7 @@ use denote.Triple.Entry.{onEntry}
 use denote.Triple.Spec.{Meets, tripleOf}
 use denote.Triple.Table.{entered, cited}
 use denote.Triple.Walked.{says, Stays, stay-ref, walkOf, goes-ref, Walks, ends-at, walked, walk-meets}
+use Rattle.records.specs.Records.{nextRecord}
 use Rattle.records.specs.declared.Next.{Next}
 use Rattle.logreader.specs.Reader.{readerAt, foundBy, placeBehind}
 use Rattle.logreader.specs.declared.LogReader.{LogReader}
@@ -151,7 +152,7 @@ module _ {M : Type 1} (𝓤 : URA M) (H : Heap 𝓤) (A : Atoms 𝓤) (W : Given
         move ! (1 ∷ 5 ∷ []) $ use2 W (raw (NextRecord 𝓤 H A at-mem run .pre (to-record 𝓤 H A at-mem run κ′ q′ h)) ⊛ ‵ Own) (goes-record 𝓤 H A W at-mem run q′ (α κ′) h (was .1 .1 .1 .0 .1)) $ split ! $
         -- [what `next_record` asks; what the struct owns; the cell; the open borrow; obs; auth; …; room for _5; …; _4; …; room for _3; …; _2; …; _1; …; room for _0; …]
         calls-at ! fm (NextRecord 𝓤 H A at-mem run) known-record (to-record 𝓤 H A at-mem run κ′ q′ h) (and-then ! (load ! (from ! (stop !)) (look ! 9 refl)) (and-then ! (load ! (from ! (stop !)) (look ! 13 refl)) (no-more !))) (λ u.
-        answers ! tt next-record.ended (κ′, tt) (h .log, (h .at, tt)) S.the-row u (‵ (flft κ′ q′) ⊛ ‵ ftrue) (λ r. r ≡ answer) (id⊢ 𝓤 _) (λ r e is.
+        answers ! tt next-record.ended (κ′, tt) (h .log, (h .at, tt)) S.the-row u (‵ (flft κ′ q′) ⊛ ‵ ftrue) (λ r. r ≡ nextRecord (now (h .log)) (h .at)) (id⊢ 𝓤 _) (λ r e is.
         -- [what was found; 'a's token; what the struct owns; the cell; the open borrow; obs; auth; …; room for _5; …; _4; …; room for _3; …; _2; …; _1; …; room for _0; …]
         land ! (from ! (stop !)) (init ! 12 refl (EL.lawful S.the-type S′.the-laws 𝓤 H A W tt .typed r _ is .0)) $
         use1 W (‵ (S.the-row .own r (u ∷ [])) ⊛ ‵ (S.the-row .own r (u ∷ []))) (EL.copy S.the-type S′.the-copy 𝓤 H A W .twice r (u ∷ [])) $ split ! $
