@@ -1,15 +1,14 @@
 -- The print recursion: the quotient's digits, and then the last.
-use Prim.Native.Nat.{ℕ, suc, _+_, _/_, _%_, _≤_, _<_}
-use mathlib.Core.Path.{_≡_, refl, ap, sym, subst, _∙_}
-use mathlib.Core.List.{List, [], _∷_, _++_}
+use Prim.Native.Nat.{ℕ, _+_, _/_, _%_, _≤_, _<_}
+use mathlib.Core.Path.{_≡_, ap, sym, subst, _∙_}
+use mathlib.Core.List.{List, [], _∷_}
 use native.Mathlib.Omega.{arith}
 use lib.ListN.{length, length-append}
-use Rattle.lists.specs.Bytes.{written}
 use Rattle.lists.proofs.Written.{length-written}
 use Rattle.lines.specs.Decimal.{digit, decimal}
 use Rattle.lines.specs.Lines.{spaced}
 use Rattle.lines.specs.Puts.{Puts}
-use Rattle.lines.proofs.Decimal.{less, one-digit, more-digits, few}
+use Rattle.lines.proofs.Decimal.{one-digit, more-digits, few}
 use Rattle.lines.specs.Text.{text}
 use Rattle.lines.proofs.Puts.{both, none}
 use mathlib.Core.Bool.{Bool, true, false, cond}
@@ -25,10 +24,14 @@ one-more n h = ap length (more-digits n h) ∙ length-append (decimal (n / 10)) 
 pub only-digit : (out after : List ℕ) (at n r : ℕ) → n < 10 → Puts out at (digit n ∷ []) after r → Puts out at (decimal n) after r
 only-digit out after at n r h p = subst (λ (l : List ℕ). Puts out at l after r) (sym (one-digit n h)) p
 
+-- the buffer keeps its length
+pub same-size : (out bytes after : List ℕ) (at r : ℕ) → at + length bytes ≤ length out → Puts out at bytes after r → length after ≡ length out
+same-size out bytes after at r fits p = ap length (p .stored) ∙ length-written out bytes at fits
+
 -- the place of the last digit is inside
 pub inside : (out mid : List ℕ) (at n r : ℕ) → 10 ≤ n → at + length (decimal n) ≤ length out → Puts out at (decimal (n / 10)) mid r → r < length mid
 inside out mid at n r h fits p =
-    let long : length mid ≡ length out = ap length (p .stored) ∙ length-written out (decimal (n / 10)) at (omega (arith, one-more n h)) in
+    let long : length mid ≡ length out = same-size out (decimal (n / 10)) mid at r (omega (arith, one-more n h)) p in
     omega (arith, one-more n h, p .behind)
 
 pub last-digit : (out mid after : List ℕ) (at n r s : ℕ) → 10 ≤ n → at + length (decimal n) ≤ length out
@@ -39,10 +42,6 @@ last-digit out mid after at n r s h fits p q =
 -- twenty digits hold a word
 pub few-digits : (n : ℕ) → n < 18446744073709551616 → length (decimal n) ≤ 20
 few-digits n h = few 19 n (omega arith)
-
--- the buffer keeps its length
-pub same-size : (out bytes after : List ℕ) (at r : ℕ) → at + length bytes ≤ length out → Puts out at bytes after r → length after ≡ length out
-same-size out bytes after at r fits p = ap length (p .stored) ∙ length-written out bytes at fits
 
 -- ` dropped`, and its absence
 pub is-dropped : (out after : List ℕ) (at r : ℕ) (dropped : Bool) → dropped ≡ true → Puts out at (text " dropped") after r

@@ -2,11 +2,11 @@
 use Prim.Native.Nat.{ℕ, _+_, _≤_, _<_}
 use mathlib.Core.Path.{_≡_, refl, ap, sym, subst, _∙_}
 use mathlib.Core.Bool.{Bool, cond}
-use mathlib.Core.List.{List, [], _∷_, _++_, append-assoc}
+use mathlib.Core.List.{List, [], _++_}
 use native.Mathlib.Omega.{arith}
-use lib.ListN.{length, length-append}
+use lib.ListN.{length}
 use Rattle.answers.specs.declared.Answer.{Answer}
-use Rattle.answers.specs.declared.Answer.the-variants.{Held, Delivered, Message, Refused}
+use Rattle.answers.specs.declared.Answer.the-variants.{Held, Refused}
 use Rattle.answers.specs.Answers.{Said, said}
 use Rattle.lines.specs.Text.{text}
 use Rattle.lines.specs.Lines.{spaced, answerText, lineOf, endLine}
@@ -35,17 +35,24 @@ four out word m₁ m₂ m₃ m₄ after a b c d r₁ r₂ r₃ r₄ s three fits
 
 -- what an answer says, by its case
 module _ (out after : List ℕ) (r : ℕ) (answer : Answer) where
-  pub held-is : answer ≡ Held → Puts out 0 (text "held") after r → Within out 0 (answerText (said answer)) after r 87
-  held-is e p = (subst (λ (x : Answer). Puts out 0 (answerText (said x)) after r) (sym e) p, omega (arith, p .behind))
-
   pub says-is : (x : Answer) (bytes : List ℕ) → answer ≡ x → answerText (said x) ≡ bytes → Within out 0 bytes after r 87 → Within out 0 (answerText (said answer)) after r 87
   says-is x bytes e t p = (subst (λ (l : List ℕ). Puts out 0 l after r) (sym (ap (λ (y : Answer). answerText (said y)) e ∙ t)) (p .0), p .1)
+
+  pub held-is : answer ≡ Held → Puts out 0 (text "held") after r → Within out 0 (answerText (said answer)) after r 87
+  held-is e p = says-is Held (text "held") e refl (p, omega (arith, p .behind))
 
   pub refused-is : (mid : List ℕ) (number r₁ : ℕ) → answer ≡ Refused number → 87 ≤ length out → Puts out 0 (text "refused") mid r₁
       → Within mid r₁ (spaced number) after r (r₁ + 21) → Within out 0 (answerText (said answer)) after r 87
   refused-is mid number r₁ e fits p q =
       let seven : r₁ ≡ 7 = p .behind in
-      (subst (λ (x : Answer). Puts out 0 (answerText (said x)) after r) (sym e) (joined out (text "refused") (spaced number) mid after 0 r₁ r (omega (arith, q .1)) p (q .0)), omega (arith, q .1))
+      says-is (Refused number) (text "refused" ++ spaced number) e refl (joined out (text "refused") (spaced number) mid after 0 r₁ r (omega (arith, q .1)) p (q .0), omega (arith, q .1))
+
+-- text and the end of the line
+ends : (out bytes mid after : List ℕ) (r s : ℕ) → 128 ≤ length out → r < 128 → Puts out 0 bytes mid r → Puts mid r (text "\n") after s
+    → (linePut s after ≡ putLine out (bytes ++ text "\n")) × (s ≤ 128)
+ends out bytes mid after r s fits few p n =
+    let last : s ≡ r + 1 = n .behind in
+    has-room out _ after s fits (omega arith) (joined out bytes (text "\n") mid after 0 r s (omega arith) p n)
 
 -- a whole line: the answer, ` dropped` where so, the end of the line
 pub line-is : (out m₁ m₂ after : List ℕ) (says : Said) (dropped : Bool) (r₁ r₂ s : ℕ) → 128 ≤ length out
@@ -53,9 +60,7 @@ pub line-is : (out m₁ m₂ after : List ℕ) (says : Said) (dropped : Bool) (r
     → (linePut s after ≡ putLine out (lineOf says dropped)) × (s ≤ 128)
 unfolding lineOf
 line-is out m₁ m₂ after says dropped r₁ r₂ s fits p q n =
-    let last : s ≡ r₂ + 1 = n .behind in
-    let one = joined out (answerText says) (cond dropped (text " dropped") []) m₁ m₂ 0 r₁ r₂ (omega (arith, p .1, q .1)) (p .0) (q .0) in
-    has-room out _ after s fits (omega (arith, p .1, q .1)) (joined out (answerText says ++ cond dropped (text " dropped") []) (text "\n") m₂ after 0 r₂ s (omega (arith, p .1, q .1)) one n)
+    ends out _ m₂ after r₂ s fits (omega (arith, p .1, q .1)) (joined out (answerText says) (cond dropped (text " dropped") []) m₁ m₂ 0 r₁ r₂ (omega (arith, p .1, q .1)) (p .0) (q .0)) n
 
 -- the line of a clean end
 pub end-is : (out m₁ m₂ after : List ℕ) (count r₁ r₂ s : ℕ) → 128 ≤ length out
@@ -63,6 +68,4 @@ pub end-is : (out m₁ m₂ after : List ℕ) (count r₁ r₂ s : ℕ) → 128 
 unfolding endLine
 end-is out m₁ m₂ after count r₁ r₂ s fits p q n =
     let first : r₁ ≡ 3 = p .behind in
-    let last : s ≡ r₂ + 1 = n .behind in
-    let one = joined out (text "end") (spaced count) m₁ m₂ 0 r₁ r₂ (omega (arith, q .1)) p (q .0) in
-    has-room out _ after s fits (omega (arith, q .1)) (joined out (text "end" ++ spaced count) (text "\n") m₂ after 0 r₂ s (omega (arith, q .1)) one n)
+    ends out _ m₂ after r₂ s fits (omega (arith, q .1)) (joined out (text "end") (spaced count) m₁ m₂ 0 r₁ r₂ (omega (arith, q .1)) p (q .0)) n

@@ -15,7 +15,8 @@ use Rattle.endpoint.specs.Calls.{Stands, setup, setupTable, SetupPromise}
 use Rattle.lines.specs.Lines.{badLog}
 use Rattle.logrun.specs.Output.{output}
 use Rattle.logrun.specs.Printing.{board}
-use Rattle.logrun.proofs.Runs.{still, still-first}
+use Rattle.logrun.proofs.Pieces.{short-log}
+use Rattle.logrun.proofs.Runs.{still}
 
 set-up : (words : List ℕ) (r : Begun) → SetupPromise (replicate 147 0) 1 32 2048 r words → words ≡ wordsOf (fresh 1 32 2048)
 unfolding setup setupTable verdict badMTU badRoom
@@ -27,7 +28,7 @@ pub begins : (log words : List ℕ) (r : Begun) → length log ≤ 65536 → Set
 begins log words r small p =
     zero-add _
     ∙ (ap (λ (w : List ℕ). length (still (board w (replicate 32768 0) (replicate 32768 0) (replicate 7 0)) log 0 0)) (set-up words r p)
-    ∙ ap length (still-first log small))
+    ∙ ap length (short-log log small))
 
 pub too-long : (log : List ℕ) → 65536 < length log → 8 ≡ length (output log)
 unfolding output badLog

@@ -1,38 +1,40 @@
 -- The pieces in a row make the output.
 use Prim.Native.Nat.{ℕ, zero, suc, _+_, _-_, _≤_, _<_}
 use mathlib.Core.Path.{_≡_, refl, ap, ap₂, sym, _∙_}
-use mathlib.Core.Bool.{Bool, true, false, cond}
-use mathlib.Core.List.{List, [], _∷_, _++_, append-assoc}
+use mathlib.Core.Bool.{cond}
+use mathlib.Core.List.{List, _++_, append-assoc}
 use native.Mathlib.Omega.{arith}
-use native.Mathlib.Nat.{zero-add, add-zero}
+use native.Mathlib.Nat.{add-zero}
 use lib.ListN.{length, take, drop, length-append, length-drop}
 use lib.Seq.{take-at}
-use lib.Dec.{ltb}
 use borrow.Author.Tests.{le-ltb}
 use Rattle.lists.specs.Bytes.{written}
-use Rattle.lists.proofs.Written.{written-front, length-written}
+use Rattle.lists.proofs.Written.{written-front}
 use Rattle.flows.specs.Board.{Board, read, after, paperBoard}
 use Rattle.records.specs.declared.Next.{Next}
 use Rattle.records.specs.declared.Next.the-variants.{Record, End, Bad}
-use Rattle.records.specs.Records.{Records, records, before, byNext, nextRecord, recordsFrom, recordsOf}
-use Rattle.records.proofs.Found.{Inside, inside}
+use Rattle.records.specs.Records.{Records, before, byNext, nextRecord, recordsFrom, recordsOf}
+use Rattle.records.proofs.Found.{inside}
 use Rattle.lines.specs.Lines.{lineOf, endLine, badLog}
 use Rattle.lines.specs.Puts.{LinePut, linePut, putLine}
-use Rattle.logrun.specs.declared.Piece.the-variants.{Line, Last}
 use Rattle.logrun.specs.Output.{linesOf, outputOf, output}
-use Rattle.logrun.specs.Printing.{Printing, printedBy, printed, onPiece, pieces, PiecesMakeOutput}
+use Rattle.logrun.specs.Printing.{printedBy, printed, onPiece, pieces, PiecesMakeOutput}
 
--- a line in a buffer with room: the buffer's first bytes are the line, and the room stays
-module _ (out line : List ℕ) (room : 128 ≤ length out) where
-  put-there : putLine out line ≡ linePut (length line) (line ++ drop (length line) out)
-  unfolding putLine
-  put-there = rw (le-ltb (length out) 128 room, written-front out line)
+-- lines written in a buffer's front: its first bytes are the lines, and the room stays
+module _ (out lines : List ℕ) where
+  pub written-lines : take (length lines) (written out 0 lines) ≡ lines
+  written-lines = ap (take (length lines)) (written-front out lines) ∙ take-at lines (drop (length lines) out) (length lines) refl
 
-  pub written-line : take (putLine out line .size) (putLine out line .out) ≡ line
-  written-line = ap (λ (x : LinePut). take (x .size) (x .out)) put-there ∙ take-at line (drop (length line) out) (length line) refl
+  pub still-room : 128 ≤ length out → 128 ≤ length (written out 0 lines)
+  still-room h = rw (written-front out lines) (simp (length-append, length-drop) (omega arith))
 
-  pub still-room : 128 ≤ length (putLine out line .out)
-  still-room = rw put-there (simp (length-append, length-drop) (omega arith))
+-- a line in a buffer with room
+pub put-there : (out line : List ℕ) → 128 ≤ length out → putLine out line ≡ linePut (length line) (written out 0 line)
+unfolding putLine
+put-there out line room = rw (le-ltb (length out) 128 room)
+
+written-line : (out line : List ℕ) → 128 ≤ length out → take (putLine out line .size) (putLine out line .out) ≡ line
+written-line out line room = ap (λ (x : LinePut). take (x .size) (x .out)) (put-there out line room) ∙ written-lines out line
 
 -- one record more
 pub one-more : (b : Board) (count : ℕ) (packet : List ℕ) (r : Records)
@@ -61,11 +63,13 @@ from-place (suc most) b log at count out h room = go (nextRecord log at) refl (�
         let packet : List ℕ = take size (drop from log) in
         let line : List ℕ = lineOf (read b packet .says) (read b packet .dropped) in
         ap₂ (λ (x y : List ℕ). x ++ y) (written-line out line room)
-        (ih (after b packet) next (putLine out line .out) (omega (arith, i .within, i .onward)) (still-room out line room))
+        (ih (after b packet) next (putLine out line .out) (omega (arith, i .within, i .onward)) (rw (put-there out line room) (still-room out line room)))
         ∙ one-more b count packet (recordsFrom most log next)
 
-pub pieces-make-output : PiecesMakeOutput
+-- the whole output of a log that is not too long
+pub short-log : (log : List ℕ) → length log ≤ 65536 → outputOf paperBoard 0 (recordsFrom (suc (length log)) log 0) ≡ output log
 unfolding output recordsOf
-pieces-make-output log out small room =
-    from-place (suc (length log)) paperBoard log 0 0 out (omega arith) room
-    ∙ sym (rw (le-ltb 65536 (length log) small))
+short-log log small = sym (rw (le-ltb 65536 (length log) small))
+
+pub pieces-make-output : PiecesMakeOutput
+pieces-make-output log out small room = from-place (suc (length log)) paperBoard log 0 0 out (omega arith) room ∙ short-log log small

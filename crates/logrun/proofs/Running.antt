@@ -22,6 +22,7 @@ use Rattle.logrun.specs.declared.Piece.the-variants.{Line, Last}
 use Rattle.logrun.specs.declared.Ran.{Ran}
 use Rattle.logrun.specs.Printing.{Printing, printing, lastPrinted, printedBy, printed, LinePromise, Onward}
 use Rattle.logrun.proofs.Laws.{of-line, of-last}
+use Rattle.logrun.proofs.Pieces.{put-there}
 use Rattle.logrun.specs.Running.{Running, running, linesBefore, recordRan, ranBy, ranFrom, ranOf, RunLeft, runLeft, runLeftBy, leaves, LogRunPromise, RunOnward}
 
 -- ---- every number of steps that is more than the bytes left makes the same run
@@ -74,6 +75,11 @@ module _ (b : Board) (log : List ℕ) (at count room : ℕ) where
   unfolding ranFrom
   at-bad h e = rw (le-ltb room 128 h, e)
 
+-- what a run leaves, with no more records than bytes before its place
+pub leaves-is : (b : Board) (log : List ℕ) (at count : ℕ) (out : List ℕ) → count ≤ at → leaves b log at count out ≡ runLeftBy out (rest b log at count (length out))
+unfolding leaves ranOf
+leaves-is b log at count out h = rw (le-ltb at count h)
+
 -- ---- the loop of `run`: the lines so far stand in the buffer, the whole run is those and what is still to come, and no more records
 -- than bytes were read
 pub record Going (b₀ : Board) (log : List ℕ) (at₀ count₀ : ℕ) (out₀ : List ℕ) (b : Board) (at count : ℕ) (out : List ℕ) (used : ℕ) : Type 0 where
@@ -101,10 +107,6 @@ begins b log at count out h = record {
 
 behind-both : (first second : List ℕ) (x : Running) → linesBefore first (linesBefore second x) ≡ linesBefore (first ++ second) x
 behind-both first second x = ap (λ (l : List ℕ). running l (x .board) (x .at) (x .count) (x .over)) (sym (append-assoc first second (x .lines)))
-
-put-there : (out line : List ℕ) → 128 ≤ length out → putLine out line ≡ linePut (length line) (written out 0 line)
-unfolding putLine
-put-there out line room = rw (le-ltb (length out) 128 room)
 
 module _ (b₀ : Board) (log : List ℕ) (at₀ count₀ : ℕ) (out₀ : List ℕ) (b : Board) (at count : ℕ) (out : List ℕ) (used : ℕ)
     (g : Going b₀ log at₀ count₀ out₀ b at count out used) where
@@ -166,13 +168,9 @@ module _ (b₀ : Board) (log : List ℕ) (at₀ count₀ : ℕ) (out₀ : List �
           }
 
   -- what the whole run leaves, once no more is to come
-  leaves-rest : leaves b₀ log at₀ count₀ out₀ ≡ runLeftBy out₀ (rest b₀ log at₀ count₀ (length out₀))
-  unfolding leaves ranOf
-  leaves-rest = rw (le-ltb at₀ count₀ (g .front))
-
   leaves-lines : (b′ : Board) (line : List ℕ) (over : Bool) → rest b log at count (length out₀ - used) ≡ running line b′ at count over
       → leaves b₀ log at₀ count₀ out₀ ≡ runLeftBy out₀ (running (g .lines ++ line) b′ at count over)
-  leaves-lines b′ line over e = leaves-rest ∙ ap (runLeftBy out₀) (g .whole ∙ ap (linesBefore (g .lines)) e)
+  leaves-lines b′ line over e = leaves-is b₀ log at₀ count₀ out₀ (g .front) ∙ ap (runLeftBy out₀) (g .whole ∙ ap (linesBefore (g .lines)) e)
 
   -- the last line
   ends-by : (size : ℕ) (b′ : Board) (line part : List ℕ) → 128 ≤ length out - used → size ≤ 128
@@ -214,25 +212,40 @@ pub refuses : (b : Board) (log : List ℕ) (at count : ℕ) (out : List ℕ) →
 unfolding leaves ranOf
 refuses b log at count out h = rw (lt-ltb at count h) (ap (runLeft (record { used = 0; at = at; count = count; over = true }) b) (sym (written-front out [])))
 
+-- ---- what holds of every run: of one that puts nothing, or the last line alone; and of a record's line and a run behind it, if of that run
+module _ (log : List ℕ) (P : Board → ℕ → ℕ → Running → Type 0)
+    (nothing : (b : Board) (at count : ℕ) → P b at count (running [] b at count false))
+    (end : (b : Board) (at count : ℕ) → nextRecord log at ≡ End → P b at count (running (endLine count) b at count true))
+    (bad : (b : Board) (at count : ℕ) → nextRecord log at ≡ Bad → P b at count (running badLog b at count true))
+    (line : (b : Board) (at count from size next : ℕ) → nextRecord log at ≡ Record from size next → (x : Running)
+    → P (after b (take size (drop from log))) next (count + 1) x
+    → P b at count (linesBefore (lineOf (read b (take size (drop from log)) .says) (read b (take size (drop from log)) .dropped)) x)) where
+  pub by-lines : (most : ℕ) (b : Board) (at count room : ℕ) → P b at count (ranFrom most b log at count room)
+  unfolding ranFrom
+  by-lines zero b at count room = nothing b at count
+  by-lines (suc most) b at count room = go (ltb room 128) (nextRecord log at) refl (λ b′ next room′. by-lines most b′ next (count + 1) room′)
+    where
+      go : (t : Bool) (x : Next) → nextRecord log at ≡ x → ((b′ : Board) (next room′ : ℕ) → P b′ next (count + 1) (ranFrom most b′ log next (count + 1) room′))
+          → P b at count (cond t (running [] b at count false) (ranBy (λ b′ next room′. ranFrom most b′ log next (count + 1) room′) b log at count room x))
+      go true x e ih = nothing b at count
+      go false End e ih = end b at count e
+      go false Bad e ih = bad b at count e
+      go false (Record from size next) e ih = line b at count from size next e _ (ih _ next _)
+
 -- ---- how far a run comes
-inside-log : (most : ℕ) (b : Board) (log : List ℕ) (at count room : ℕ) → at ≤ length log
-    → (at ≤ ranFrom most b log at count room .at) × (ranFrom most b log at count room .at ≤ length log)
-unfolding ranFrom
-inside-log zero b log at count room h = (omega arith, h)
-inside-log (suc most) b log at count room h = go (ltb room 128) (nextRecord log at) refl (λ b′ next room′ h′. inside-log most b′ log next (count + 1) room′ h′)
+abbrev Inside : List ℕ → Board → ℕ → ℕ → Running → Type 0
+Inside log b at count x = at ≤ length log → (at ≤ x .at) × (x .at ≤ length log)
+
+inside-log : (most : ℕ) (b : Board) (log : List ℕ) (at count room : ℕ) → Inside log b at count (ranFrom most b log at count room)
+inside-log most b log = by-lines log (Inside log) stays (λ b at count e. stays b at count) (λ b at count e. stays b at count) onward most b
   where
-    go : (t : Bool) (x : Next) → nextRecord log at ≡ x
-        → ((b′ : Board) (next room′ : ℕ) → next ≤ length log → (next ≤ ranFrom most b′ log next (count + 1) room′ .at) × (ranFrom most b′ log next (count + 1) room′ .at ≤ length log))
-        → (at ≤ cond t (running [] b at count false) (ranBy (λ b′ next room′. ranFrom most b′ log next (count + 1) room′) b log at count room x) .at)
-        × (cond t (running [] b at count false) (ranBy (λ b′ next room′. ranFrom most b′ log next (count + 1) room′) b log at count room x) .at ≤ length log)
-    go true x e ih = (omega arith, h)
-    go false End e ih = (omega arith, h)
-    go false Bad e ih = (omega arith, h)
-    go false (Record from size next) e ih =
+    stays : (b : Board) (at count : ℕ) → at ≤ length log → (at ≤ at) × (at ≤ length log)
+    stays b at count h = (omega arith, h)
+
+    onward : (b : Board) (at count from size next : ℕ) → nextRecord log at ≡ Record from size next → (x : Running) → Inside log (after b (take size (drop from log))) next (count + 1) x → Inside log b at count x
+    onward b at count from size next e x ih h =
         let i = inside log at from size next e in
-        let packet : List ℕ = take size (drop from log) in
-        let line : List ℕ = lineOf (read b packet .says) (read b packet .dropped) in
-        let r = ih (after b packet) next (room - length line) (i .within) in
+        let r = ih (i .within) in
         (omega (arith, r .0, i .onward), r .1)
 
 -- with room for a line, and not over: past the place

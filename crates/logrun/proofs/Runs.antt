@@ -5,23 +5,19 @@ use mathlib.Core.Bool.{Bool, true, false, cond}
 use mathlib.Core.List.{List, [], _++_, append-assoc, append-nil}
 use native.Mathlib.Omega.{arith}
 use native.Mathlib.Nat.{add-zero}
-use lib.ListN.{length, take, drop, length-append, length-drop}
-use lib.Seq.{take-at}
-use lib.Dec.{ltb}
-use borrow.Author.Tests.{le-ltb}
+use lib.ListN.{length, take, drop, length-append}
 use Rattle.lists.specs.Bytes.{written}
-use Rattle.lists.proofs.Written.{written-front}
 use Rattle.flows.specs.Board.{Board, read, after, paperBoard}
 use Rattle.records.specs.declared.Next.{Next}
 use Rattle.records.specs.declared.Next.the-variants.{Record, End, Bad}
-use Rattle.records.specs.Records.{Records, before, byNext, nextRecord, recordsFrom, recordsOf}
+use Rattle.records.specs.Records.{Records, before, byNext, nextRecord, recordsFrom}
 use Rattle.records.proofs.Found.{inside}
 use Rattle.lines.specs.Lines.{lineOf, endLine, badLog}
-use Rattle.logrun.specs.Output.{outputOf, output}
-use Rattle.logrun.specs.Running.{Running, running, ranBy, ranFrom, ranOf, RunLeft, runLeftBy, leaves, LogRunPromise, onRun, runs, RunsMakeOutput}
+use Rattle.logrun.specs.Output.{outputOf}
+use Rattle.logrun.specs.Running.{Running, ranFrom, RunLeft, runLeftBy, LogRunPromise, onRun, runs, RunsMakeOutput}
 use Rattle.logrun.specs.declared.Ran.{Ran}
-use Rattle.logrun.proofs.Pieces.{one-more}
-use Rattle.logrun.proofs.Running.{rest, comes-on}
+use Rattle.logrun.proofs.Pieces.{written-lines, still-room, one-more, short-log}
+use Rattle.logrun.proofs.Running.{rest, leaves-is, by-lines, comes-on}
 
 -- ---- every number of steps that is more than the bytes left finds the same records
 records-enough : (m k : ℕ) (log : List ℕ) (at : ℕ) → length log - at < m → length log - at < k → recordsFrom m log at ≡ recordsFrom k log at
@@ -50,9 +46,9 @@ still-by b log count Bad = badLog
 still-by b log count (Record from size next) =
     lineOf (read b (take size (drop from log)) .says) (read b (take size (drop from log)) .dropped) ++ still (after b (take size (drop from log))) log next (count + 1)
 
-still-is : (b : Board) (log : List ℕ) (at count : ℕ) → still b log at count ≡ still-by b log count (nextRecord log at)
+still-is : (b : Board) (log : List ℕ) (at count : ℕ) (x : Next) → nextRecord log at ≡ x → still b log at count ≡ still-by b log count x
 unfolding recordsFrom still-by outputOf
-still-is b log at count = go (nextRecord log at) refl
+still-is b log at count x e = ap (λ (y : Next). outputOf b count (byNext log (recordsFrom (length log) log) y)) e ∙ go x e
   where
     go : (x : Next) → nextRecord log at ≡ x → outputOf b count (byNext log (recordsFrom (length log) log) x) ≡ still-by b log count x
     go End e = ap endLine (add-zero count)
@@ -68,53 +64,27 @@ abbrev onward : List ℕ → Running → List ℕ
 onward log x = x .lines ++ cond (x .over) [] (still (x .board) log (x .at) (x .count))
 
 front-of : (most : ℕ) (b : Board) (log : List ℕ) (at count room : ℕ) → onward log (ranFrom most b log at count room) ≡ still b log at count
-unfolding ranFrom still-by
-front-of zero b log at count room = refl
-front-of (suc most) b log at count room = go (ltb room 128) (nextRecord log at) (still-is b log at count) (λ b′ next room′. front-of most b′ log next (count + 1) room′)
-  where
-    go : (t : Bool) (x : Next) → still b log at count ≡ still-by b log count x
-        → ((b′ : Board) (next room′ : ℕ) → onward log (ranFrom most b′ log next (count + 1) room′) ≡ still b′ log next (count + 1))
-        → onward log (cond t (running [] b at count false) (ranBy (λ b′ next room′. ranFrom most b′ log next (count + 1) room′) b log at count room x)) ≡ still b log at count
-    go true x e ih = refl
-    go false End e ih = append-nil (endLine count) ∙ sym e
-    go false Bad e ih = append-nil badLog ∙ sym e
-    go false (Record from size next) e ih =
-        let packet : List ℕ = take size (drop from log) in
-        let line : List ℕ = lineOf (read b packet .says) (read b packet .dropped) in
-        let later : Running = ranFrom most (after b packet) log next (count + 1) (room - length line) in
-        append-assoc line (later .lines) (cond (later .over) [] (still (later .board) log (later .at) (later .count)))
-        ∙ (ap (λ (l : List ℕ). line ++ l) (ih (after b packet) next (room - length line)) ∙ sym e)
+unfolding still-by
+front-of most b log = by-lines log (λ b at count x. onward log x ≡ still b log at count)
+    (λ b at count. refl)
+    (λ b at count e. append-nil (endLine count) ∙ sym (still-is b log at count End e))
+    (λ b at count e. append-nil badLog ∙ sym (still-is b log at count Bad e))
+    (λ b at count from size next e x ih.
+    let line : List ℕ = lineOf (read b (take size (drop from log)) .says) (read b (take size (drop from log)) .dropped) in
+    append-assoc line (x .lines) (cond (x .over) [] (still (x .board) log (x .at) (x .count)))
+    ∙ (ap (λ (l : List ℕ). line ++ l) ih ∙ sym (still-is b log at count (Record from size next) e)))
+    most b
 
 -- a run hands on no more records than bytes
 few-still : (most : ℕ) (b : Board) (log : List ℕ) (at count room : ℕ) → count ≤ at → ranFrom most b log at count room .count ≤ ranFrom most b log at count room .at
-unfolding ranFrom
-few-still zero b log at count room h = h
-few-still (suc most) b log at count room h = go (ltb room 128) (nextRecord log at) refl (λ b′ next room′ h′. few-still most b′ log next (count + 1) room′ h′)
-  where
-    go : (t : Bool) (x : Next) → nextRecord log at ≡ x
-        → ((b′ : Board) (next room′ : ℕ) → count + 1 ≤ next → ranFrom most b′ log next (count + 1) room′ .count ≤ ranFrom most b′ log next (count + 1) room′ .at)
-        → cond t (running [] b at count false) (ranBy (λ b′ next room′. ranFrom most b′ log next (count + 1) room′) b log at count room x) .count
-        ≤ cond t (running [] b at count false) (ranBy (λ b′ next room′. ranFrom most b′ log next (count + 1) room′) b log at count room x) .at
-    go true x e ih = h
-    go false End e ih = h
-    go false Bad e ih = h
-    go false (Record from size next) e ih =
-        let i = inside log at from size next e in
-        let packet : List ℕ = take size (drop from log) in
-        let line : List ℕ = lineOf (read b packet .says) (read b packet .dropped) in
-        ih (after b packet) next (room - length line) (omega (arith, i .onward))
+few-still most b log = by-lines log (λ b at count x. count ≤ at → x .count ≤ x .at)
+    (λ b at count h. h)
+    (λ b at count e h. h)
+    (λ b at count e h. h)
+    (λ b at count from size next e x ih h. let i = inside log at from size next e in ih (omega (arith, i .onward)))
+    most b
 
 -- ---- the runs from a place on
-leaves-is : (b : Board) (log : List ℕ) (at count : ℕ) (out : List ℕ) → count ≤ at → leaves b log at count out ≡ runLeftBy out (rest b log at count (length out))
-unfolding leaves ranOf
-leaves-is b log at count out h = rw (le-ltb at count h)
-
-written-lines : (out lines : List ℕ) → take (length lines) (written out 0 lines) ≡ lines
-written-lines out lines = ap (take (length lines)) (written-front out lines) ∙ take-at lines (drop (length lines) out) (length lines) refl
-
-still-room : (out lines : List ℕ) → 128 ≤ length out → 128 ≤ length (written out 0 lines)
-still-room out lines h = rw (written-front out lines) (simp (length-append, length-drop) (omega arith))
-
 from-place : (most : ℕ) (b : Board) (log : List ℕ) (at count : ℕ) (out : List ℕ) → length log - at < most → count ≤ at → 128 ≤ length out
     → runs most b log at count out ≡ still b log at count
 unfolding runs
@@ -137,16 +107,9 @@ from-place (suc most) b log at count out h few room =
             ih (x .board) (x .at) (x .count) (written out 0 (x .lines)) (omega (arith, c .0, c .1)) few′ (still-room out (x .lines) room)
 
 pub runs-make-output : RunsMakeOutput
-unfolding output recordsOf
-runs-make-output log out small room =
-    from-place (suc (length log)) paperBoard log 0 0 out (omega arith) (omega arith) room
-    ∙ sym (rw (le-ltb 65536 (length log) small))
+runs-make-output log out small room = from-place (suc (length log)) paperBoard log 0 0 out (omega arith) (omega arith) room ∙ short-log log small
 
 -- ---- what a caller's loop adds up: the bytes put and those still to come
-pub still-first : (log : List ℕ) → length log ≤ 65536 → still paperBoard log 0 0 ≡ output log
-unfolding output recordsOf
-still-first log small = sym (rw (le-ltb 65536 (length log) small))
-
 module _ (b : Board) (log : List ℕ) (at count : ℕ) (out : List ℕ) (r : Ran) (b′ : Board) (out′ : List ℕ) (p : LogRunPromise b log at count out r b′ out′) (few : count ≤ at) where
   adds : r .used + length (cond (r .over) [] (still b′ log (r .at) (r .count))) ≡ length (still b log at count)
   adds =

@@ -1,17 +1,10 @@
 // Logs that the second program made, one behind the other: each a length of four bytes and the log.
 // Prints what the log program prints for each.
 use libc::STDIN_FILENO;
-use libc::STDOUT_FILENO;
+use printing::print_number;
+use printing::print_text;
 ghost use Prim.Native.Nat.{_+_, _<_, _≤_};
 ghost use lib.ListN.{length};
-
-fn print_text(text: &[u8]) {
-    io::write_all(STDOUT_FILENO, text);
-}
-
-fn print_number(n: usize) {
-    io::print_decimal(STDOUT_FILENO, n as u64);
-}
 
 fn print_one(log: &[u8]) {
     print_text(b"log ");

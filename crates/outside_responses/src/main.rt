@@ -1,38 +1,16 @@
 // A log of packets that the second program made. Prints for each packet its line, and the response that it wrote, or `none`.
 use libc::STDIN_FILENO;
-use libc::STDOUT_FILENO;
+use printing::print_bytes;
+use printing::print_text;
 use records::Next;
-ghost use mathlib.Core.Path.{_≡_};
-ghost use Prim.Native.Nat.{_≤_};
-ghost use lib.ListN.{length};
-
-fn print_text(text: &[u8]) {
-    io::write_all(STDOUT_FILENO, text);
-}
-
-fn print_byte(b: u8) {
-    io::print_hex(STDOUT_FILENO, b as u64, 2);
-}
-
-// Bytes as pairs of hexadecimal digits.
-fn print_bytes(bytes: &[u8]) {
-    let mut i = 0;
-    while i < bytes.len() {
-        print_byte(bytes[i]);
-        i += 1;
-    }
-}
 
 // Every response has seven bytes, and none begins with 0.
-fn print_response(response: &[u8]) {
-    if response.len() < 7 {
-        return;
-    }
+fn print_response(response: &[u8; 7]) {
     if response[0] == 0 {
         print_text(b"none\n");
         return;
     }
-    print_bytes(&response[..7]);
+    print_bytes(b"", response);
     print_text(b"\n");
 }
 

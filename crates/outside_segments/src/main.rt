@@ -2,31 +2,12 @@
 use answers::Written;
 use cutting::Heading;
 use libc::STDIN_FILENO;
-use libc::STDOUT_FILENO;
+use printing::print_bytes;
+use printing::print_number;
+use printing::print_text;
 ghost use mathlib.Core.Path.{_≡_};
-ghost use Prim.Native.Nat.{_+_, _<_, _≤_};
+ghost use Prim.Native.Nat.{_+_, _≤_};
 ghost use lib.ListN.{length};
-
-fn print_text(text: &[u8]) {
-    io::write_all(STDOUT_FILENO, text);
-}
-
-fn print_number(n: usize) {
-    io::print_decimal(STDOUT_FILENO, n as u64);
-}
-
-fn print_byte(b: u8) {
-    io::print_hex(STDOUT_FILENO, b as u64, 2);
-}
-
-// Bytes as pairs of hexadecimal digits.
-fn print_bytes(bytes: &[u8]) {
-    let mut i = 0;
-    while i < bytes.len() {
-        print_byte(bytes[i]);
-        i += 1;
-    }
-}
 
 // Byte i of a PDU.
 fn pdu_byte(seed: u8, i: usize) -> u8 {
@@ -45,21 +26,15 @@ fn fill(pdu: &mut [u8], seed: u8) {
 // What the writer does for one segment, with an output of so many bytes.
 fn print_segment(heading: Heading, mtu: usize, pdu: &[u8], number: usize, out: &mut [u8]) {
     match segments::write_segment(out, heading, mtu, pdu, number) {
-        Written::Length(size) => print_out(out, size),
+        Written::Length(size) => {
+            print_bytes(b"", &out[..size]);
+        }
         Written::Refused(n) => {
             print_text(b"refused ");
             print_number(n);
         }
     }
     print_text(b"\n");
-}
-
-// The first bytes of an output.
-fn print_out(out: &[u8], size: usize) {
-    if out.len() < size {
-        return;
-    }
-    print_bytes(&out[..size]);
 }
 
 // Every segment of a PDU, and one number past the last.

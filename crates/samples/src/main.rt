@@ -1,33 +1,18 @@
 // Reads document 01's two sample packets and prints what the endpoint answers: for the PDU its bytes, for the message its response.
 use answers::Answer;
-use libc::STDOUT_FILENO;
-
-fn word(text: &[u8]) {
-    io::write_all(STDOUT_FILENO, text);
-}
+use printing::print_bytes;
+use printing::print_number;
+use printing::print_text;
 
 fn number(n: usize) {
-    word(b" ");
-    io::print_decimal(STDOUT_FILENO, n as u64);
-}
-
-fn byte(b: u8) {
-    word(b" ");
-    io::print_hex(STDOUT_FILENO, b as u64, 2);
-}
-
-fn bytes(list: &[u8]) {
-    let mut i = 0;
-    while i < list.len() {
-        byte(list[i]);
-        i += 1;
-    }
+    print_text(b" ");
+    print_number(n);
 }
 
 // One line for an answer.
 fn line(answer: Answer) {
     match answer {
-        Answer::Held => word(b"held"),
+        Answer::Held => print_text(b"held"),
         Answer::Delivered {
             context: _,
             source,
@@ -35,7 +20,7 @@ fn line(answer: Answer) {
             stream,
             length,
         } => {
-            word(b"pdu");
+            print_text(b"pdu");
             number(source);
             number(cos);
             number(stream);
@@ -48,18 +33,18 @@ fn line(answer: Answer) {
             mailbox,
             length,
         } => {
-            word(b"msg");
+            print_text(b"msg");
             number(source);
             number(letter);
             number(mailbox);
             number(length);
         }
         Answer::Refused(n) => {
-            word(b"refused");
+            print_text(b"refused");
             number(n);
         }
     }
-    word(b"\n");
+    print_text(b"\n");
 }
 
 fn main() {
@@ -73,9 +58,9 @@ fn main() {
     let read = endpoint::read(&mut state, &mut streams, &mut messages, &mut response, pdu);
     let answer = read.answer;
     line(answer);
-    word(b"its bytes:");
-    bytes(endpoint::stream_room(&state, &streams, 0, 3));
-    word(b"\n");
+    print_text(b"its bytes:");
+    print_bytes(b" ", endpoint::stream_room(&state, &streams, 0, 3));
+    print_text(b"\n");
 
     let message = b"\x1b\x00\x01\x00\x02\x09\x60\x11\x12\x13\x14\x15\x16\x17\x18";
     let read = endpoint::read(
@@ -87,7 +72,7 @@ fn main() {
     );
     let answer = read.answer;
     line(answer);
-    word(b"its response:");
-    bytes(&response);
-    word(b"\n");
+    print_text(b"its response:");
+    print_bytes(b" ", &response);
+    print_text(b"\n");
 }

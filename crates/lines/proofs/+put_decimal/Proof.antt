@@ -3,7 +3,6 @@ use borrow.Author.Needs.{needs}
 use native.Mathlib.Omega.{arith}
 use Prim.Native.Nat.{ℕ, _<_, _≤_, _/_}
 use mathlib.Core.Path.{subst, _∙_}
-use native.Mathlib.Omega.{arith}
 use native.Mathlib.Nat.{mod-lt}
 use Rattle.lines.proofs.Decimal.{less}
 use Rattle.lines.proofs.Digits.{some, one-more, only-digit, inside, last-digit}

@@ -9,7 +9,7 @@ use Rattle.outside_responses.proofs.print_packet.Lts as lts
 use Rattle.endpoint.proofs.read.Reads as read-reads
 use Rattle.lines.proofs.write_line.Reads as write-line-reads
 use Rattle.outside_responses.proofs.print_response.Reads as print-response-reads
-use Rattle.outside_responses.proofs.print_text.Reads as print-text-reads
+use Rattle.printing.proofs.print_text.Reads as print-text-reads
 
 slice-aggregate-read : tie.Need-slice-aggregate-read
 slice-aggregate-read c = search needs
@@ -31,9 +31,6 @@ slice-aggregate-print-text c = simp length-take (omega arith)
 
 print-text-requires : tie.Need-print-text-requires
 print-text-requires c κs = search needs
-
-slice-aggregate-print-response : tie.Need-slice-aggregate-print-response
-slice-aggregate-print-response c = search needs
 
 print-response-requires : tie.Need-print-response-requires
 print-response-requires c κs = search needs
@@ -61,7 +58,6 @@ print-packet-spec =
     array-share-prefix-line
     slice-aggregate-print-text
     print-text-requires
-    slice-aggregate-print-response
     print-response-requires
     same-length
     same-length-2

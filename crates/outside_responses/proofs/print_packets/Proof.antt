@@ -1,8 +1,7 @@
 -- `outside_responses::print_packets` ends: each record's next place is behind it.
-use Prim.Native.Nat.{_≤_, _-_, _+_}
+use Prim.Native.Nat.{_≤_, _-_}
 use lib.ListN.{length}
 use mathlib.Core.Path.{_≡_, sym, _∙_}
-use native.Mathlib.Omega.{arith}
 use Rattle.records.proofs.Found.{inside}
 use borrow.Author.Needs.{needs}
 use native.Mathlib.Omega.{arith}

@@ -9,8 +9,8 @@ use Rattle.outside_segments.proofs.print_segments.Tie as tie
 use Rattle.outside_segments.proofs.print_segments.Reads as reads
 use Rattle.outside_segments.proofs.print_segments.Lts as lts
 use Rattle.outside_segments.proofs.print_segment.Reads as print-segment-reads
-use Rattle.outside_segments.proofs.print_number.Reads as print-number-reads
-use Rattle.outside_segments.proofs.print_text.Reads as print-text-reads
+use Rattle.printing.proofs.print_number.Reads as print-number-reads
+use Rattle.printing.proofs.print_text.Reads as print-text-reads
 use Rattle.segments.proofs.segment_count.Reads as segment-count-reads
 
 abbrev Inv-loop : tie.InvT-loop

@@ -1,21 +1,25 @@
--- `outside_responses::print_bytes` ends and stays inside the bytes.
+-- `printing::print_bytes` comes past every byte: i is at most their number, and what is left falls.
 use Prim.Native.Nat.{_≤_, _-_}
 use lib.ListN.{length}
 use borrow.Author.Needs.{needs}
-use Rattle.outside_responses.proofs.print_bytes.Statement.{statement}
-use Rattle.outside_responses.proofs.print_bytes.Tie as tie
-use Rattle.outside_responses.proofs.print_bytes.Reads as reads
-use Rattle.outside_responses.proofs.print_bytes.Lts as lts
-use Rattle.outside_responses.proofs.print_byte.Reads as print-byte-reads
+use Rattle.printing.proofs.print_bytes.Statement.{statement}
+use Rattle.printing.proofs.print_bytes.Tie as tie
+use Rattle.printing.proofs.print_bytes.Reads as reads
+use Rattle.printing.proofs.print_bytes.Lts as lts
+use Rattle.printing.proofs.print_byte.Reads as print-byte-reads
+use Rattle.printing.proofs.print_text.Reads as print-text-reads
 
 abbrev Inv-loop : tie.InvT-loop
-Inv-loop bytes i₀ i = i ≤ length bytes
+Inv-loop before bytes i₀ i = i ≤ length bytes
 
 abbrev μ-loop : tie.MeasureT-loop
-μ-loop bytes i₀ i = length bytes - i
+μ-loop before bytes i₀ i = length bytes - i
 
 loop-holds : tie.Need-loop-holds Inv-loop μ-loop
 loop-holds c = search needs
+
+print-text-requires : tie.Need-print-text-requires Inv-loop μ-loop
+print-text-requires c κs = search needs
 
 shared-slice-read-print-byte : tie.Need-shared-slice-read-print-byte Inv-loop μ-loop
 shared-slice-read-print-byte c = search needs
@@ -42,6 +46,7 @@ print-bytes-spec =
     Inv-loop
     μ-loop
     loop-holds
+    print-text-requires
     shared-slice-read-print-byte
     print-byte-requires
     add-i
