@@ -1,5 +1,9 @@
 pub mod Once
 pub mod Exactly
 pub mod Good
+pub mod Wider
 pub mod Demands
 pub mod Responses
+pub mod Leaves
+pub mod ParsedRows
+pub mod Meaning
