@@ -47,7 +47,7 @@ unfolding badRoom
 room-allowed mtu R holds most = rw (le-ltb R mtu holds, le-ltb 65536 R most)
 
 -- a fresh board, and at most sixteen flows
-begins : (device mtu R : ℕ) (flows : List Flow) (streams messages response : List ℕ) → length flows ≤ 16 → badMTU mtu ≡ false → R ≤ 65536 → Fresh mtu R streams messages response
+pub begins : (device mtu R : ℕ) (flows : List Flow) (streams messages response : List ℕ) → length flows ≤ 16 → badMTU mtu ≡ false → R ≤ 65536 → Fresh mtu R streams messages response
     → Begins device mtu R flows (freshBoard device mtu R streams messages response)
 begins device mtu R flows streams messages response few m most f =
     fresh-begins device mtu R flows streams messages response (Fine device mtu R flows) (by-flow device mtu R flows few)

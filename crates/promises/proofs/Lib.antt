@@ -4,6 +4,8 @@ pub mod Good
 pub mod Wider
 pub mod Demands
 pub mod Responses
+pub mod Demand2
+pub mod Status
 pub mod Leaves
 pub mod ParsedRows
 pub mod Meaning

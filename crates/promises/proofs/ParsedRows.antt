@@ -1,10 +1,9 @@
 -- `parsed` is rows 1 to 5 of the table: its cascade of tests, and the rows' verdict, test by test.
 use Prim.Native.Nat.{ℕ}
 use mathlib.Core.Path.{_≡_, refl, ap, sym, _∙_}
-use mathlib.Core.Bool.{true, false, cond, not, _||_, _&&_}
+use mathlib.Core.Bool.{cond}
 use native.Mathlib.Omega.{arith}
 use lib.Dec.{eqb}
-use lib.ListN.{take, drop}
 use Rattle.answers.specs.Refusals.{Row, Verdict, refuse, accept, verdict, Decides}
 use Rattle.answers.proofs.Exactly.{answered, decided, accepted}
 use Rattle.wire.specs.declared.Parsed.{Parsed}

@@ -1,13 +1,11 @@
 -- A sending that is fair for R is fair for the largest R, which holds every MTU.
-use Prim.Native.Nat.{ℕ, _≤_, _%_}
+use Prim.Native.Nat.{ℕ, _≤_}
 use mathlib.Core.Path.{_≡_}
 use mathlib.Core.List.{List, [], _∷_}
-use mathlib.Core.Bool.{false, not, _||_}
+use mathlib.Core.Bool.{false}
 use native.Mathlib.Omega.{arith}
-use lib.Dec.{eqb, ltb}
-use borrow.Author.Tests.{ltb-false}
 use Rattle.sizes.specs.Sizes.{badMTU}
-use Rattle.refusal19.proofs.Good.{neither}
+use Rattle.refusal19.proofs.Good.{mtu-fits}
 use Rattle.sending.specs.Sending.{Sent, FlowSent, Sending, Each, FairPDU, FairFlow, FairAnyLoss, Fair}
 
 each : {A : Type 0} (P Q : A → Type 0) → ((x : A) → P x → Q x) → (xs : List A) → Each P xs → Each Q xs
@@ -15,11 +13,7 @@ each P Q f [] e = tt
 each P Q f (x ∷ xs) e = (f x (e .0), each P Q f xs (e .1))
 
 pub largest-holds : (mtu : ℕ) → badMTU mtu ≡ false → mtu ≤ 65536
-unfolding badMTU
-largest-holds mtu e =
-    let a = neither (ltb mtu 32 || ltb 256 mtu) (not (eqb (mtu % 4) 0)) e in
-    let b = ltb-false 256 mtu (neither (ltb mtu 32) (ltb 256 mtu) (a .0) .1) in
-    omega arith
+largest-holds mtu e = omega (arith, mtu-fits mtu e .1)
 
 module _ (device mtu R : ℕ) (most : R ≤ 65536) where
   wider-PDU : (s : Sent) → FairPDU R s → FairPDU 65536 s
