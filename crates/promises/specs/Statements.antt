@@ -3,9 +3,10 @@
 --
 -- Demand 1. Any bytes and any buffers may be handed to any call. The contracts say so themselves: no public call has a `requires`, and its
 --           `ensures` fixes the answer, the state and every lent byte (endpoint/src/lib.rt, segments/src/lib.rt). Below: refusals exactly by
---           the tables, good states stay good, one outcome for each call.
--- Demand 2. Packets are written and read as the layouts say, and what the writer makes is read back.
--- Demand 3. The PDUs delivered are exactly those that lost nothing; the corollary; flows apart; and the joint, which lies outside.
+--           the tables, and what each leaves; when a response is written; good states stay good; one outcome for each call.
+-- Demand 2. Packets are written and read as the layouts say, and what the writer makes is read back, also of the calls themselves.
+-- Demand 3. The PDUs delivered are exactly those that lost nothing; the corollary; what its words mean, and impostors; flows apart; and the
+--           joint, which lies outside.
 use Prim.Native.Nat.{ℕ, suc, _+_, _*_, _<_, _≤_}
 use mathlib.Core.Path.{_≡_}
 use mathlib.Core.Logic.{_↔_}
