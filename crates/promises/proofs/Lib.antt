@@ -6,6 +6,7 @@ pub mod Demands
 pub mod Responses
 pub mod Demand2
 pub mod Status
+pub mod FromUs
 pub mod Leaves
 pub mod ParsedRows
 pub mod Meaning

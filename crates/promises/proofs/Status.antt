@@ -1,21 +1,16 @@
 -- When a response is written, and with which status: by the last column of the row that decides, or of an accepted packet by its type.
 use Prim.Native.Nat.{ℕ}
 use mathlib.Core.Path.{_≡_, refl, ap, sym, _∙_, subst}
-use mathlib.Core.Logic.{_⊎_, inl, inr}
 use mathlib.Core.List.{List, [], _∷_, _++_}
-use mathlib.Core.Bool.{Bool, true, false, cond, _&&_}
+use mathlib.Core.Bool.{Bool, true, false, _&&_}
 use mathlib.Core.Option.{Option}
 use mathlib.Core.Option as option
 use native.Mathlib.Omega.{arith}
-use lib.ListN.{take, drop}
-use borrow.Author.Tests.{eqb-true, not-false}
 use Rattle.answers.specs.Answers.{Said, held}
 use Rattle.answers.specs.Refusals.{Leaves, all, flowClosed, allERROR, allRETRY, Row, Verdict, refuse, accept, verdict, none}
 use Rattle.answers.proofs.Exactly.{decided, none-held}
-use Rattle.lists.specs.Bytes.{written}
-use Rattle.wire.specs.Packet.{packetType, destination, source}
 use Rattle.wire.specs.Type11.{isSingle}
-use Rattle.responses.specs.Type13.{DONE, RETRY, ERROR, responseTo, answered}
+use Rattle.responses.specs.Type13.{DONE, RETRY, ERROR, answered}
 use Rattle.stream_rooms.specs.Placing as streamRoom
 use Rattle.streams.specs.Joining as stream
 use Rattle.message_rooms.specs.Placing as messageRoom
@@ -28,18 +23,18 @@ use Rattle.reading.proofs.Cases.{by-test}
 use Rattle.reading.proofs.Rows.{one-type}
 use Rattle.reading.proofs.Kept.{other-type}
 use Rattle.sending.specs.Sending.{Each}
-use Rattle.promises.specs.Statements.{statuses, statusIn, statusOf, responseLeft, ResponsesExactly, ResponsesFromUs}
+use Rattle.promises.specs.Statements.{statuses, statusIn, statusOf, responseLeft, ResponsesExactly}
 use Rattle.promises.proofs.Exactly.{chosen, number-said}
 
 -- ---- The table's rows
 
 -- of one, and of the others
 infixr 10 _and_
-_and_ : {A B : Type 0} → A → B → A × B
+pub _and_ : {A B : Type 0} → A → B → A × B
 a and b = (a, b)
 
 -- what a row's last column writes
-abbrev writes : Leaves → Option ℕ
+abbrev pub writes : Leaves → Option ℕ
 writes all = option.none
 writes flowClosed = option.none
 writes allERROR = option.some ERROR
@@ -51,13 +46,18 @@ left-response x number flowClosed = refl
 left-response x number allERROR = refl
 left-response x number allRETRY = refl
 
-nothing-written : {A : Type 0} (status : ℕ) → _≡_ {A = Option ℕ} option.none (option.some status) → A
+pub nothing-written : {A : Type 0} (status : ℕ) → _≡_ {A = Option ℕ} option.none (option.some status) → A
 nothing-written status e = absurd (let z : _≡_ {A = ℕ} 0 1 = cc in omega arith)
 
 -- a row's number has the status that its last column writes; and what writes is of type 11
 record Agrees (x : Lent) (r : Row) : Type 0 where
   status : statusIn statuses (r .number) ≡ writes (r .leaves)
   type : (status : ℕ) → writes (r .leaves) ≡ option.some status → r .holds ≡ true → is11 x ≡ true
+
+-- what holds of each row holds of one of them
+of-each : (P : Row → Type 0) (earlier later : List Row) (r : Row) → Each P (earlier ++ (r ∷ later)) → P r
+of-each P [] later r e = e .0
+of-each P (q ∷ earlier) later r e = of-each P earlier later r (e .1)
 
 module _ (x : Lent) where
   quiet : (number : ℕ) (holds : Bool) (leaves : Leaves) → statusIn statuses number ≡ option.none → writes leaves ≡ option.none → Agrees x (record { number = number; holds = holds; leaves = leaves })
@@ -75,16 +75,12 @@ module _ (x : Lent) where
       and told 20 _ allERROR refl and told 21 _ allERROR refl and told 22 _ allERROR refl and told 23 _ allERROR refl and told 24 _ allERROR refl and told 25 _ allRETRY refl
       and tt
 
-  of-each : (P : Row → Type 0) (earlier later : List Row) (r : Row) → Each P (earlier ++ (r ∷ later)) → P r
-  of-each P [] later r e = e .0
-  of-each P (q ∷ earlier) later r e = of-each P earlier later r (e .1)
-
   -- so does the verdict
-  record Told (number : ℕ) (leaves : Leaves) : Type 0 where
-    status : statusIn statuses number ≡ writes leaves
-    type : (status : ℕ) → writes leaves ≡ option.some status → is11 x ≡ true
+  pub record Told (number : ℕ) (leaves : Leaves) : Type 0 where
+    pub status : statusIn statuses number ≡ writes leaves
+    pub type : (status : ℕ) → writes leaves ≡ option.some status → is11 x ≡ true
 
-  refused-so : (number : ℕ) (leaves : Leaves) → verdict (table x) ≡ refuse number leaves → Told number leaves
+  pub refused-so : (number : ℕ) (leaves : Leaves) → verdict (table x) ≡ refuse number leaves → Told number leaves
   refused-so number leaves e =
       let w = decided (table x) number leaves e in
       let d = w .1 in
@@ -96,7 +92,7 @@ module _ (x : Lent) where
 
   -- ---- An accepted packet
 
-  stream-silent : is11 x ≡ false → statusOf x (stream.accepted (stateIn x) (x .streamMemory) (x .packet) (segmentIn x) .says) ≡ option.none
+  pub stream-silent : is11 x ≡ false → statusOf x (stream.accepted (stateIn x) (x .streamMemory) (x .packet) (segmentIn x) .says) ≡ option.none
   unfolding stream.accepted streamRoom.placed
   stream-silent t = chosen (λ (s : Said). statusOf x s ≡ option.none) (segmentIn x .ends) _ held refl (rw t)
 
@@ -132,7 +128,7 @@ module _ (x : Lent) where
       let d = message-done t in
       rw n (by-status (option.some DONE) (j .response) (j .says) (d .status) (d .response))
 
-  said-status : (number : ℕ) (leaves : Leaves) → statusOf x (leaving x number leaves .says) ≡ statusIn statuses number
+  pub said-status : (number : ℕ) (leaves : Leaves) → statusOf x (leaving x number leaves .says) ≡ statusIn statuses number
   said-status number leaves = ap (statusOf x) (number-said x number leaves)
 
   left : (v : Verdict) → verdict (table x) ≡ v → outcome x v .response ≡ responseLeft x (statusOf x (outcome x v .says))
@@ -140,72 +136,6 @@ module _ (x : Lent) where
       by-status (writes leaves) (leaving x number leaves .response) (leaving x number leaves .says) (said-status number leaves ∙ refused-so number leaves e .status) (left-response x number leaves)
   left accept e = by-test (is9 x) stream-left (λ n. message-left n (other-type x (none-held (table x) e) n))
 
-  -- ---- To whom
-
-  -- rows that leave all decide, or their tests fail
-  past-quiet : (earlier later : List Row) → Each (λ (r : Row). r .leaves ≡ all) earlier → ((number : ℕ) × (verdict (earlier ++ later) ≡ refuse number all)) ⊎ none earlier
-  unfolding verdict none
-  past-quiet [] later q = inr tt
-  past-quiet (r ∷ earlier) later q = go (r .holds) refl (past-quiet earlier later (q .1))
-    where
-      go : (b : Bool) → r .holds ≡ b → ((number : ℕ) × (verdict (earlier ++ later) ≡ refuse number all)) ⊎ none earlier
-          → ((number : ℕ) × (cond b (refuse (r .number) (r .leaves)) (verdict (earlier ++ later)) ≡ refuse number all)) ⊎ ((b ≡ false) × none earlier)
-      go true h o = inl (r .number, ap (refuse (r .number)) (q .0))
-      go false h (inl w) = inl w
-      go false h (inr n) = inr (refl, n)
-
-  -- so a verdict that writes has passed row 3
-  addressed : none (take 5 (table x)) → destination (x .packet) ≡ stateIn x .device
-  unfolding none table
-  addressed n = eqb-true (destination (x .packet)) (stateIn x .device) (not-false _ (n .1 .1 .1 .1 .0))
-
-  written-for-us : (number status : ℕ) (leaves : Leaves) → verdict (table x) ≡ refuse number leaves → writes leaves ≡ option.some status → destination (x .packet) ≡ stateIn x .device
-  unfolding table
-  written-for-us number status leaves e w = go (past-quiet (take 5 (table x)) (drop 5 (table x)) (refl and refl and refl and refl and refl and tt))
-    where
-      go : ((n : ℕ) × (verdict (table x) ≡ refuse n all)) ⊎ none (take 5 (table x)) → destination (x .packet) ≡ stateIn x .device
-      go (inl q) =
-          let same : refuse number leaves ≡ refuse (q .0) all = sym e ∙ q .1 in
-          let l : leaves ≡ all = cc in
-          nothing-written status (sym (ap writes l) ∙ w)
-      go (inr n) = addressed n
-
-  -- what is responded to is of type 11 and addressed to us
-  record Right : Type 0 where
-    type : is11 x ≡ true
-    for-us : destination (x .packet) ≡ stateIn x .device
-
-  first-five : none (table x) → none (take 5 (table x))
-  unfolding none table
-  first-five n = n .0 and n .1 .0 and n .1 .1 .0 and n .1 .1 .1 .0 and n .1 .1 .1 .1 .0 and tt
-
-  accepted-right : none (table x) → (status : ℕ) → statusOf x (accepting x .says) ≡ option.some status → Right
-  accepted-right n status s =
-      by-test (is9 x)
-      (λ t. nothing-written status (sym (stream-silent (one-type x t)) ∙ rw t at s))
-      (λ t. record { type = other-type x n t; for-us = addressed (first-five n) })
-
-  right : (v : Verdict) → verdict (table x) ≡ v → (status : ℕ) → statusOf x (outcome x v .says) ≡ option.some status → Right
-  right (refuse number leaves) e status s =
-      let so = refused-so number leaves e in
-      let w : writes leaves ≡ option.some status = sym (so .status) ∙ (sym (said-status number leaves) ∙ s) in
-      record { type = so .type status w; for-us = written-for-us number status leaves e w }
-  right accept e status s = accepted-right (none-held (table x) e) status s
-
--- a response's source is the request's destination
-swapped : (response p : List ℕ) (status : ℕ) → source (answered response p status) ≡ destination p
-unfolding answered written responseTo
-swapped response p status = refl
-
 pub responses-exactly : ResponsesExactly
 unfolding reading
 responses-exactly x = left x (verdict (table x)) refl
-
-pub responses-from-us : ResponsesFromUs
-responses-from-us x status s =
-    let r : Right x = unfold reading in (right x (verdict (table x)) refl status s) in
-    record {
-      to-message = eqb-true (packetType (x .packet)) 11 (r .type);
-      for-us = r .for-us;
-      own-source = ap source (responses-exactly x ∙ ap (responseLeft x) s) ∙ (swapped (x .response) (x .packet) status ∙ r .for-us);
-    }
