@@ -5,6 +5,7 @@ use mathlib.Core.Bool.{Bool, true, false, false≢true}
 use mathlib.Core.List.{List, [], _∷_, _++_}
 use native.Mathlib.Omega.{arith}
 use lib.ListN.{length, replicate, length-replicate}
+use borrow.Author.Tests.{le-ltb}
 use Rattle.lists.specs.Bytes.{written}
 use Rattle.answers.specs.declared.Reading.{Reading}
 use Rattle.answers.specs.declared.Begun.the-variants.{Ready}
@@ -14,6 +15,8 @@ use Rattle.answers.proofs.Exactly.{accepted, none-held}
 use Rattle.wire.specs.declared.Flow.{Flow}
 use Rattle.sizes.specs.Sizes.{badMTU}
 use Rattle.refusal19.specs.Refusal19.{badRoom}
+use Rattle.refusal19.proofs.Good.{good}
+use Rattle.refusal19.proofs.Kept.{fresh-good}
 use Rattle.cutting.specs.Cutting.{packetOf}
 use Rattle.segments.specs.Writer.{writerTable, writing, wroteBy}
 use Rattle.reading.specs.Read as reading
@@ -35,14 +38,20 @@ use Rattle.sending.proofs.Mixture.{mixture-is-fair}
 use Rattle.sending.proofs.Joint.{joint-delivered}
 use Rattle.sending.proofs.Untold.{joint-untold}
 use Rattle.examples.proofs.Table.{examples-hold}
+use Rattle.promises.proofs.Wider.{largest-holds, wider}
 use Rattle.promises.specs.Statements.{Fresh, WriterMakes, FieldsReadBack, Demand2, Demand3, Demand3AnyLoss, Demand3NotEmpty, Reads, stop, call, Demand3OfCalls, Corollary3, FlowsDoNotDisturb, Joint, JointCannotBeTold, StarredExamples}
 
+-- MTU ≤ R ≤ 65,536
+room-allowed : (mtu R : ℕ) → mtu ≤ R → R ≤ 65536 → badRoom mtu R ≡ false
+unfolding badRoom
+room-allowed mtu R holds most = rw (le-ltb R mtu holds, le-ltb 65536 R most)
+
 -- a fresh board, and at most sixteen flows
-begins : (device mtu R : ℕ) (flows : List Flow) (streams messages response : List ℕ) → length flows ≤ 16 → Fresh mtu R streams messages response
+pub begins : (device mtu R : ℕ) (flows : List Flow) (streams messages response : List ℕ) → length flows ≤ 16 → badMTU mtu ≡ false → R ≤ 65536 → Fresh mtu R streams messages response
     → Begins device mtu R flows (freshBoard device mtu R streams messages response)
-begins device mtu R flows streams messages response few f =
+begins device mtu R flows streams messages response few m most f =
     fresh-begins device mtu R flows streams messages response (Fine device mtu R flows) (by-flow device mtu R flows few)
-    (fresh-fine device mtu R streams messages response flows (f .lends) (f .allowed-MTU) (f .allowed-R))
+    (fresh-fine device mtu R streams messages response flows (f .lends) m (room-allowed mtu R (f .holds-MTU) most))
 
 flows-length : (xs : List FlowSent) → length (flowsOf (record { flows = xs; turns = [] })) ≡ length xs
 flows-length [] = refl
@@ -60,36 +69,42 @@ fields-read-back = segments-read-back
 
 pub demand2 : Demand2
 demand2 device mtu R flow s streams messages response f ranges fair =
-    read-back device mtu R flow s _ ranges fair (begins device mtu R (flow ∷ []) streams messages response (omega arith) f)
+    read-back device mtu R flow s _ ranges fair (begins device mtu R (flow ∷ []) streams messages response (omega arith) (ranges .allowed-MTU) (ranges .allowed-R) f)
 
 pub demand3 : Demand3
 demand3 device mtu R s streams messages response f fair =
-    delivered-is-whole device mtu R s _ fair (begins device mtu R (flowsOf s) streams messages response (sixteen s (fair .but-losses .sixteen)) f)
+    let p = fair .but-losses in
+    delivered-is-whole device mtu R s _ fair (begins device mtu R (flowsOf s) streams messages response (sixteen s (p .sixteen)) (p .allowed-MTU) (p .allowed-R) f)
 
 pub demand3-any-loss : Demand3AnyLoss
 demand3-any-loss device mtu R s streams messages response f fair n =
-    delivered-at-every-turn device mtu R s _ fair (begins device mtu R (flowsOf s) streams messages response (sixteen s (fair .sixteen)) f) n
+    delivered-at-every-turn device mtu R s _ fair (begins device mtu R (flowsOf s) streams messages response (sixteen s (fair .sixteen)) (fair .allowed-MTU) (fair .allowed-R) f) n
 
 pub demand3-not-empty : Demand3NotEmpty
 demand3-not-empty = mixture-is-fair
 
 -- memories of zeros serve as well as any
-zeros : (mtu R : ℕ) → badMTU mtu ≡ false → badRoom mtu R ≡ false → Fresh mtu R (replicate (16 * R) 0) (replicate 32768 0) (replicate 7 0)
-zeros mtu R m r = record {
-  allowed-MTU = m;
-  allowed-R = r;
+zeros : (mtu R : ℕ) → mtu ≤ R → Fresh mtu R (replicate (16 * R) 0) (replicate 32768 0) (replicate 7 0)
+zeros mtu R holds = record {
+  holds-MTU = holds;
   lends = record { rooms = length-replicate {A = ℕ} (16 * R) 0; boxes = length-replicate {A = ℕ} 32768 0; reply = omega (arith, length-replicate {A = ℕ} 7 0) };
 }
 
-pub corollary3 : Corollary3
-corollary3 device mtu R s s′ m r fair fair′ e =
-    let f = zeros mtu R m r in
+same-packets : (device mtu R : ℕ) (s s′ : Sending) → mtu ≤ R → Fair device mtu R s → Fair device mtu R s′ → packets device mtu s ≡ packets device mtu s′ → whole device mtu s ≡ whole device mtu s′
+same-packets device mtu R s s′ holds fair fair′ e =
+    let f = zeros mtu R holds in
     sym (demand3 device mtu R s _ _ _ f fair)
     ∙ (ap (deliveries (freshBoard device mtu R (replicate (16 * R) 0) (replicate 32768 0) (replicate 7 0))) e
     ∙ demand3 device mtu R s′ _ _ _ f fair′)
 
+-- the largest R asks no more of a sending, and holds every MTU
+pub corollary3 : Corollary3
+corollary3 device mtu R s s′ fair fair′ e =
+    let p = fair .but-losses in
+    same-packets device mtu 65536 s s′ (largest-holds mtu (p .allowed-MTU)) (wider device mtu R (p .allowed-R) s fair) (wider device mtu R (p .allowed-R) s′ fair′) e
+
 -- calls that keep their promises deliver what the definitions do
-calls-deliver : {b : Board} {ps : List (List ℕ)} {ds : List Delivery} → Reads b ps ds → ds ≡ deliveries b ps
+pub calls-deliver : {b : Board} {ps : List (List ℕ)} {ds : List Delivery} → Reads b ps ds → ds ≡ deliveries b ps
 calls-deliver stop = refl
 calls-deliver (call {b = b} {p = p} {ps = ps} {ds = ds} r words streams messages response promise rest) =
     let ih : ds ≡ deliveries (record { words = words; streamMemory = streams; messageMemory = messages; response = response }) ps = calls-deliver rest in
@@ -100,14 +115,19 @@ calls-deliver (call {b = b} {p = p} {ps = ps} {ds = ds} r words streams messages
 pub record Made (words : List ℕ) (device mtu R : ℕ) (after : List ℕ) : Type 0 where
   pub state : after ≡ wordsOf (fresh device mtu R)
   pub MTU : badMTU mtu ≡ false
-  pub R-fits : badRoom mtu R ≡ false
+  pub holds-MTU : mtu ≤ R
+  pub most : R ≤ 65536
 
-made : (words : List ℕ) (device mtu R : ℕ) (after : List ℕ) → SetupPromise words device mtu R Ready after → Made words device mtu R after
+pub made : (words : List ℕ) (device mtu R : ℕ) (after : List ℕ) → SetupPromise words device mtu R Ready after → Made words device mtu R after
 unfolding setup
 made words device mtu R after p = go (verdict (setupTable words mtu R)) refl p
   where
     all : none (setupTable words mtu R) → after ≡ wordsOf (fresh device mtu R) → Made words device mtu R after
-    all n e = record { state = e; MTU = unfold setupTable none in (n .1 .0); R-fits = unfold setupTable none in (n .1 .1 .0) }
+    all n e =
+        let m : badMTU mtu ≡ false = unfold setupTable none in (n .1 .0) in
+        let r : badRoom mtu R ≡ false = unfold setupTable none in (n .1 .1 .0) in
+        let g = good (fresh device mtu R) (fresh-good device mtu R m r) in
+        record { state = e; MTU = m; holds-MTU = g .holds; most = g .room }
 
     go : (v : VerdictOf SetupLeaves) → verdict (setupTable words mtu R) ≡ v → stands ready after ≡ setupBy words device mtu R v → Made words device mtu R after
     go (refuse number leaves) t e =
@@ -118,7 +138,7 @@ made words device mtu R after p = go (verdict (setupTable words mtu R)) refl p
 pub demand3-of-calls : Demand3OfCalls
 demand3-of-calls device mtu R s words after streams messages response ds set lends fair reads =
     let m = made words device mtu R after set in
-    let f : Fresh mtu R streams messages response = record { allowed-MTU = m .MTU; allowed-R = m .R-fits; lends = lends } in
+    let f : Fresh mtu R streams messages response = record { holds-MTU = m .holds-MTU; lends = lends } in
     calls-deliver reads
     ∙ (ap (λ (w : List ℕ). deliveries (record { words = w; streamMemory = streams; messageMemory = messages; response = response }) (packets device mtu s)) (m .state)
     ∙ demand3 device mtu R s streams messages response f fair)
@@ -128,7 +148,8 @@ flows-do-not-disturb = flows-apart
 
 pub joint : Joint
 joint device mtu R flow first second streams messages response f pair =
-    joint-delivered device mtu R flow first second _ pair (begins device mtu R (flow ∷ []) streams messages response (omega arith) f)
+    joint-delivered device mtu R flow first second _ pair
+    (begins device mtu R (flow ∷ []) streams messages response (omega arith) (pair .ranges .allowed-MTU) (pair .ranges .allowed-R) f)
 
 pub joint-cannot-be-told : JointCannotBeTold
 joint-cannot-be-told = joint-untold

@@ -30,12 +30,12 @@ held-no : no-refusal held
 held-no number e = let z : _≡_ {A = ℕ} 0 1 = cc in omega arith
 
 -- of two chosen from, each is no refusal
-chosen : {A : Type 0} (P : A → Type 0) (b : Bool) (x y : A) → P x → P y → P (cond b x y)
+pub chosen : {A : Type 0} (P : A → Type 0) (b : Bool) (x y : A) → P x → P y → P (cond b x y)
 chosen P true x y a b = a
 chosen P false x y a b = b
 
 -- ---- reading
-number-said : (x : Lent) (number : ℕ) (leaves : Leaves) → leaving x number leaves .says ≡ refused number
+pub number-said : (x : Lent) (number : ℕ) (leaves : Leaves) → leaving x number leaves .says ≡ refused number
 unfolding stream.refusedClosing
 number-said x number all = refl
 number-said x number flowClosed = refl

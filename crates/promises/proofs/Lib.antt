@@ -1,5 +1,12 @@
 pub mod Once
 pub mod Exactly
 pub mod Good
+pub mod Wider
 pub mod Demands
 pub mod Responses
+pub mod Demand2
+pub mod Status
+pub mod FromUs
+pub mod Leaves
+pub mod ParsedRows
+pub mod Meaning

@@ -3,46 +3,54 @@
 --
 -- Demand 1. Any bytes and any buffers may be handed to any call. The contracts say so themselves: no public call has a `requires`, and its
 --           `ensures` fixes the answer, the state and every lent byte (endpoint/src/lib.rt, segments/src/lib.rt). Below: refusals exactly by
---           the tables, good states stay good, one outcome for each call.
--- Demand 2. Packets are written and read as the layouts say, and what the writer makes is read back.
--- Demand 3. The PDUs delivered are exactly those that lost nothing; the corollary; flows apart; and the joint, which lies outside.
-use Prim.Native.Nat.{ℕ, _+_, _*_, _<_}
+--           the tables, and what each leaves; when a response is written; good states stay good; one outcome for each call.
+-- Demand 2. Packets are written and read as the layouts say, and what the writer makes is read back, also of the calls themselves.
+-- Demand 3. The PDUs delivered are exactly those that lost nothing; the corollary; what its words mean, and impostors; flows apart; and the
+--           joint, which lies outside.
+use Prim.Native.Nat.{ℕ, suc, _+_, _*_, _<_, _≤_}
 use mathlib.Core.Path.{_≡_}
 use mathlib.Core.Logic.{_↔_}
-use mathlib.Core.Bool.{false, cond}
+use mathlib.Core.Bool.{cond}
 use mathlib.Core.List.{List, [], _∷_, _++_}
-use lib.ListN.{length}
+use mathlib.Core.Option.{Option}
+use mathlib.Core.Option as option
+use lib.Dec.{eqb}
+use lib.ListN.{length, take, drop}
 use denote.Ref.{RefT, now}
 use Rattle.lists.specs.Bytes.{byte, written}
 use Rattle.wire.specs.Packet.{priority, tt, packetType, destination, source}
 use Rattle.wire.specs.declared.Flow.{Flow}
-use Rattle.sizes.specs.Sizes.{badMTU}
-use Rattle.responses.specs.Type13.{above, responseTo}
-use Rattle.refusal19.specs.Refusal19.{badRoom}
+use Rattle.wire.specs.declared.Parsed.the-variants.{Refused, Stream, Message}
+use Rattle.wire.specs.Parsed.{parsed}
+use Rattle.responses.specs.Type13.{DONE, RETRY, ERROR, above, responseTo, answered}
 use Rattle.cutting.specs.Cutting.{packetOf}
 use Rattle.flows.specs.Board.{Board, Delivery, delivery, deliveredBy, Lends, freshBoard}
 use Rattle.flows.specs.ByFlow.{AreBytes}
 use Rattle.flows.specs.Apart.{FlowsApart}
-use Rattle.sending.specs.Sending.{Sent, Ranges, FairPDU, Sending, packets, whole, deliveries, Fair, FairAnyLoss}
+use Rattle.sending.specs.Sending.{Sent, headingFor, Ranges, FairPDU, Sending, packets, whole, deliveries, Fair, FairAnyLoss}
 use Rattle.sending.specs.Segment.{SegmentsReadBack}
-use Rattle.sending.specs.OfSendings.{ReadsBack, firstTurns}
+use Rattle.sending.specs.OfSendings.{ReadsBack, LengthIsMeasured, firstTurns}
+use Rattle.sending.specs.Meaning.{InOrder, WholeIsIntact}
 use Rattle.sending.specs.Mixture.{MixtureIsFair}
 use Rattle.examples.specs.Table.{ExamplesHold}
+use Rattle.examples.specs.Impostors.{ReadMeets, SilentBreaks3, SameBreaks2, CountMoverBreaks2, CountMoverBreaks3, InventorBreaks2, IdleWriterBreaks2}
 use Rattle.sending.specs.Joint.{Pair, isJoint, jointPDU, pairPackets, JointUntold}
 use Rattle.answers.specs.declared.Reading.{Reading}
 use Rattle.answers.specs.declared.Begun.{Begun}
 use Rattle.answers.specs.declared.Begun.the-variants.{Ready}
 use Rattle.answers.specs.declared.Abandoned.{Abandoned}
 use Rattle.answers.specs.declared.Written.{Written}
-use Rattle.answers.specs.Answers.{refused, wrote, said}
+use Rattle.answers.specs.declared.Written.the-variants.{Length}
+use Rattle.answers.specs.Answers.{Said, held, delivered, message, refused, ready, closed, free, wrote, said}
 use Rattle.answers.specs.Refusals.{RowOf, Row, Decides, none}
-use Rattle.contexts.specs.Words.{stateOf}
-use Rattle.reading.specs.Table.{Lent, stateIn, table}
+use Rattle.contexts.specs.State.{fresh, streamIn, messageIn, withStream, withMessage, closedStream, closedMessage, isFreeStream, isFreeMessage}
+use Rattle.contexts.specs.Words.{stateOf, wordsOf}
+use Rattle.reading.specs.Table.{Lent, stateIn, segmentIn, messageSegmentIn, is9, is11, table}
 use Rattle.reading.specs.Read.{ReadPromise, reading, leaving, accepting, lent}
 use Rattle.reading.specs.Good.{GoodWords, StillGood}
 use Rattle.cutting.specs.declared.Heading.{Heading}
 use Rattle.segments.specs.Writer.{writerTable, writing, wroteOf, WritePromise, CountPromise}
-use Rattle.endpoint.specs.Calls.{SetupLeaves, setupTable, setup, abandonTable, abandonStream, abandonMessage, SetupPromise, AbandonStreamPromise, AbandonMessagePromise, StreamRoomPromise, MessageRoomPromise, LengthPromise}
+use Rattle.endpoint.specs.Calls.{stands, SetupLeaves, setupTable, setupLeaving, setup, abandonTable, abandonStream, abandonMessage, SetupPromise, AbandonStreamPromise, AbandonMessagePromise, StreamRoomPromise, MessageRoomPromise, LengthPromise}
 
 -- ==== DEMAND 1
 
@@ -67,16 +75,103 @@ SetupExactly =
     (words : List ℕ) (device mtu room number : ℕ)
     → (setup words device mtu room .says ≡ refused number) ↔ ((r : RowOf SetupLeaves) × Decides (setupTable words mtu room) r × (r .number ≡ number))
 
+-- refused, it hands back a state of zeros; a buffer that is no state stays as it is
+abbrev pub SetupRowLeaves : Type 0
+SetupRowLeaves =
+    (words : List ℕ) (device mtu room : ℕ) (r : RowOf SetupLeaves) → Decides (setupTable words mtu room) r
+    → setup words device mtu room ≡ stands (refused (r .number)) (setupLeaving words (r .leaves))
+
+-- where no row's test holds: ready, with a state of that device, MTU and R in which every context is free
+abbrev pub SetupAcceptedLeaves : Type 0
+SetupAcceptedLeaves = (words : List ℕ) (device mtu room : ℕ) → none (setupTable words mtu room) → setup words device mtu room ≡ stands ready (wordsOf (fresh device mtu room))
+
 abbrev pub AbandonStreamExactly : Type 0
 AbandonStreamExactly = (words : List ℕ) (n number : ℕ) → (abandonStream words n .says ≡ refused number) ↔ ((r : Row) × Decides (abandonTable words 16 n) r × (r .number ≡ number))
 
 abbrev pub AbandonMessageExactly : Type 0
 AbandonMessageExactly = (words : List ℕ) (n number : ℕ) → (abandonMessage words n .says ≡ refused number) ↔ ((r : Row) × Decides (abandonTable words 8 n) r × (r .number ≡ number))
 
+-- a refusal leaves the state as it is
+abbrev pub AbandonStreamRowLeaves : Type 0
+AbandonStreamRowLeaves = (words : List ℕ) (n : ℕ) (r : Row) → Decides (abandonTable words 16 n) r → abandonStream words n ≡ stands (refused (r .number)) words
+
+abbrev pub AbandonMessageRowLeaves : Type 0
+AbandonMessageRowLeaves = (words : List ℕ) (n : ℕ) (r : Row) → Decides (abandonTable words 8 n) r → abandonMessage words n ≡ stands (refused (r .number)) words
+
+-- else a free context stays as it is and the answer says so; an open one is closed, and nothing else changes
+abbrev pub AbandonStreamAcceptedLeaves : Type 0
+AbandonStreamAcceptedLeaves =
+    (words : List ℕ) (n : ℕ) → none (abandonTable words 16 n)
+    → abandonStream words n ≡ cond (isFreeStream (streamIn (stateOf words) n)) (stands free words) (stands closed (wordsOf (withStream (stateOf words) n closedStream)))
+
+abbrev pub AbandonMessageAcceptedLeaves : Type 0
+AbandonMessageAcceptedLeaves =
+    (words : List ℕ) (n : ℕ) → none (abandonTable words 8 n)
+    → abandonMessage words n ≡ cond (isFreeMessage (messageIn (stateOf words) n)) (stands free words) (stands closed (wordsOf (withMessage (stateOf words) n closedMessage)))
+
 abbrev pub WriterExactly : Type 0
 WriterExactly =
     (out : List ℕ) (h : Heading) (mtu : ℕ) (pdu : List ℕ) (k number : ℕ)
     → (writing out h mtu pdu k .says ≡ refused number) ↔ ((r : Row) × Decides (writerTable out h mtu pdu k) r × (r .number ≡ number))
+
+-- a writer's refusal changes no byte; what success makes is `WriterMakes`, below
+abbrev pub WriterRowLeaves : Type 0
+WriterRowLeaves =
+    (out : List ℕ) (h : Heading) (mtu : ℕ) (pdu : List ℕ) (k : ℕ) (r : Row) → Decides (writerTable out h mtu pdu k) r
+    → writing out h mtu pdu k ≡ wroteOf (refused (r .number)) out
+
+-- ---- `parsed`, on which the statements about flows rest, is rows 1 to 5 of the table
+
+-- the seven rows 1, 2, 3, 4, 1, 5, 1, which follow 19 and 12
+abbrev pub packetRows : Lent → List Row
+packetRows x = take 7 (drop 2 (table x))
+
+abbrev pub ParsedRefusedExactly : Type 0
+ParsedRefusedExactly = (x : Lent) (number : ℕ) → (parsed (stateIn x .device) (x .packet) ≡ Refused number) ↔ ((r : Row) × Decides (packetRows x) r × (r .number ≡ number))
+
+-- else it is the packet's fields: of type 9, else of type 11, since row 4 has passed
+abbrev pub ParsedAccepted : Type 0
+ParsedAccepted = (x : Lent) → none (packetRows x) → parsed (stateIn x .device) (x .packet) ≡ cond (is9 x) (Stream (segmentIn x)) (Message (messageSegmentIn x))
+
+-- ---- Responses: ERROR and RETRY are written in the first 7 response bytes; an accepted segment writes DONE; nothing else writes there
+
+-- the refusals that are responded to, and the status
+abbrev pub statuses : List (ℕ × ℕ)
+statuses = (20, ERROR) ∷ (21, ERROR) ∷ (22, ERROR) ∷ (23, ERROR) ∷ (24, ERROR) ∷ (25, RETRY) ∷ []
+
+abbrev pub statusIn : List (ℕ × ℕ) → ℕ → Option ℕ
+statusIn [] number = option.none
+statusIn (s ∷ rest) number = cond (eqb (s .0) number) (option.some (s .1)) (statusIn rest number)
+
+-- the status of the response, by the answer; none: nothing is written
+abbrev pub statusOf : Lent → Said → Option ℕ
+-- a segment is accepted: of a message, if the packet is of type 11
+statusOf x held = cond (is11 x) (option.some DONE) option.none
+statusOf x (message context source letter mailbox size) = option.some DONE
+statusOf x (refused number) = statusIn statuses number
+statusOf x (delivered context source cos streamID size) = option.none
+-- answers of other calls
+statusOf x ready = option.none
+statusOf x closed = option.none
+statusOf x free = option.none
+statusOf x (wrote size) = option.none
+
+-- the response buffer by the status
+abbrev pub responseLeft : Lent → Option ℕ → List ℕ
+responseLeft x option.none = x .response
+responseLeft x (option.some status) = answered (x .response) (x .packet) status
+
+abbrev pub ResponsesExactly : Type 0
+ResponsesExactly = (x : Lent) → reading x .response ≡ responseLeft x (statusOf x (reading x .says))
+
+-- what is responded to is a message packet addressed to us, and the response has our own device ID as source
+pub record Responds (x : Lent) : Type 0 where
+  pub to-message : packetType (x .packet) ≡ 11
+  pub for-us : destination (x .packet) ≡ stateIn x .device
+  pub own-source : source (reading x .response) ≡ stateIn x .device
+
+abbrev pub ResponsesFromUs : Type 0
+ResponsesFromUs = (x : Lent) (status : ℕ) → statusOf x (reading x .says) ≡ option.some status → Responds x
 
 -- ---- Good states: setup makes one, and reading (of a packet whose items are bytes) and abandoning leave one.
 -- So a run over many packets tests the state once.
@@ -148,10 +243,10 @@ WriteOnce =
 
 -- ==== DEMAND 2: what the writer makes, a fresh endpoint of that address and MTU reads back, if its room holds it
 
--- a board that setup accepts: an allowed MTU and R, and memories that 12 allows, whatever is in them
+-- a board that setup accepts, where MTU and R are each in its range (the other premises say so): a room holds an MTU, and the memories are
+-- such as 12 allows, whatever is in them
 pub record Fresh (mtu R : ℕ) (streamMemory messageMemory response : List ℕ) : Type 0 where
-  pub allowed-MTU : badMTU mtu ≡ false
-  pub allowed-R : badRoom mtu R ≡ false
+  pub holds-MTU : mtu ≤ R
   pub lends : Lends R streamMemory messageMemory response
 
 -- the writer makes the packets of the layout, byte for byte
@@ -212,6 +307,25 @@ pub data Reads : Board → List (List ℕ) → List Delivery → Type 0 where
       → Reads (record { words = words; streamMemory = streamMemory; messageMemory = messageMemory; response = response }) ps ds
       → Reads b (p ∷ ps) (deliveredBy (stateOf words .room) streamMemory (said (r .answer)) ++ ds)
 
+-- demand 2 of the calls: `write_segment` for n segments of a PDU from number k on, each with any output buffer, each outcome a length that its
+-- promise allows; and the packets that then stand in the buffers
+pub data Writes (device mtu : ℕ) (flow : Flow) (s : Sent) : (k n : ℕ) → List (List ℕ) → Type 0 where
+  written-all : {k : ℕ} → Writes device mtu flow s k 0 []
+  write : {k n : ℕ} {ps : List (List ℕ)} (out after : List ℕ) (size : ℕ)
+      → WritePromise out (headingFor device flow s k) mtu (s .pdu .bytes) k (Length size) after
+      → Writes device mtu flow s (suc k) n ps
+      → Writes device mtu flow s k (suc n) (take size after ∷ ps)
+
+-- setup, as many calls of the writer as `segment_count` says, and then a call of `read` for each packet: they deliver exactly that PDU
+abbrev pub Demand2OfCalls : Type 0
+Demand2OfCalls =
+    (device mtu R : ℕ) (flow : Flow) (s : Sent) (words after streamMemory messageMemory response : List ℕ) (count : ℕ) (ps : List (List ℕ)) (ds : List Delivery)
+    → SetupPromise words device mtu R Ready after → Lends R streamMemory messageMemory response
+    → device < 65536 → flow .source < 65536 → flow .cos < 256 → FairPDU R s
+    → CountPromise mtu (length (s .pdu .bytes)) count → Writes device mtu flow s 0 count ps
+    → Reads (record { words = after; streamMemory = streamMemory; messageMemory = messageMemory; response = response }) ps ds
+    → ds ≡ delivery flow (s .pdu) ∷ []
+
 -- setup, and then a call for each packet that a sending leaves: they deliver exactly what is whole
 abbrev pub Demand3OfCalls : Type 0
 Demand3OfCalls =
@@ -223,8 +337,34 @@ Demand3OfCalls =
 -- THE COROLLARY: two sendings that leave the same packets agree on every whole PDU
 abbrev pub Corollary3 : Type 0
 Corollary3 =
-    (device mtu R : ℕ) (s s′ : Sending) → badMTU mtu ≡ false → badRoom mtu R ≡ false
-    → Fair device mtu R s → Fair device mtu R s′ → packets device mtu s ≡ packets device mtu s′ → whole device mtu s ≡ whole device mtu s′
+    (device mtu R : ℕ) (s s′ : Sending) → Fair device mtu R s → Fair device mtu R s′
+    → packets device mtu s ≡ packets device mtu s′ → whole device mtu s ≡ whole device mtu s′
+
+-- WHAT THESE WORDS MEAN. A flow's packets stand on the backplane in its order
+abbrev pub FlowsInOrder : Type 0
+FlowsInOrder = InOrder
+
+-- `whole`: of a flow that has put all its packets on, exactly the PDUs that lost nothing, in order
+abbrev pub WholeLostNothing : Type 0
+WholeLostNothing = WholeIsIntact
+
+-- the length in an answer is that of the bytes that lie in its room, whatever the board
+abbrev pub AnsweredLength : Type 0
+AnsweredLength = LengthIsMeasured
+
+-- THE FOUR IMPOSTORS, and a writer that does nothing: each breaks the demand that the paper names, and the endpoint meets both
+pub record ImpostorsBreak : Type 0 where
+  pub honest : ReadMeets
+  -- refuses or holds every packet
+  pub silent : SilentBreaks3
+  -- always delivers the same
+  pub same : SameBreaks2
+  -- stores the start and then only moves the count
+  pub count-mover : CountMoverBreaks2
+  pub count-mover3 : CountMoverBreaks3
+  -- invents the length
+  pub inventor : InventorBreaks2
+  pub idle-writer : IdleWriterBreaks2
 
 -- FLOWS ARE APART: what a flow's packets are answered depends on that flow's packets alone, context numbers aside
 abbrev pub FlowsDoNotDisturb : Type 0

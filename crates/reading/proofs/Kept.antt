@@ -75,6 +75,16 @@ module _ (x : Lent) where
   abbrev Passed : Type 0
   Passed = none (table x)
 
+  -- an accepted packet that is not of type 9 is of type 11
+  pub other-type : Passed → is9 x ≡ false → is11 x ≡ true
+  unfolding none table
+  other-type n f = go (is9 x) (is11 x) (n .1 .1 .1 .1 .1 .0) f
+    where
+      go : (a b : Bool) → not (a || b) ≡ false → a ≡ false → b ≡ true
+      go true b e f = absurd (true≢false f)
+      go false true e f = refl
+      go false false e f = absurd (true≢false e)
+
   -- under a type that the packet has, a row's own test failed
   of-type : (type b : Bool) → type ≡ true → (type && b) ≡ false → b ≡ false
   of-type true b t e = e
@@ -91,16 +101,10 @@ module _ (x : Lent) where
     unfolding messageOf
     few = omega (arith, small)
 
-    -- an accepted packet that is not of type 9 is of type 11
-    other-type : (a b : Bool) → not (a || b) ≡ false → a ≡ false → b ≡ true
-    other-type true b e f = absurd (true≢false f)
-    other-type false true e f = refl
-    other-type false false e f = absurd (true≢false e)
-
     message-settled : Passed → is9 x ≡ false → StillGood (stateIn x) (wordsOf (message.messageAccepted (stateIn x) (x .messageMemory) (x .response) (x .packet) (messageSegmentIn x) .state))
     unfolding none table
     message-settled n f =
-        let t : is11 x ≡ true = other-type (is9 x) (is11 x) (n .1 .1 .1 .1 .1 .0) f in
+        let t : is11 x ≡ true = other-type n f in
         settled (x .words) _ message-same
         (messages.accepted-kept (stateIn x) (x .messageMemory) (x .response) (x .packet) (messageSegmentIn x) fine (eight (x .words)) few (of-type (is11 x) _ t (n .1 .1 .1 .1 .1 .1 .1 .1 .1 .1 .1 .1 .1 .1 .1 .0))
         (of-type (is11 x) _ t (n .1 .1 .1 .1 .1 .1 .1 .1 .1 .1 .1 .1 .1 .1 .1 .1 .0)) (of-type (is11 x) _ t (n .1 .1 .1 .1 .1 .1 .1 .1 .1 .1 .1 .1 .1 .1 .1 .1 .1 .0)) (of-type (is11 x) _ t (n .1 .1 .1 .1 .1 .1 .1 .1 .1 .1 .1 .1 .1 .1 .1 .1 .1 .1 .0)) (of-type (is11 x) _ t (n .1 .1 .1 .1 .1 .1 .1 .1 .1 .1 .1 .1 .1 .1 .1 .1 .1 .1 .1 .0)))

@@ -24,7 +24,7 @@ use Rattle.reading.proofs.StreamRows.{stream-rows}
 use Rattle.reading.proofs.MessageRows.{message-rows}
 
 -- a type 9 packet is no type 11 packet
-one-type : (x : Lent) → is9 x ≡ true → is11 x ≡ false
+pub one-type : (x : Lent) → is9 x ≡ true → is11 x ≡ false
 one-type x n =
     let nine : packetType (x .packet) ≡ 9 = eqb-true (packetType (x .packet)) 9 n in
     ne-eqb (packetType (x .packet)) 11 (λ e. omega arith)

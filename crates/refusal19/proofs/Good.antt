@@ -30,7 +30,7 @@ not-both true b e h = absurd (true≢false h)
 not-both false b e h = e
 
 -- ---- MTU and R
-mtu-fits : (mtu : ℕ) → badMTU mtu ≡ false → (32 ≤ mtu) × (mtu ≤ 256)
+pub mtu-fits : (mtu : ℕ) → badMTU mtu ≡ false → (32 ≤ mtu) × (mtu ≤ 256)
 unfolding badMTU
 mtu-fits mtu e =
     let a = neither (ltb mtu 32 || ltb 256 mtu) (not (eqb (mtu % 4) 0)) e in

@@ -1,0 +1,88 @@
+-- What is responded to is a message packet addressed to us: a row that writes comes behind row 3, and only message rows write.
+use Prim.Native.Nat.{ℕ}
+use mathlib.Core.Path.{_≡_, refl, ap, sym, _∙_}
+use mathlib.Core.Logic.{_⊎_, inl, inr}
+use mathlib.Core.List.{List, [], _∷_, _++_}
+use mathlib.Core.Bool.{Bool, true, false, cond}
+use mathlib.Core.Option as option
+use lib.ListN.{take, drop}
+use borrow.Author.Tests.{eqb-true, not-false}
+use Rattle.answers.specs.Refusals.{Leaves, all, Row, Verdict, refuse, accept, verdict, none}
+use Rattle.answers.proofs.Exactly.{none-held}
+use Rattle.lists.specs.Bytes.{written}
+use Rattle.wire.specs.Packet.{packetType, destination, source}
+use Rattle.responses.specs.Type13.{responseTo, answered}
+use Rattle.reading.specs.Table.{Lent, stateIn, is9, is11, table}
+use Rattle.reading.specs.Read.{reading, outcome, accepting}
+use Rattle.reading.proofs.Cases.{by-test}
+use Rattle.reading.proofs.Rows.{one-type}
+use Rattle.reading.proofs.Kept.{other-type}
+use Rattle.sending.specs.Sending.{Each}
+use Rattle.promises.specs.Statements.{statusOf, responseLeft, ResponsesFromUs}
+use Rattle.promises.proofs.Status.{_and_, writes, nothing-written, refused-so, stream-silent, said-status, responses-exactly}
+
+-- rows that leave all decide, or their tests fail
+past-quiet : (earlier later : List Row) → Each (λ (r : Row). r .leaves ≡ all) earlier → ((number : ℕ) × (verdict (earlier ++ later) ≡ refuse number all)) ⊎ none earlier
+unfolding verdict none
+past-quiet [] later q = inr tt
+past-quiet (r ∷ earlier) later q = go (r .holds) refl (past-quiet earlier later (q .1))
+  where
+    go : (b : Bool) → r .holds ≡ b → ((number : ℕ) × (verdict (earlier ++ later) ≡ refuse number all)) ⊎ none earlier
+        → ((number : ℕ) × (cond b (refuse (r .number) (r .leaves)) (verdict (earlier ++ later)) ≡ refuse number all)) ⊎ ((b ≡ false) × none earlier)
+    go true h o = inl (r .number, ap (refuse (r .number)) (q .0))
+    go false h (inl w) = inl w
+    go false h (inr n) = inr (refl, n)
+
+module _ (x : Lent) where
+  -- row 3 is the fifth
+  addressed : none (take 5 (table x)) → destination (x .packet) ≡ stateIn x .device
+  unfolding none table
+  addressed n = eqb-true (destination (x .packet)) (stateIn x .device) (not-false _ (n .1 .1 .1 .1 .0))
+
+  -- the first five write nothing; so a verdict that writes has passed them
+  written-for-us : (number status : ℕ) (leaves : Leaves) → verdict (table x) ≡ refuse number leaves → writes leaves ≡ option.some status → destination (x .packet) ≡ stateIn x .device
+  unfolding table
+  written-for-us number status leaves e w = go (past-quiet (take 5 (table x)) (drop 5 (table x)) (refl and refl and refl and refl and refl and tt))
+    where
+      go : ((n : ℕ) × (verdict (table x) ≡ refuse n all)) ⊎ none (take 5 (table x)) → destination (x .packet) ≡ stateIn x .device
+      go (inl q) =
+          let same : refuse number leaves ≡ refuse (q .0) all = sym e ∙ q .1 in
+          let l : leaves ≡ all = cc in
+          nothing-written status (sym (ap writes l) ∙ w)
+      go (inr n) = addressed n
+
+  -- what is responded to is of type 11 and addressed to us
+  record Right : Type 0 where
+    type : is11 x ≡ true
+    for-us : destination (x .packet) ≡ stateIn x .device
+
+  first-five : none (table x) → none (take 5 (table x))
+  unfolding none table
+  first-five n = n .0 and n .1 .0 and n .1 .1 .0 and n .1 .1 .1 .0 and n .1 .1 .1 .1 .0 and tt
+
+  accepted-right : none (table x) → (status : ℕ) → statusOf x (accepting x .says) ≡ option.some status → Right
+  accepted-right n status s =
+      by-test (is9 x)
+      (λ t. nothing-written status (sym (stream-silent x (one-type x t)) ∙ rw t at s))
+      (λ t. record { type = other-type x n t; for-us = addressed (first-five n) })
+
+  right : (v : Verdict) → verdict (table x) ≡ v → (status : ℕ) → statusOf x (outcome x v .says) ≡ option.some status → Right
+  right (refuse number leaves) e status s =
+      let so = refused-so x number leaves e in
+      let w : writes leaves ≡ option.some status = sym (so .status) ∙ (sym (said-status x number leaves) ∙ s) in
+      record { type = so .type status w; for-us = written-for-us number status leaves e w }
+  right accept e status s = accepted-right (none-held (table x) e) status s
+
+-- a response's source is the request's destination
+swapped : (response p : List ℕ) (status : ℕ) → source (answered response p status) ≡ destination p
+unfolding answered written responseTo
+swapped response p status = refl
+
+pub responses-from-us : ResponsesFromUs
+responses-from-us x status s =
+    let r : Right x = unfold reading in (right x (verdict (table x)) refl status s) in
+    record {
+      to-message = eqb-true (packetType (x .packet)) 11 (r .type);
+      for-us = r .for-us;
+      own-source = ap source (responses-exactly x ∙ ap (responseLeft x) s) ∙ (swapped (x .response) (x .packet) status ∙ r .for-us);
+    }
