@@ -1,41 +1,33 @@
 -- Demands 2 and 3 of the endpoint itself: the theorems of `sending` stand on laws between a flow and the endpoint, and `flows` shows that they hold.
 use Prim.Native.Nat.{ℕ, suc, _*_, _≤_}
-use mathlib.Core.Path.{_≡_, refl, ap, ap₂, sym, _∙_, subst}
-use mathlib.Core.Bool.{Bool, true, false, false≢true}
-use mathlib.Core.List.{List, [], _∷_, _++_}
+use mathlib.Core.Path.{_≡_, refl, ap, sym, _∙_}
+use mathlib.Core.Bool.{true, false}
+use mathlib.Core.List.{List, [], _∷_}
 use native.Mathlib.Omega.{arith}
 use lib.ListN.{length, replicate, length-replicate}
-use Rattle.lists.specs.Bytes.{written}
-use Rattle.answers.specs.declared.Reading.{Reading}
-use Rattle.answers.specs.declared.Begun.the-variants.{Ready}
-use Rattle.answers.specs.Answers.{said, ready, refused}
-use Rattle.answers.specs.Refusals.{VerdictOf, refuse, accept, none, verdict}
-use Rattle.answers.proofs.Exactly.{accepted, none-held}
+use Rattle.answers.proofs.Exactly.{accepted}
 use Rattle.wire.specs.declared.Flow.{Flow}
 use Rattle.sizes.specs.Sizes.{badMTU}
 use Rattle.refusal19.specs.Refusal19.{badRoom}
-use Rattle.cutting.specs.Cutting.{packetOf}
+use Rattle.cutting.specs.Cutting.{segmentCount, packetOf}
 use Rattle.segments.specs.Writer.{writerTable, writing, wroteBy}
-use Rattle.reading.specs.Read as reading
-use Rattle.reading.specs.Read.{Left, lent, ReadPromise}
-use Rattle.contexts.specs.State.{fresh}
-use Rattle.contexts.specs.Words.{stateOf, wordsOf}
-use Rattle.endpoint.specs.Calls.{Stands, stands, SetupLeaves, setupTable, setupBy, setup, SetupPromise}
-use Rattle.flows.specs.Board.{Board, Delivery, deliveredBy, Lends, freshBoard, boardLeft, read}
+use Rattle.flows.specs.Board.{freshBoard}
 use Rattle.flows.proofs.Fine.{Fine, fresh-fine}
 use Rattle.flows.proofs.Machine.{by-flow}
 use Rattle.flows.proofs.Apart.{flows-apart}
-use Rattle.sending.specs.Sending.{Sending, FlowSent, flowsOf, deliveries, packets, whole, Fair}
+use Rattle.sending.specs.Sending.{Sending, FlowSent, flowsOf, deliveries}
 use Rattle.sending.specs.OfSendings.{Begins}
 use Rattle.sending.proofs.Fresh.{fresh-begins}
 use Rattle.sending.proofs.Cut.{segments-read-back}
 use Rattle.sending.proofs.ReadBack.{read-back}
 use Rattle.sending.proofs.Merge.{delivered-is-whole, delivered-at-every-turn}
-use Rattle.sending.proofs.Mixture.{mixture-is-fair}
+use Rattle.sending.specs.Joint.{isJoint}
+use Rattle.sending.proofs.Mixture.{under, are-bytes, mixture-is-fair}
 use Rattle.sending.proofs.Joint.{joint-delivered}
 use Rattle.sending.proofs.Untold.{joint-untold}
+use Rattle.examples.specs.Table.{firstPDU, secondPDU}
 use Rattle.examples.proofs.Table.{examples-hold}
-use Rattle.promises.specs.Statements.{Fresh, WriterMakes, FieldsReadBack, Demand2, Demand3, Demand3AnyLoss, Demand3NotEmpty, Reads, stop, call, Demand3OfCalls, Corollary3, FlowsDoNotDisturb, Joint, JointCannotBeTold, StarredExamples}
+use Rattle.promises.specs.Statements.{Fresh, WriterMakes, FieldsReadBack, Demand2, Demand3, Demand3AnyLoss, Demand3NotEmpty, FreshNotEmpty, Corollary3, FlowsDoNotDisturb, Joint, JointNotEmpty, JointCannotBeTold, StarredExamples}
 
 -- a fresh board, and at most sixteen flows
 begins : (device mtu R : ℕ) (flows : List Flow) (streams messages response : List ℕ) → length flows ≤ 16 → Fresh mtu R streams messages response
@@ -74,12 +66,16 @@ pub demand3-not-empty : Demand3NotEmpty
 demand3-not-empty = mixture-is-fair
 
 -- memories of zeros serve as well as any
-zeros : (mtu R : ℕ) → badMTU mtu ≡ false → badRoom mtu R ≡ false → Fresh mtu R (replicate (16 * R) 0) (replicate 32768 0) (replicate 7 0)
+pub zeros : (mtu R : ℕ) → badMTU mtu ≡ false → badRoom mtu R ≡ false → Fresh mtu R (replicate (16 * R) 0) (replicate 32768 0) (replicate 7 0)
 zeros mtu R m r = record {
   allowed-MTU = m;
   allowed-R = r;
   lends = record { rooms = length-replicate {A = ℕ} (16 * R) 0; boxes = length-replicate {A = ℕ} 32768 0; reply = omega (arith, length-replicate {A = ℕ} 7 0) };
 }
+
+pub fresh-not-empty : FreshNotEmpty
+unfolding badMTU badRoom
+fresh-not-empty = zeros 32 64 refl refl
 
 pub corollary3 : Corollary3
 corollary3 device mtu R s s′ m r fair fair′ e =
@@ -88,47 +84,25 @@ corollary3 device mtu R s s′ m r fair fair′ e =
     ∙ (ap (deliveries (freshBoard device mtu R (replicate (16 * R) 0) (replicate 32768 0) (replicate 7 0))) e
     ∙ demand3 device mtu R s′ _ _ _ f fair′)
 
--- calls that keep their promises deliver what the definitions do
-calls-deliver : {b : Board} {ps : List (List ℕ)} {ds : List Delivery} → Reads b ps ds → ds ≡ deliveries b ps
-calls-deliver stop = refl
-calls-deliver (call {b = b} {p = p} {ps = ps} {ds = ds} r words streams messages response promise rest) =
-    let ih : ds ≡ deliveries (record { words = words; streamMemory = streams; messageMemory = messages; response = response }) ps = calls-deliver rest in
-    ap (λ (l : List Delivery). deliveredBy (stateOf words .room) streams (said (r .answer)) ++ l) ih
-    ∙ ap (λ (x : Left). deliveredBy (stateOf (x .words) .room) (x .streamMemory) (x .says) ++ deliveries (boardLeft x) ps) promise
-
--- setup that says ready has made a fresh state, of an MTU and an R that are allowed
-pub record Made (words : List ℕ) (device mtu R : ℕ) (after : List ℕ) : Type 0 where
-  pub state : after ≡ wordsOf (fresh device mtu R)
-  pub MTU : badMTU mtu ≡ false
-  pub R-fits : badRoom mtu R ≡ false
-
-made : (words : List ℕ) (device mtu R : ℕ) (after : List ℕ) → SetupPromise words device mtu R Ready after → Made words device mtu R after
-unfolding setup
-made words device mtu R after p = go (verdict (setupTable words mtu R)) refl p
-  where
-    all : none (setupTable words mtu R) → after ≡ wordsOf (fresh device mtu R) → Made words device mtu R after
-    all n e = record { state = e; MTU = unfold setupTable none in (n .1 .0); R-fits = unfold setupTable none in (n .1 .1 .0) }
-
-    go : (v : VerdictOf SetupLeaves) → verdict (setupTable words mtu R) ≡ v → stands ready after ≡ setupBy words device mtu R v → Made words device mtu R after
-    go (refuse number leaves) t e =
-        let says : ready ≡ refused number = ap (λ (x : Stands). x .says) e in
-        absurd (false≢true cc)
-    go accept t e = all (none-held (setupTable words mtu R) t) (ap (λ (x : Stands). x .words) e)
-
-pub demand3-of-calls : Demand3OfCalls
-demand3-of-calls device mtu R s words after streams messages response ds set lends fair reads =
-    let m = made words device mtu R after set in
-    let f : Fresh mtu R streams messages response = record { allowed-MTU = m .MTU; allowed-R = m .R-fits; lends = lends } in
-    calls-deliver reads
-    ∙ (ap (λ (w : List ℕ). deliveries (record { words = w; streamMemory = streams; messageMemory = messages; response = response }) (packets device mtu s)) (m .state)
-    ∙ demand3 device mtu R s streams messages response f fair)
-
 pub flows-do-not-disturb : FlowsDoNotDisturb
 flows-do-not-disturb = flows-apart
 
 pub joint : Joint
 joint device mtu R flow first second streams messages response f pair =
     joint-delivered device mtu R flow first second _ pair (begins device mtu R (flow ∷ []) streams messages response (omega arith) f)
+
+pub joint-not-empty : JointNotEmpty
+unfolding badMTU segmentCount isJoint under
+joint-not-empty = record {
+  pair = record {
+    ranges = record { device-ID = omega arith; allowed-MTU = refl; allowed-R = omega arith; source = omega arith; cos = omega arith };
+    first-fair = record { stream = omega arith; bytes = are-bytes firstPDU refl; some-byte = omega arith; fits = omega arith; priorities = λ k. omega arith };
+    second-fair = record { stream = omega arith; bytes = are-bytes secondPDU refl; some-byte = omega arith; fits = omega arith; priorities = λ k. omega arith };
+    first-loses = refl;
+    second-loses = refl;
+  };
+  joint = refl;
+}
 
 pub joint-cannot-be-told : JointCannotBeTold
 joint-cannot-be-told = joint-untold

@@ -1,8 +1,7 @@
 -- The response buffer decides nothing: of two that 12 allows, both leave the same, but for the response itself; and its length stays.
 use Prim.Native.Nat.{ℕ, _≤_}
-use mathlib.Core.Path.{_≡_, refl, ap, sym, _∙_}
+use mathlib.Core.Path.{_≡_, refl, ap, _∙_}
 use mathlib.Core.List.{List}
-use mathlib.Core.Bool.{Bool, true, false, cond}
 use lib.ListN.{length}
 use native.Mathlib.Omega.{arith}
 use borrow.Author.Tests.{le-ltb}
@@ -10,12 +9,12 @@ use Rattle.lists.proofs.Written.{length-written}
 use Rattle.answers.specs.Refusals.{Row, Leaves, all, flowClosed, allERROR, allRETRY, Verdict, refuse, accept, verdict}
 use Rattle.wire.specs.Type11.{isSingle}
 use Rattle.responses.specs.Type13.{DONE, ERROR, RETRY, responseTo, answered}
-use Rattle.contexts.specs.State.{State, freeMessage}
+use Rattle.contexts.specs.State.{freeMessage}
 use Rattle.message_rooms.specs.Placing as messageRoom
 use Rattle.messages.specs.Joining as message
 use Rattle.messages.specs.Rows.{messageOpen, messageFound}
-use Rattle.reading.specs.Table.{Lent, stateIn, segmentIn, messageSegmentIn, is9, wrongSizes, table}
-use Rattle.reading.specs.Read.{Left, lent, butResponse, ofStream, ofMessage, reading, outcome, leaving, accepting}
+use Rattle.reading.specs.Table.{Lent, stateIn, messageSegmentIn, is9, wrongSizes, table}
+use Rattle.reading.specs.Read.{lent, butResponse, ofMessage, reading, outcome, leaving}
 use Rattle.reading.proofs.Cases.{by-test}
 
 module _ (words streams messages response response′ packet : List ℕ) where
