@@ -1,3 +1,4 @@
 mod Once
 mod Reply
 mod Whole
+mod FromC
