@@ -2,3 +2,4 @@ mod Once
 mod Reply
 mod Whole
 mod FromC
+mod InBursts

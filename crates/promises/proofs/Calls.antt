@@ -63,7 +63,7 @@ pub record Made (words : List ℕ) (device mtu R : ℕ) (after : List ℕ) : Typ
   pub MTU : badMTU mtu ≡ false
   pub R-fits : badRoom mtu R ≡ false
 
-made : (words : List ℕ) (device mtu R : ℕ) (after : List ℕ) → SetupPromise words device mtu R Ready after → Made words device mtu R after
+pub made : (words : List ℕ) (device mtu R : ℕ) (after : List ℕ) → SetupPromise words device mtu R Ready after → Made words device mtu R after
 unfolding setup
 made words device mtu R after p = go (verdict (setupTable words mtu R)) refl p
   where
