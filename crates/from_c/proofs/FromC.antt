@@ -33,6 +33,12 @@ report-delivers R memory closed dropped packet = refl
 report-delivers R memory free dropped packet = refl
 report-delivers R memory (wrote size) dropped packet = refl
 
+-- the board's own response buffer is not looked at
+pub other-buffer : {b : Board} {ps : List (List ℕ)} {ds : List Delivery} (response : List ℕ) → Reads b ps ds
+    → Reads (record { words = b .words; streamMemory = b .streamMemory; messageMemory = b .messageMemory; response = response }) ps ds
+other-buffer own stop = stop
+other-buffer own (call a given words streams messages response g promise more) = call a given words streams messages response g promise more
+
 -- a call of which the caller sees everything but the answer itself
 module _ (x : Lent) where
   pub answered-by : Reading

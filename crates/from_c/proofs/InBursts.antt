@@ -33,7 +33,7 @@ use Rattle.promises.specs.Statements.{Reads, stop, call}
 use Rattle.promises.proofs.Calls.{made, demand3-of-calls}
 use Rattle.from_c.specs.OfCalls.{allRead, WholeBurst, boardOf, nameOf, namesIn, BurstReads, BurstIsReads, Demand3OfBursts}
 use Rattle.from_c.proofs.Whole.{burst-is-calls}
-use Rattle.from_c.proofs.FromC.{answered-by, promised, says-it}
+use Rattle.from_c.proofs.FromC.{other-buffer, answered-by, promised, says-it}
 
 -- ---- the name in a report
 
@@ -108,13 +108,7 @@ module _ (r : Run) (p : List ℕ) (next : ℕ) (room : Room (r .responses) (r .r
       → Reads (boardOf r) (p ∷ ps) (deliveredBy (stateOf (reading lentTo .words) .room) (reading lentTo .streamMemory) (reading lentTo .says) ++ ds)
   call-made {ps = ps} {ds = ds} rest =
       subst (λ (s : Said). Reads (boardOf r) (p ∷ ps) (deliveredBy (stateOf (reading lentTo .words) .room) (reading lentTo .streamMemory) s ++ ds)) (says-it lentTo)
-      (call (answered-by lentTo) (slot (r .responses) (r .count)) (reading lentTo .words) (reading lentTo .streamMemory) (reading lentTo .messageMemory) (reading lentTo .response) (omega (arith, slot-length)) (promised lentTo) (other-buffer rest))
-    where
-      -- the board's own response buffer is not looked at
-      other-buffer : {qs : List (List ℕ)} {es : List Delivery} → Reads (boardOf (behind r p next)) qs es
-          → Reads (record { words = reading lentTo .words; streamMemory = reading lentTo .streamMemory; messageMemory = reading lentTo .messageMemory; response = reading lentTo .response }) qs es
-      other-buffer stop = stop
-      other-buffer (call a given words streams messages response g promise more) = call a given words streams messages response g promise more
+      (call (answered-by lentTo) (slot (r .responses) (r .count)) (reading lentTo .words) (reading lentTo .streamMemory) (reading lentTo .messageMemory) (reading lentTo .response) (omega (arith, slot-length)) (promised lentTo) (other-buffer (reading lentTo .response) rest))
 
 chain : (end : ℕ) (packets : List (List ℕ)) (r : Run) → Room (r .responses) (r .reports) (r .count) (length packets) → Chain end r packets
 unfolding rows

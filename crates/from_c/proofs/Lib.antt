@@ -3,3 +3,5 @@ mod Reply
 mod Whole
 mod FromC
 mod InBursts
+mod NotEmpty
+mod Paused

@@ -19,6 +19,7 @@ use Rattle.endpoint.specs.Calls.{SetupPromise}
 use Rattle.flows.specs.OneFlow.{pdu}
 use Rattle.flows.specs.Board.{Board, Delivery, delivery, inRoom, Lends}
 use Rattle.sending.specs.Sending.{Sending, packets, whole, Fair}
+use Rattle.sending.specs.Mixture.{mixture}
 use Rattle.promises.specs.Statements.{Reads}
 use Rattle.reports.specs.declared.Numbers.{Numbers}
 use Rattle.reports.specs.declared.Report.{Report}
@@ -63,14 +64,10 @@ BurstIsCalls =
     (r : Run) (burst : List ℕ) (packets : List (List ℕ)) → WholeBurst r burst packets
     → readBurst 0 r burst ≡ stopped (turned atEnd (allRead (length burst) r packets))
 
--- these premises can be met: the log of document 01, a state as setup makes it, and room for two
-abbrev pub twoRecords : List ℕ
-twoRecords =
-    0x0D ∷ 0x19 ∷ 0x00 ∷ 0x01 ∷ 0x00 ∷ 0x02 ∷ 0x05 ∷ 0xC1 ∷ 0x00 ∷ 0x07 ∷ 0xAA ∷ 0xBB ∷ 0xCC ∷ 0x00
-    ∷ 0x0F ∷ 0x1B ∷ 0x00 ∷ 0x01 ∷ 0x00 ∷ 0x02 ∷ 0x09 ∷ 0x60 ∷ 0x11 ∷ 0x12 ∷ 0x13 ∷ 0x14 ∷ 0x15 ∷ 0x16 ∷ 0x17 ∷ 0x18 ∷ []
-
-abbrev pub BurstNotEmpty : Type 0
-BurstNotEmpty = WholeBurst (run (wordsOf (fresh 1 32 64)) (replicate 1024 0) (replicate 32768 0) (replicate 16 0) (replicate 18 0) 0 0) twoRecords (take 13 (drop 1 twoRecords) ∷ drop 15 twoRecords ∷ [])
+-- these premises can be met: the packets of a sending with losses, mixed flows and messages between, a state as setup makes it, and room for seven
+pub record BurstNotEmpty : Type 0 where
+  pub short : AllShort (packets 1 32 mixture)
+  pub whole-burst : WholeBurst (run (wordsOf (fresh 1 32 64)) (replicate 1024 0) (replicate 32768 0) (replicate 56 0) (replicate 63 0) 0 0) (writtenLog (packets 1 32 mixture)) (packets 1 32 mixture)
 
 -- ---- Demand 3 from C: what a caller makes of the reports is exactly what is whole.
 

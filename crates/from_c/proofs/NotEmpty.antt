@@ -1,0 +1,35 @@
+-- The premises of a burst can be met, by computation.
+use Prim.Native.Nat.{ℕ, _≤_}
+use mathlib.Core.Path.{_≡_, refl, ap, sym, subst}
+use mathlib.Core.List.{List}
+use native.Mathlib.Omega.{arith}
+use lib.ListN.{length}
+use Rattle.lists.specs.First.{firstOf, any}
+use Rattle.lists.specs.Rows.{rows, joined}
+use Rattle.answers.specs.Refusals.{verdict}
+use Rattle.sizes.specs.Sizes.{badMTU}
+use Rattle.contexts.specs.State.{isFreeStream, isFreeMessage}
+use Rattle.contexts.specs.Words.{stateOf, wordsOf}
+use Rattle.refusal19.specs.Refusal19.{badRoom, badStream, badMessage, namedBy19}
+use Rattle.reading.specs.Table.{wrongSizes}
+use Rattle.records.specs.Written.{AllShort}
+use Rattle.records.proofs.Back.{log-reads-back}
+use Rattle.sending.specs.Sending.{packets}
+use Rattle.sending.specs.Mixture.{mixture}
+use Rattle.sending.proofs.Mixture.{mixture-is-fair}
+use Rattle.bursts.specs.Bursts.{lentTable, roomFor}
+use Rattle.from_c.specs.OfCalls.{BurstNotEmpty}
+
+-- seven packets, all of them short
+all-short : AllShort (packets 1 32 mixture)
+all-short = subst AllShort (sym (mixture-is-fair .left)) (omega arith, (omega arith, (omega arith, (omega arith, (omega arith, (omega arith, (omega arith, tt)))))))
+
+seven : length (packets 1 32 mixture) ≡ 7
+seven = ap length (mixture-is-fair .left)
+
+pub burst-not-empty : BurstNotEmpty
+unfolding verdict lentTable wrongSizes stateOf wordsOf rows joined firstOf any badMTU badRoom badStream badMessage namedBy19 isFreeStream isFreeMessage roomFor
+burst-not-empty = record {
+  short = all-short;
+  whole-burst = record { none-read = refl; start = refl; whole-records = log-reads-back (packets 1 32 mixture) all-short; passed = refl; room = let h : length (packets 1 32 mixture) ≤ 7 = omega (arith, seven) in h };
+}
