@@ -5,3 +5,4 @@ mod FromC
 mod InBursts
 mod NotEmpty
 mod Paused
+mod PausedRun

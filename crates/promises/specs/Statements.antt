@@ -226,7 +226,7 @@ pub data Reads : Board → List (List ℕ) → List Delivery → Type 0 where
       → Reads (record { words = words; streamMemory = streamMemory; messageMemory = messageMemory; response = response }) ps ds
       → Reads b (p ∷ ps) (deliveredBy (stateOf words .room) streamMemory (said (r .answer)) ++ ds)
 
--- setup, and then a call for each packet that a sending leaves: they deliver exactly what is whole
+-- setup, and then a call for each packet that a sending leaves: they deliver exactly what is whole. Of calls from C and of bursts: from_c/specs/OfCalls.antt
 abbrev pub Demand3OfCalls : Type 0
 Demand3OfCalls =
     (device mtu R : ℕ) (s : Sending) (words after streamMemory messageMemory response : List ℕ) (ds : List Delivery)

@@ -1,0 +1,72 @@
+-- Bursts with a pause over the packets of a PDU: one stops at its delivery, one at the end. By computation.
+use mathlib.Core.Path.{_≡_, refl, subst}
+use mathlib.Core.List.{List, [], _∷_, _++_}
+use Prim.Native.Nat.{ℕ, _-_, _*_}
+use native.Mathlib.Omega.{arith}
+use lib.ListN.{take, drop, replicate}
+use Rattle.lists.specs.Bytes.{written}
+use Rattle.lists.specs.First.{firstOf, any}
+use Rattle.lists.specs.Rows.{rows, joined}
+use Rattle.answers.specs.Refusals.{verdict}
+use Rattle.wire.specs.Type9.{sameFlow, segmentAt, segmentOf}
+use Rattle.sizes.specs.Sizes.{badMTU, bytesOf, dataLength, inEights, pduLength}
+use Rattle.wire.specs.Type11.{messageOf}
+use Rattle.responses.specs.Type13.{responseTo, answered}
+use Rattle.contexts.specs.State.{fresh, isFreeStream, isFreeMessage, isOfFlow, isOfMessage, flowContext, freeStream, messageContext, freeMessage}
+use Rattle.contexts.specs.Words.{stateOf, wordsOf}
+use Rattle.refusal19.specs.Refusal19.{badRoom, badStream, badMessage, namedBy19}
+use Rattle.rules.specs.Segments.{malformed}
+use Rattle.rules.specs.Messages.{reservedSize, badLength, pastLast}
+use Rattle.streams.specs.Rows as streamRows
+use Rattle.stream_rooms.specs.Placing as placing
+use Rattle.streams.specs.Joining as stream
+use Rattle.messages.specs.Rows as messageRows
+use Rattle.message_rooms.specs.Placing as boxes
+use Rattle.messages.specs.Joining as message
+use Rattle.reading.specs.Table.{wrongSizes, table}
+use Rattle.reading.specs.Read.{reading}
+use Rattle.cutting.specs.Cutting.{segmentCount, segmentData, isFirst, isFinal, padOf, flagsOf, fieldOf, packetOf}
+use Rattle.records.specs.Records.{recordFrom, longRecord, nextRecord}
+use Rattle.records.specs.Written.{lengthBytes, writtenLog}
+use Rattle.reports.specs.Reports.{reportOf}
+use Rattle.flows.specs.Board.{freshBoard}
+use Rattle.sending.specs.Sending.{putOf, packets, whole}
+use Rattle.sending.specs.Mixture.{six, odd}
+use Rattle.sending.specs.Joint.{inTurn}
+use Rattle.bursts.specs.Bursts.{run, Finished, finished, atEnd, atDelivery, pauseOf, turn, ran, roomFor, lentTable, readBurst}
+use Rattle.from_c.specs.OfCalls.{reportDelivers, Bursts, ended, paused, PausedBurstsNotEmpty}
+
+-- a call with room for seven
+abbrev again : (words streamMemory messageMemory burst : List ℕ) → Finished
+again words streamMemory messageMemory burst = readBurst 1 (run words streamMemory messageMemory (replicate 56 0) (replicate 63 0) 0 0) burst
+
+abbrev log : List ℕ
+log = writtenLog (packets 1 32 (inTurn 1 32 six (odd ∷ [])))
+
+abbrev first : Finished
+first = again (wordsOf (fresh 1 32 64)) (replicate 1024 0) (replicate 32768 0) log
+
+abbrev second : Finished
+second = again (first .words) (first .streamMemory) (first .messageMemory) (drop (first .answer .next) log)
+
+-- what a call leaves is what it promises
+itself : (f : Finished) → finished (f .answer) (f .words) (f .streamMemory) (f .messageMemory) (f .responses) (f .reports) ≡ f
+itself f = refl
+
+first-stops : first .answer .stop ≡ atDelivery
+unfolding written firstOf any rows joined verdict badMTU sameFlow segmentAt segmentOf pduLength dataLength messageOf bytesOf inEights responseTo answered isFreeStream isFreeMessage isOfFlow isOfMessage flowContext freeStream messageContext freeMessage stateOf wordsOf badRoom badStream badMessage namedBy19 malformed reservedSize badLength pastLast streamRows.missized streamRows.notOpen streamRows.passesRoom streamRows.noneFree streamRows.lengthDiffers placing.placed stream.accepted stream.refusedClosing messageRows.messageFound messageRows.otherMessage messageRows.alreadyMarked messageRows.neededNoneFree message.deliveredAtOnce boxes.messagePlaced message.messageAccepted wrongSizes table reading segmentCount segmentData isFirst isFinal padOf flagsOf fieldOf packetOf putOf recordFrom longRecord nextRecord lengthBytes reportOf pauseOf turn ran roomFor lentTable readBurst
+first-stops = refl
+
+second-ends : second .answer .stop ≡ atEnd
+unfolding written firstOf any rows joined verdict badMTU sameFlow segmentAt segmentOf pduLength dataLength messageOf bytesOf inEights responseTo answered isFreeStream isFreeMessage isOfFlow isOfMessage flowContext freeStream messageContext freeMessage stateOf wordsOf badRoom badStream badMessage namedBy19 malformed reservedSize badLength pastLast streamRows.missized streamRows.notOpen streamRows.passesRoom streamRows.noneFree streamRows.lengthDiffers placing.placed stream.accepted stream.refusedClosing messageRows.messageFound messageRows.otherMessage messageRows.alreadyMarked messageRows.neededNoneFree message.deliveredAtOnce boxes.messagePlaced message.messageAccepted wrongSizes table reading segmentCount segmentData isFirst isFinal padOf flagsOf fieldOf packetOf putOf recordFrom longRecord nextRecord lengthBytes reportOf pauseOf turn ran roomFor lentTable readBurst
+second-ends = refl
+
+first-delivers : reportDelivers (stateOf (first .words) .room) (first .streamMemory) (take 9 (drop (9 * (first .answer .count - 1)) (first .reports))) ++ [] ≡ whole 1 32 (inTurn 1 32 six (odd ∷ []))
+unfolding written firstOf any rows joined verdict badMTU sameFlow segmentAt segmentOf pduLength dataLength messageOf bytesOf inEights responseTo answered isFreeStream isFreeMessage isOfFlow isOfMessage flowContext freeStream messageContext freeMessage stateOf wordsOf badRoom badStream badMessage namedBy19 malformed reservedSize badLength pastLast streamRows.missized streamRows.notOpen streamRows.passesRoom streamRows.noneFree streamRows.lengthDiffers placing.placed stream.accepted stream.refusedClosing messageRows.messageFound messageRows.otherMessage messageRows.alreadyMarked messageRows.neededNoneFree message.deliveredAtOnce boxes.messagePlaced message.messageAccepted wrongSizes table reading segmentCount segmentData isFirst isFinal padOf flagsOf fieldOf packetOf putOf recordFrom longRecord nextRecord lengthBytes reportOf pauseOf turn ran roomFor lentTable readBurst
+first-delivers = refl
+
+pub paused-bursts-not-empty : PausedBurstsNotEmpty
+paused-bursts-not-empty =
+    subst (Bursts (freshBoard 1 32 64 (replicate 1024 0) (replicate 32768 0) (replicate 7 0)) log) first-delivers
+    (paused 1 (first .answer) (replicate 56 0) (replicate 63 0) (first .words) (first .streamMemory) (first .messageMemory) (first .responses) (first .reports) (λ z. omega (arith, z)) (itself first) first-stops
+    (ended 1 (second .answer) (replicate 56 0) (replicate 63 0) (second .words) (second .streamMemory) (second .messageMemory) (second .responses) (second .reports) (λ z. omega (arith, z)) (itself second) second-ends))
