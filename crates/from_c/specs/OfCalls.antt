@@ -19,8 +19,7 @@ use Rattle.endpoint.specs.Calls.{SetupPromise}
 use Rattle.flows.specs.OneFlow.{pdu}
 use Rattle.flows.specs.Board.{Board, Delivery, delivery, inRoom, Lends, freshBoard}
 use Rattle.sending.specs.Sending.{Sending, packets, whole, Fair}
-use Rattle.sending.specs.Mixture.{six, odd, mixture}
-use Rattle.sending.specs.Joint.{inTurn}
+use Rattle.sending.specs.Mixture.{mixture}
 use Rattle.promises.specs.Statements.{Reads}
 use Rattle.reports.specs.declared.Numbers.{Numbers}
 use Rattle.reports.specs.declared.Report.{Report}
@@ -162,10 +161,9 @@ pub data Bursts : Board → List ℕ → List Delivery → Type 0 where
       → Bursts (record { words = words; streamMemory = streamMemory; messageMemory = messageMemory; response = responses′ }) (drop (answer .next) burst) ds
       → Bursts b burst (reportDelivers (stateOf words .room) streamMemory (take 9 (drop (9 * (answer .count - 1)) reports′)) ++ ds)
 
--- such calls can be made: over the two packets of a PDU, one that stops at its delivery and one that stops at the end
+-- such calls can be made, over the packets of that sending; and these deliver what is whole of it
 abbrev pub PausedBurstsNotEmpty : Type 0
-PausedBurstsNotEmpty =
-    Bursts (freshBoard 1 32 64 (replicate 1024 0) (replicate 32768 0) (replicate 7 0)) (writtenLog (packets 1 32 (inTurn 1 32 six (odd ∷ [])))) (whole 1 32 (inTurn 1 32 six (odd ∷ [])))
+PausedBurstsNotEmpty = Bursts (freshBoard 1 32 64 (replicate 1024 0) (replicate 32768 0) (replicate 7 0)) (writtenLog (packets 1 32 mixture)) (whole 1 32 mixture)
 
 -- over a burst of written records these are calls for each packet
 abbrev pub PausedBurstsAreReads : Type 0
