@@ -1,22 +1,20 @@
 -- Calls from C are calls: a report says what the answer says.
 use Prim.Native.Nat.{ℕ}
 use mathlib.Core.Path.{_≡_, refl, ap, ap₂, sym, _∙_}
-use mathlib.Core.List.{List, [], _∷_, _++_}
+use mathlib.Core.List.{List}
 use mathlib.Core.Bool.{Bool}
 use native.Mathlib.Omega.{arith}
-use Rattle.answers.specs.declared.Reading.{Reading}
 use Rattle.answers.specs.declared.Begun.the-variants.{Ready}
 use Rattle.answers.specs.Answers.{Said, said, held, delivered, message, refused, ready, closed, free, wrote}
 use Rattle.contexts.specs.Words.{stateOf}
 use Rattle.reading.specs.Table.{Lent}
-use Rattle.reading.specs.Read.{Left, left, lent, reading, ReadPromise}
-use Rattle.reading.proofs.Spoken.{answer-of}
+use Rattle.reading.specs.Read.{lent, reading, ReadPromise}
+use Rattle.reading.proofs.Spoken.{answered-by, says-it, promised}
 use Rattle.endpoint.specs.Calls.{stands, setup, SetupPromise}
 use Rattle.reports.specs.declared.Numbers.{Numbers}
 use Rattle.reports.specs.declared.Report.{Report}
 use Rattle.reports.specs.Reports.{kindOf, reportOf, wordsOfReport}
 use Rattle.flows.specs.Board.{Board, Delivery, deliveredBy}
-use Rattle.kaiverohm.specs.Exports.{SetupFromCPromise, ReadFromCPromise}
 use Rattle.promises.specs.Statements.{Reads, stop, call}
 use Rattle.promises.proofs.Calls.{demand3-of-calls}
 use Rattle.from_c.specs.OfCalls.{reportDelivers, ReadsFromC, no-more, one-more, CallsFromCAreReads, Demand3FromC}
@@ -39,28 +37,15 @@ pub other-buffer : {b : Board} {ps : List (List ℕ)} {ds : List Delivery} (resp
 other-buffer own stop = stop
 other-buffer own (call a given words streams messages response g promise more) = call a given words streams messages response g promise more
 
--- a call of which the caller sees everything but the answer itself
-module _ (x : Lent) where
-  pub answered-by : Reading
-  answered-by = record { answer = answer-of x .answer; dropped = reading x .dropped }
-
-  pub promised : ReadPromise x answered-by (reading x .words) (reading x .streamMemory) (reading x .messageMemory) (reading x .response)
-  unfolding answered-by
-  promised = ap (λ (s : Said). left s (reading x .dropped) (reading x .words) (reading x .streamMemory) (reading x .messageMemory) (reading x .response)) (answer-of x .alike)
-
-  pub says-it : said (answered-by .answer) ≡ reading x .says
-  unfolding answered-by
-  says-it = answer-of x .alike
-
 are-reads : {b : Board} {ps : List (List ℕ)} {ds : List Delivery} → ReadsFromC b ps ds → Reads b ps ds
 are-reads no-more = stop
 are-reads (one-more {b = b} {p = p} {ps = rest} {ds = later} r given words streams messages response g promise calls) =
     let x : Lent = lent (b .words) (b .streamMemory) (b .messageMemory) given p in
     let ih : Reads (record { words = words; streamMemory = streams; messageMemory = messages; response = response }) rest later = are-reads calls in
     let same : deliveredBy (stateOf words .room) streams (said (answered-by x .answer)) ≡ reportDelivers (stateOf words .room) streams (wordsOfReport r) =
-        ap (deliveredBy (stateOf words .room) streams) (says-it x)
-        ∙ (sym (report-delivers (stateOf words .room) streams (reading x .says) (reading x .dropped) p)
-        ∙ ap (λ (y : Report). reportDelivers (stateOf words .room) streams (wordsOfReport y)) (sym (promise .report))) in
+    ap (deliveredBy (stateOf words .room) streams) (says-it x)
+    ∙ (sym (report-delivers (stateOf words .room) streams (reading x .says) (reading x .dropped) p)
+    ∙ ap (λ (y : Report). reportDelivers (stateOf words .room) streams (wordsOfReport y)) (sym (promise .report))) in
     let kept : ReadPromise x (answered-by x) words streams messages response = rw (promise .state, promise .streams, promise .messages, promise .reply) (promised x) in
     rw (sym same) (call (answered-by x) given words streams messages response g kept ih)
 

@@ -3,37 +3,36 @@
 use Prim.Native.Nat.{ℕ, _+_, _*_, _≤_}
 use mathlib.Core.Path.{_≡_, refl, ap, ap₂, sym, _∙_, subst}
 use mathlib.Core.List.{List, [], _∷_, _++_, map}
-use mathlib.Core.Bool.{Bool, false, not, _||_, _&&_}
+use mathlib.Core.Bool.{Bool, not}
 use native.Mathlib.Omega.{arith}
 use lib.ListN.{length, take, drop, length-take, length-drop}
 use lib.Seq.{take-add, take-take, drop-at, drop-drop, length-take-le}
-use Rattle.lists.specs.Bytes.{written}
 use Rattle.lists.specs.Rows.{rows}
 use Rattle.lists.proofs.Written.{length-written, take-before, part-written}
-use Rattle.answers.specs.Answers.{Said, said, held, delivered, message, refused, ready, closed, free, wrote}
+use Rattle.answers.specs.Answers.{Said, held, delivered, message, refused, ready, closed, free, wrote}
 use Rattle.answers.specs.Refusals.{none}
 use Rattle.answers.proofs.Exactly.{none-held}
 use Rattle.contexts.specs.State.{State, fresh}
-use Rattle.contexts.specs.Words.{stateOf, wordsOf}
+use Rattle.contexts.specs.Words.{stateOf}
 use Rattle.contexts.proofs.Words.{state-of}
 use Rattle.refusal19.proofs.Good.{neither}
-use Rattle.reading.specs.Table.{Lent, stateIn, isState, wrongMemory}
+use Rattle.reading.specs.Table.{Lent, isState, wrongMemory}
 use Rattle.reading.specs.Read.{lent, reading}
 use Rattle.reading.proofs.Kept.{room-kept}
 use Rattle.reading.proofs.Left.{sizes-fit}
 use Rattle.reading.proofs.Response.{response-length}
+use Rattle.reading.proofs.Spoken.{answered-by, says-it, promised}
 use Rattle.reports.specs.Reports.{reportOf, wordsOfReport}
 use Rattle.flows.specs.Board.{Board, Delivery, deliveredBy, inRoom, Lends}
 use Rattle.sending.specs.Sending.{packets}
 use Rattle.sending.proofs.Measured.{length-is-measured}
-use Rattle.bursts.specs.declared.Burst.{Burst}
 use Rattle.bursts.specs.Bursts.{Run, run, slot, behind, Finished, answering, atEnd, stopped, turned, lentTable, Room}
 use Rattle.bursts.proofs.Tests.{has-room}
 use Rattle.promises.specs.Statements.{Reads, stop, call}
 use Rattle.promises.proofs.Calls.{made, demand3-of-calls}
-use Rattle.from_c.specs.OfCalls.{allRead, WholeBurst, boardOf, nameOf, namesIn, BurstReads, BurstIsReads, Demand3OfBursts}
+use Rattle.from_c.specs.OfCalls.{allRead, boardOf, nameOf, namesIn, BurstReads, BurstIsReads, Demand3OfBursts}
 use Rattle.from_c.proofs.Whole.{burst-is-calls}
-use Rattle.from_c.proofs.FromC.{other-buffer, answered-by, promised, says-it}
+use Rattle.from_c.proofs.FromC.{other-buffer}
 
 -- ---- the name in a report
 
@@ -115,22 +114,20 @@ unfolding rows
 chain end [] r room = record { ds = []; reads = stop; count = omega arith; next = refl; size = refl; kept = refl; names = refl }
 chain end (p ∷ ps) r room =
     let one : Room (r .responses) (r .reports) (r .count) 1 = record { replies = omega (arith, room .replies); answers = omega (arith, room .answers) } in
-    let r′ : Run = behind r p end in
     let x : Lent = lent (r .words) (r .streamMemory) (r .messageMemory) (slot (r .responses) (r .count)) p in
     let same = same-reports r p end one in
     let c : Chain end (behind r p end) ps = chain end ps (behind r p end) (record {
       replies = omega (arith, room .replies, same-responses r p end one);
       answers = omega (arith, room .answers, same);
     }) in
-    let final : List ℕ = allRead end (behind r p end) ps .reports in
     let place : 9 * (r .count + 1) ≡ 9 * r .count + 9 = omega arith in
     let front : take (9 * r .count + 9) (allRead end (behind r p end) ps .reports) ≡ take (9 * r .count + 9) (behind r p end .reports) =
-        subst (λ (k : ℕ). take k (allRead end (behind r p end) ps .reports) ≡ take k (behind r p end .reports)) place (c .kept) in
+    subst (λ (k : ℕ). take k (allRead end (behind r p end) ps .reports) ≡ take k (behind r p end .reports)) place (c .kept) in
     let row : take 9 (drop (9 * r .count) (allRead end (behind r p end) ps .reports)) ≡ wordsOfReport (reportOf (reading x .says) (reading x .dropped) p) =
-        part-same (9 * r .count) 9 (allRead end (behind r p end) ps .reports) (behind r p end .reports) (omega (arith, c .size, same, room .answers)) (omega (arith, same, room .answers)) front
-        ∙ report-placed r p end one in
+    part-same (9 * r .count) 9 (allRead end (behind r p end) ps .reports) (behind r p end .reports) (omega (arith, c .size, same, room .answers)) (omega (arith, same, room .answers)) front
+    ∙ report-placed r p end one in
     let behind-it : drop 9 (drop (9 * r .count) (allRead end (behind r p end) ps .reports)) ≡ drop (9 * (r .count + 1)) (allRead end (behind r p end) ps .reports) =
-        drop-drop 9 (9 * r .count) (allRead end (behind r p end) ps .reports) ∙ ap (λ (k : ℕ). drop k (allRead end (behind r p end) ps .reports)) (sym place) in
+    drop-drop 9 (9 * r .count) (allRead end (behind r p end) ps .reports) ∙ ap (λ (k : ℕ). drop k (allRead end (behind r p end) ps .reports)) (sym place) in
     record {
       ds = deliveredBy (stateOf (reading x .words) .room) (reading x .streamMemory) (reading x .says) ++ c .ds;
       reads = call-made r p end one (c .reads);
@@ -159,16 +156,18 @@ burst-is-reads r burst packets answer words streams messages responses reports w
     } in
     let c = chain (length burst) packets r room in
     let e : _ ≡ stopped (turned atEnd (allRead (length burst) r packets)) = promise ∙ burst-is-calls r burst packets w in
-    let told : reports ≡ allRead (length burst) r packets .reports = ap (λ (f : Finished). f .reports) e in
-    (c .ds, record {
-      all-read =
-          ap (λ (f : Finished). f .answer) e
-          ∙ ap₂ (λ (n k : ℕ). answering atEnd 0 n k) (let n : allRead (length burst) r packets .count ≡ length packets = omega (arith, c .count, w .none-read) in n) (c .next);
-      reads = c .reads;
-      names =
-          ap (λ (l : List ℕ). namesIn (rows 9 (length packets) l)) told
-          ∙ (ap (λ (k : ℕ). namesIn (rows 9 (length packets) (drop (9 * k) (allRead (length burst) r packets .reports)))) (sym (w .none-read)) ∙ c .names);
-    })
+    let told : reports ≡ allRead (length burst) r packets .reports = ap (λ (f : Finished). f .reports) e in (
+      c .ds,
+      record {
+        all-read =
+            ap (λ (f : Finished). f .answer) e
+            ∙ ap₂ (λ (n k : ℕ). answering atEnd 0 n k) (let n : allRead (length burst) r packets .count ≡ length packets = omega (arith, c .count, w .none-read) in n) (c .next);
+        reads = c .reads;
+        names =
+            ap (λ (l : List ℕ). namesIn (rows 9 (length packets) l)) told
+            ∙ (ap (λ (k : ℕ). namesIn (rows 9 (length packets) (drop (9 * k) (allRead (length burst) r packets .reports)))) (sym (w .none-read)) ∙ c .names);
+      },
+    )
 
 -- rows 19 and 12 passed: the memories have the sizes that 12 wants
 lends : (R : ℕ) (words streams messages responses : List ℕ) → stateOf words .room ≡ R → none (lentTable (lent words streams messages responses [])) → Lends R streams messages responses

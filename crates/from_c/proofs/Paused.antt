@@ -1,6 +1,6 @@
 -- Bursts with a pause are calls, one after another: a burst of written records reads some of them, none of which delivers but the last where it
 -- stopped at a delivery; and what it leaves unread are the records of the others.
-use Prim.Native.Nat.{ℕ, zero, suc, _+_, _-_, _*_, _≤_}
+use Prim.Native.Nat.{ℕ, zero, suc, _+_, _-_, _*_}
 use mathlib.Core.Path.{_≡_, refl, ap, ap₂, sym, _∙_, subst}
 use mathlib.Core.Logic.{_⊎_, inl, inr}
 use mathlib.Core.List.{List, [], _∷_, _++_, append-assoc, append-nil}
@@ -19,9 +19,9 @@ use Rattle.records.specs.declared.Next.the-variants.{Record, End}
 use Rattle.records.specs.Records.{nextRecord}
 use Rattle.records.specs.Written.{lengthBytes, writtenLog, AllShort}
 use Rattle.records.proofs.Back.{stands, packet-of, ended}
-use Rattle.reports.specs.Reports.{reportOf, wordsOfReport}
+use Rattle.reports.specs.Reports.{reportOf}
 use Rattle.flows.specs.Board.{Board, Delivery, deliveredBy}
-use Rattle.bursts.specs.Bursts.{Run, run, slot, behind, kindIn, Turned, turned, packetTurn, pauseOf, turn, atEnd, isFull, atDelivery, Finished, finished, stopped, ran, roomFor, lentTable, burstBy, readBurst, Room}
+use Rattle.bursts.specs.Bursts.{Run, run, slot, behind, kindIn, turned, packetTurn, pauseOf, turn, atEnd, isFull, atDelivery, Finished, finished, stopped, ran, roomFor, lentTable, burstBy, readBurst, Room}
 use Rattle.bursts.proofs.Turns.{at-end, at-full, stops, goes-on}
 use Rattle.bursts.proofs.Tests.{has-room}
 use Rattle.promises.specs.Statements.{Reads, stop}
@@ -187,7 +187,7 @@ module _ (pause : ℕ) (asked : pause ≡ 0 → ⊥) where
     part (suc room) (p ∷ qs) front r e at short space =
         let next : ℕ = length front + length (lengthBytes (length p)) + length p in
         let later : Part burst (behind r p next) qs (ran pause room burst (behind r p next)) =
-            part room qs (front ++ (lengthBytes (length p) ++ p)) (behind r p next) (again p qs front r e at short) (place p qs front r e at short) (short .1) (more-room p qs front r e at short room space) in
+        part room qs (front ++ (lengthBytes (length p) ++ p)) (behind r p next) (again p qs front r e at short) (place p qs front r e at short) (short .1) (more-room p qs front r e at short room space) in
         go (goes-or-stops (kindIn r p)) later
       where
         go : (pauseOf pause (kindIn r p) ≡ 0) ⊎ (pauseOf pause (kindIn r p) ≡ atDelivery)
@@ -203,9 +203,6 @@ module _ (pause : ℕ) (asked : pause ≡ 0 → ⊥) where
     unfolding readBurst
     call-part packets words streams messages responses reports e short n = go (verdict (lentTable (lent words streams messages responses []))) n
       where
-        r : Run
-        r = run words streams messages responses reports 0 0
-
         go : (v : Verdict) → (burstBy pause (run words streams messages responses reports 0 0) burst v .answer .stop ≡ 0 → ⊥)
             → Part burst (run words streams messages responses reports 0 0) packets (burstBy pause (run words streams messages responses reports 0 0) burst v)
         go (refuse number leaves) n = absurd (n refl)
@@ -221,22 +218,21 @@ promised-part pause asked burst packets words streams messages responses reports
 
 are-reads : {b : Board} {burst : List ℕ} {ds : List Delivery} → Bursts b burst ds → (packets : List (List ℕ)) → burst ≡ writtenLog packets → AllShort packets → Reads b packets ds
 are-reads (stated.ended {b = b} {burst = burst} pause answer responses reports words streams messages responses′ reports′ asked promise halt) packets e short =
-    let f : Finished = finished answer words streams messages responses′ reports′ in
     let p : Part burst (run (b .words) (b .streamMemory) (b .messageMemory) responses reports 0 0) packets (finished answer words streams messages responses′ reports′) =
-        promised-part pause asked burst packets (b .words) (b .streamMemory) (b .messageMemory) responses reports e short (finished answer words streams messages responses′ reports′) promise (λ z. omega (arith, z, halt)) in
+    promised-part pause asked burst packets (b .words) (b .streamMemory) (b .messageMemory) responses reports e short (finished answer words streams messages responses′ reports′) promise (λ z. omega (arith, z, halt)) in
     let last : lastDelivers (finished answer words streams messages responses′ reports′) ++ [] ≡ [] = rw halt in
     let none-left : p .rest ≡ [] = p .none-left halt in
     subst (Reads b packets) last (other-buffer (b .response) (p .reads [] (subst (λ (l : List (List ℕ)). Reads (record { words = words; streamMemory = streams; messageMemory = messages; response = responses′ }) l []) (sym none-left) stop)))
 are-reads (stated.full {b = b} {burst = burst} {ds = ds} pause answer responses reports words streams messages responses′ reports′ asked promise halt more) packets e short =
     let p : Part burst (run (b .words) (b .streamMemory) (b .messageMemory) responses reports 0 0) packets (finished answer words streams messages responses′ reports′) =
-        promised-part pause asked burst packets (b .words) (b .streamMemory) (b .messageMemory) responses reports e short (finished answer words streams messages responses′ reports′) promise (λ z. omega (arith, z, halt)) in
+    promised-part pause asked burst packets (b .words) (b .streamMemory) (b .messageMemory) responses reports e short (finished answer words streams messages responses′ reports′) promise (λ z. omega (arith, z, halt)) in
     let last : lastDelivers (finished answer words streams messages responses′ reports′) ++ ds ≡ ds = rw halt in
     subst (Reads b packets) last (other-buffer (b .response) (p .reads ds (are-reads more (p .rest) (p .unread) (p .short))))
 are-reads (stated.paused {b = b} {burst = burst} {ds = ds} pause answer responses reports words streams messages responses′ reports′ asked promise halt more) packets e short =
     let p : Part burst (run (b .words) (b .streamMemory) (b .messageMemory) responses reports 0 0) packets (finished answer words streams messages responses′ reports′) =
-        promised-part pause asked burst packets (b .words) (b .streamMemory) (b .messageMemory) responses reports e short (finished answer words streams messages responses′ reports′) promise (λ z. omega (arith, z, halt)) in
+    promised-part pause asked burst packets (b .words) (b .streamMemory) (b .messageMemory) responses reports e short (finished answer words streams messages responses′ reports′) promise (λ z. omega (arith, z, halt)) in
     let last : lastDelivers (finished answer words streams messages responses′ reports′) ++ ds
-            ≡ reportDelivers (stateOf words .room) streams (take 9 (drop (9 * (answer .count - 1)) reports′)) ++ ds = rw halt in
+    ≡ reportDelivers (stateOf words .room) streams (take 9 (drop (9 * (answer .count - 1)) reports′)) ++ ds = rw halt in
     subst (Reads b packets) last (other-buffer (b .response) (p .reads ds (are-reads more (p .rest) (p .unread) (p .short))))
 
 pub paused-bursts-are-reads : PausedBurstsAreReads

@@ -1,13 +1,12 @@
 -- Demand 3 of the calls themselves: whatever response buffers they are given, calls that keep their promises deliver what the definitions do.
 use Prim.Native.Nat.{ℕ, _≤_}
-use mathlib.Core.Path.{_≡_, refl, ap, sym, _∙_}
+use mathlib.Core.Path.{_≡_, refl, ap, _∙_}
 use mathlib.Core.Bool.{false, false≢true}
 use mathlib.Core.List.{List, [], _∷_, _++_}
 use native.Mathlib.Omega.{arith}
 use lib.ListN.{length, replicate}
-use Rattle.answers.specs.declared.Reading.{Reading}
 use Rattle.answers.specs.declared.Begun.the-variants.{Ready}
-use Rattle.answers.specs.Answers.{Said, said, ready, refused}
+use Rattle.answers.specs.Answers.{said, ready, refused}
 use Rattle.answers.specs.Refusals.{VerdictOf, refuse, accept, none, verdict}
 use Rattle.answers.proofs.Exactly.{none-held}
 use Rattle.sizes.specs.Sizes.{badMTU}
@@ -17,7 +16,7 @@ use Rattle.contexts.specs.Words.{stateOf, wordsOf}
 use Rattle.reading.specs.Table.{Lent}
 use Rattle.reading.specs.Read.{Left, left, lent, butResponse, reading}
 use Rattle.reading.proofs.Response.{response-decides-nothing, response-length}
-use Rattle.reading.proofs.Spoken.{answer-of}
+use Rattle.reading.proofs.Spoken.{answered-by, promised}
 use Rattle.endpoint.specs.Calls.{Stands, stands, SetupLeaves, setupTable, setupBy, setup, SetupPromise}
 use Rattle.flows.specs.Board.{Board, Delivery, deliveredBy}
 use Rattle.sending.specs.Sending.{deliveries, packets}
@@ -38,7 +37,7 @@ calls-deliver (call {b = b} {p = p} {ps = ps} {ds = ds} r given words streams me
     let onward : List ℕ = reading x .response in
     let ih : ds ≡ deliveries (record { words = words; streamMemory = streams; messageMemory = messages; response = onward }) ps = calls-deliver rest onward (omega (arith, response-length x h, h)) in
     let same : left (said (r .answer)) (r .dropped) words streams messages [] ≡ butResponse (reading x) =
-        ap butResponse promise ∙ response-decides-nothing (b .words) (b .streamMemory) (b .messageMemory) given own p g h in
+    ap butResponse promise ∙ response-decides-nothing (b .words) (b .streamMemory) (b .messageMemory) given own p g h in
     ap (λ (l : List Delivery). deliveredBy (stateOf words .room) streams (said (r .answer)) ++ l) ih
     ∙ ap (λ (y : Left). deliveredBy (stateOf (y .words) .room) (y .streamMemory) (y .says) ++ deliveries (record { words = y .words; streamMemory = y .streamMemory; messageMemory = y .messageMemory; response = onward }) ps) same
 
@@ -47,11 +46,8 @@ calls-made : (ps : List (List ℕ)) (b : Board) → (ds : List Delivery) × Read
 calls-made [] b = ([], stop)
 calls-made (p ∷ ps) b =
     let x : Lent = lent (b .words) (b .streamMemory) (b .messageMemory) (replicate 7 0) p in
-    let a = answer-of x in
-    let r : Reading = record { answer = a .answer; dropped = reading x .dropped } in
     let rest = calls-made ps (record { words = reading x .words; streamMemory = reading x .streamMemory; messageMemory = reading x .messageMemory; response = reading x .response }) in
-    (_, call r (replicate 7 0) (reading x .words) (reading x .streamMemory) (reading x .messageMemory) (reading x .response) (omega arith)
-    (ap (λ (s : Said). left s (reading x .dropped) (reading x .words) (reading x .streamMemory) (reading x .messageMemory) (reading x .response)) (a .alike)) (rest .1))
+    (_, call (answered-by x) (replicate 7 0) (reading x .words) (reading x .streamMemory) (reading x .messageMemory) (reading x .response) (omega arith) (promised x) (rest .1))
 
 pub calls-not-empty : CallsNotEmpty
 unfolding setup setupTable verdict badMTU badRoom

@@ -1,7 +1,7 @@
 -- Demands 2 and 3 of the endpoint itself: the theorems of `sending` stand on laws between a flow and the endpoint, and `flows` shows that they hold.
 use Prim.Native.Nat.{ℕ, suc, _*_, _≤_}
 use mathlib.Core.Path.{_≡_, refl, ap, sym, _∙_}
-use mathlib.Core.Bool.{true, false}
+use mathlib.Core.Bool.{false}
 use mathlib.Core.List.{List, [], _∷_}
 use native.Mathlib.Omega.{arith}
 use lib.ListN.{length, replicate, length-replicate}

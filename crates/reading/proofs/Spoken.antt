@@ -1,9 +1,10 @@
 -- Whatever reading says, an answer of the call says it.
 use Prim.Native.Nat.{ℕ}
-use mathlib.Core.Path.{_≡_, refl}
+use mathlib.Core.Path.{_≡_, refl, ap}
 use mathlib.Core.Bool.{Bool, true, false, cond}
 use Rattle.answers.specs.declared.Answer.{Answer}
 use Rattle.answers.specs.declared.Answer.the-variants as answer
+use Rattle.answers.specs.declared.Reading.{Reading}
 use Rattle.answers.specs.Answers.{Said, said}
 use Rattle.answers.specs.Refusals.{Leaves, all, flowClosed, allERROR, allRETRY, Verdict, refuse, accept, verdict}
 use Rattle.wire.specs.Type11.{isSingle}
@@ -13,11 +14,11 @@ use Rattle.message_rooms.specs.Placing as messageRoom
 use Rattle.messages.specs.Joining as message
 use Rattle.messages.specs.Rows.{messageOpen}
 use Rattle.reading.specs.Table.{Lent, stateIn, segmentIn, messageSegmentIn, is9, table}
-use Rattle.reading.specs.Read.{Left, reading, outcome, leaving}
+use Rattle.reading.specs.Read.{Left, left, reading, outcome, leaving, ReadPromise}
 
-pub record Spoken (says : Said) : Type 0 where
-  pub answer : Answer
-  pub alike : said answer ≡ says
+record Spoken (says : Said) : Type 0 where
+  answer : Answer
+  alike : said answer ≡ says
 
 spoken : (a : Answer) → Spoken (said a)
 spoken a = record { answer = a; alike = refl }
@@ -53,6 +54,18 @@ module _ (x : Lent) where
   by-verdict (refuse number leaves) = by-leaves number leaves
   by-verdict accept = chosen (λ (l : Left). Spoken (l .says)) (is9 x) _ _ by-stream by-message
 
-  pub answer-of : Spoken (reading x .says)
+  answer-of : Spoken (reading x .says)
   unfolding reading
   answer-of = by-verdict (verdict (table x))
+
+  -- so a call that leaves what reading leaves can be made
+  pub answered-by : Reading
+  answered-by = record { answer = answer-of .answer; dropped = reading x .dropped }
+
+  pub says-it : said (answered-by .answer) ≡ reading x .says
+  unfolding answered-by
+  says-it = answer-of .alike
+
+  pub promised : ReadPromise x answered-by (reading x .words) (reading x .streamMemory) (reading x .messageMemory) (reading x .response)
+  unfolding answered-by
+  promised = ap (λ (s : Said). left s (reading x .dropped) (reading x .words) (reading x .streamMemory) (reading x .messageMemory) (reading x .response)) (answer-of .alike)
