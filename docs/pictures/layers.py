@@ -13,9 +13,9 @@ ROOT = pathlib.Path(__file__).resolve().parents[2]
 # Rows from above. A crate: from which of twelve columns on, and over how many. Below it in its columns stands much of what it uses;
 # it uses nothing beside or above it.
 ROWS = [
-    {"samples": (0, 1.4), "outside_responses": (1.4, 2.2), "outside_segments": (3.6, 2.2), "racklog": (5.8, 1.4), "outside_logs": (7.2, 1.8), "promises": (9.2, 1.4), "from_c": (10.6, 1.4)},
-    {"kaiverohm": (0, 5.8), "logprint": (5.8, 3.2), "sending": (9.2, 1.4), "examples": (10.6, 1.4)},
-    {"bursts": (0, 2.4), "places": (2.4, 2.4), "printing": (4.8, 2), "logrun": (6.8, 2.2)},
+    {"samples": (0, 1.4), "outside_responses": (1.4, 2.2), "outside_segments": (3.6, 2.2), "racklog": (5.8, 1.4), "outside_logs": (7.2, 1.8), "from_c": (9.2, 2.8)},
+    {"kaiverohm": (0, 5.8), "logprint": (5.8, 3.2), "promises": (9.2, 2.8)},
+    {"bursts": (0, 2.4), "places": (2.4, 2.4), "printing": (4.8, 2), "logrun": (6.8, 2.2), "sending": (9.2, 1.4), "examples": (10.6, 1.4)},
     {"endpoint": (0, 4.8), "segments": (4.8, 2), "logreader": (6.8, 2.2), "flows": (9.2, 2.8)},
     {"reading": (0, 4.8), "reports": (4.8, 2), "records": (6.8, 1.1), "lines": (7.9, 1.1)},
     {"streams": (0, 2.4), "messages": (2.4, 2.4)},

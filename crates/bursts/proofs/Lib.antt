@@ -1,3 +1,3 @@
 mod Packets
 pub mod Turns
-mod Tests
+pub mod Tests

@@ -12,7 +12,7 @@ use Rattle.answers.specs.Answers as answers
 use Rattle.wire.specs.declared.MessageSegment.{MessageSegment}
 use Rattle.sizes.specs.Sizes.{bytesOf}
 use Rattle.wire.specs.Type11.{isSingle, mailbox}
-use Rattle.responses.specs.Type13.{ERROR, RETRY, responseTo, answered}
+use Rattle.responses.specs.Type13.{ERROR, RETRY}
 use Rattle.sizes.proofs.Laws.{bytes-le}
 use Rattle.rules.specs.Messages.{judged, lastWith}
 use Rattle.rules.proofs.Laws.{sound}
@@ -23,6 +23,7 @@ use Rattle.messages.specs.Joining.{deliveredAtOnce, messageAccepted}
 use Rattle.messages.specs.Step.{refusedWith, matched, messageStepped}
 use Rattle.message_rooms.proofs.Laws.{segment-ends}
 use Rattle.reading.proofs.Cases.{by-test}
+use Rattle.reading.proofs.Response.{length-answered}
 use Rattle.flows.specs.Board.{deliveredBy}
 
 -- no stream context changes, no PDU is delivered, and the memories keep their sizes
@@ -33,11 +34,6 @@ pub record Quiet (s : State) (memory response : List ℕ) (j : MessageJoined) : 
   pub boxes : length (j .memory) ≡ length memory
   pub reply : length (j .response) ≡ length response
   pub tells : (room : ℕ) (streams : List ℕ) → deliveredBy room streams (j .says) ≡ []
-
--- a response takes the buffer's first 7 bytes
-length-answered : (response p : List ℕ) (status : ℕ) → 7 ≤ length response → length (answered response p status) ≡ length response
-unfolding answered responseTo
-length-answered response p status h = length-written response (responseTo p status) 0 (omega arith)
 
 module _ (s : State) (memory response p : List ℕ) (m : MessageSegment) (size : length memory ≡ 32768) (reply : 7 ≤ length response) (whole : 7 + m .raw ≡ length p) (number : m .msgseg < 16) where
   quiet-refused : (code status : ℕ) → Quiet s memory response (refusedWith s memory response p code status)

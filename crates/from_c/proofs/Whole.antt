@@ -108,6 +108,6 @@ reads-all (suc most) room burst r packets e fits inside-it =
 
 pub burst-is-calls : BurstIsCalls
 unfolding readBurst recordsOf
-burst-is-calls r burst packets counted start e passed fits =
-    ap (burstBy 0 r burst) passed
-    ∙ reads-all (suc (length burst)) (roomFor (length (r .reports)) (length (r .responses))) burst r packets (ap (recordsFrom (suc (length burst)) burst) start ∙ e) fits (omega (arith, start))
+burst-is-calls r burst packets w =
+    ap (burstBy 0 r burst) (w .passed)
+    ∙ reads-all (suc (length burst)) (roomFor (length (r .reports)) (length (r .responses))) burst r packets (ap (recordsFrom (suc (length burst)) burst) (w .start) ∙ w .whole-records) (w .room) (omega (arith, w .start))

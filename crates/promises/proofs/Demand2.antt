@@ -23,7 +23,8 @@ use Rattle.sending.specs.OfSendings.{packetAt, boardAt, ReadsBack}
 use Rattle.sending.proofs.Steps.{count-pos}
 use Rattle.sending.proofs.Rooms.{room-stays}
 use Rattle.promises.specs.Statements.{Fresh, Writes, written-all, write, Demand2OfCalls}
-use Rattle.promises.proofs.Demands.{begins, made, calls-deliver, demand2}
+use Rattle.promises.proofs.Demands.{begins, demand2}
+use Rattle.promises.proofs.Calls.{made, calls-deliver}
 
 -- ---- Writing
 
@@ -94,7 +95,7 @@ demand2-of-calls device mtu R flow s words after streams messages response count
     let ranges : Ranges device mtu R flow = record { device-ID = id; allowed-MTU = m .MTU; allowed-R = m .most; source = source; cos = cos } in
     let n : count ≡ packetCount mtu s = counted ∙ counts mtu (length (s .pdu .bytes)) (m .MTU) (fair .some-byte) (omega (arith, fair .fits, m .most)) in
     let cut : ps ≡ packetsFrom device mtu flow s 0 (packetCount mtu s) = calls-write writes ∙ ap (packetsFrom device mtu flow s 0) n in
-    calls-deliver reads
+    calls-deliver reads response (lends .reply)
     ∙ (ap₂ (λ (w : List ℕ) (l : List (List ℕ)). deliveries (record { words = w; streamMemory = streams; messageMemory = messages; response = response }) l) (m .state) cut
     ∙ whole-PDU device mtu R flow s _ (begins device mtu R (flow ∷ []) streams messages response (omega arith) (m .MTU) (m .most) f .own-R) (demand2 device mtu R flow s streams messages response f ranges fair)
     (count-pos mtu (length (s .pdu .bytes)) (m .MTU) (fair .some-byte)))

@@ -1,45 +1,35 @@
 -- Demands 2 and 3 of the endpoint itself: the theorems of `sending` stand on laws between a flow and the endpoint, and `flows` shows that they hold.
 use Prim.Native.Nat.{ℕ, suc, _*_, _≤_}
-use mathlib.Core.Path.{_≡_, refl, ap, ap₂, sym, _∙_, subst}
-use mathlib.Core.Bool.{Bool, true, false, false≢true}
-use mathlib.Core.List.{List, [], _∷_, _++_}
+use mathlib.Core.Path.{_≡_, refl, ap, sym, _∙_}
+use mathlib.Core.Bool.{false}
+use mathlib.Core.List.{List, [], _∷_}
 use native.Mathlib.Omega.{arith}
 use lib.ListN.{length, replicate, length-replicate}
 use borrow.Author.Tests.{le-ltb}
-use Rattle.lists.specs.Bytes.{written}
-use Rattle.answers.specs.declared.Reading.{Reading}
-use Rattle.answers.specs.declared.Begun.the-variants.{Ready}
-use Rattle.answers.specs.Answers.{said, ready, refused}
-use Rattle.answers.specs.Refusals.{VerdictOf, refuse, accept, none, verdict}
-use Rattle.answers.proofs.Exactly.{accepted, none-held}
+use Rattle.answers.proofs.Exactly.{accepted}
 use Rattle.wire.specs.declared.Flow.{Flow}
 use Rattle.sizes.specs.Sizes.{badMTU}
 use Rattle.refusal19.specs.Refusal19.{badRoom}
-use Rattle.refusal19.proofs.Good.{good}
-use Rattle.refusal19.proofs.Kept.{fresh-good}
-use Rattle.cutting.specs.Cutting.{packetOf}
+use Rattle.cutting.specs.Cutting.{segmentCount, packetOf}
 use Rattle.segments.specs.Writer.{writerTable, writing, wroteBy}
-use Rattle.reading.specs.Read as reading
-use Rattle.reading.specs.Read.{Left, lent, ReadPromise}
-use Rattle.contexts.specs.State.{fresh}
-use Rattle.contexts.specs.Words.{stateOf, wordsOf}
-use Rattle.endpoint.specs.Calls.{Stands, stands, SetupLeaves, setupTable, setupBy, setup, SetupPromise}
-use Rattle.flows.specs.Board.{Board, Delivery, deliveredBy, Lends, freshBoard, boardLeft, read}
+use Rattle.flows.specs.Board.{freshBoard}
 use Rattle.flows.proofs.Fine.{Fine, fresh-fine}
 use Rattle.flows.proofs.Machine.{by-flow}
 use Rattle.flows.proofs.Apart.{flows-apart}
-use Rattle.sending.specs.Sending.{Sending, FlowSent, flowsOf, deliveries, packets, whole, Fair}
+use Rattle.sending.specs.Sending.{Sending, FlowSent, flowsOf, packets, whole, deliveries, Fair}
 use Rattle.sending.specs.OfSendings.{Begins}
 use Rattle.sending.proofs.Fresh.{fresh-begins}
 use Rattle.sending.proofs.Cut.{segments-read-back}
 use Rattle.sending.proofs.ReadBack.{read-back}
 use Rattle.sending.proofs.Merge.{delivered-is-whole, delivered-at-every-turn}
-use Rattle.sending.proofs.Mixture.{mixture-is-fair}
+use Rattle.sending.specs.Joint.{isJoint}
+use Rattle.sending.proofs.Mixture.{under, are-bytes, mixture-is-fair}
 use Rattle.sending.proofs.Joint.{joint-delivered}
 use Rattle.sending.proofs.Untold.{joint-untold}
+use Rattle.examples.specs.Table.{firstPDU, secondPDU}
 use Rattle.examples.proofs.Table.{examples-hold}
 use Rattle.promises.proofs.Wider.{largest-holds, wider}
-use Rattle.promises.specs.Statements.{Fresh, WriterMakes, FieldsReadBack, Demand2, Demand3, Demand3AnyLoss, Demand3NotEmpty, Reads, stop, call, Demand3OfCalls, Corollary3, FlowsDoNotDisturb, Joint, JointCannotBeTold, StarredExamples}
+use Rattle.promises.specs.Statements.{Fresh, WriterMakes, FieldsReadBack, Demand2, Demand3, Demand3AnyLoss, Demand3NotEmpty, FreshNotEmpty, Corollary3, FlowsDoNotDisturb, Joint, JointNotEmpty, JointCannotBeTold, StarredExamples}
 
 -- MTU ≤ R ≤ 65,536
 room-allowed : (mtu R : ℕ) → mtu ≤ R → R ≤ 65536 → badRoom mtu R ≡ false
@@ -90,6 +80,9 @@ zeros mtu R holds = record {
   lends = record { rooms = length-replicate {A = ℕ} (16 * R) 0; boxes = length-replicate {A = ℕ} 32768 0; reply = omega (arith, length-replicate {A = ℕ} 7 0) };
 }
 
+pub fresh-not-empty : FreshNotEmpty
+fresh-not-empty = zeros 32 64 (omega arith)
+
 same-packets : (device mtu R : ℕ) (s s′ : Sending) → mtu ≤ R → Fair device mtu R s → Fair device mtu R s′ → packets device mtu s ≡ packets device mtu s′ → whole device mtu s ≡ whole device mtu s′
 same-packets device mtu R s s′ holds fair fair′ e =
     let f = zeros mtu R holds in
@@ -103,46 +96,6 @@ corollary3 device mtu R s s′ fair fair′ e =
     let p = fair .but-losses in
     same-packets device mtu 65536 s s′ (largest-holds mtu (p .allowed-MTU)) (wider device mtu R (p .allowed-R) s fair) (wider device mtu R (p .allowed-R) s′ fair′) e
 
--- calls that keep their promises deliver what the definitions do
-pub calls-deliver : {b : Board} {ps : List (List ℕ)} {ds : List Delivery} → Reads b ps ds → ds ≡ deliveries b ps
-calls-deliver stop = refl
-calls-deliver (call {b = b} {p = p} {ps = ps} {ds = ds} r words streams messages response promise rest) =
-    let ih : ds ≡ deliveries (record { words = words; streamMemory = streams; messageMemory = messages; response = response }) ps = calls-deliver rest in
-    ap (λ (l : List Delivery). deliveredBy (stateOf words .room) streams (said (r .answer)) ++ l) ih
-    ∙ ap (λ (x : Left). deliveredBy (stateOf (x .words) .room) (x .streamMemory) (x .says) ++ deliveries (boardLeft x) ps) promise
-
--- setup that says ready has made a fresh state, of an MTU and an R that are allowed
-pub record Made (words : List ℕ) (device mtu R : ℕ) (after : List ℕ) : Type 0 where
-  pub state : after ≡ wordsOf (fresh device mtu R)
-  pub MTU : badMTU mtu ≡ false
-  pub holds-MTU : mtu ≤ R
-  pub most : R ≤ 65536
-
-pub made : (words : List ℕ) (device mtu R : ℕ) (after : List ℕ) → SetupPromise words device mtu R Ready after → Made words device mtu R after
-unfolding setup
-made words device mtu R after p = go (verdict (setupTable words mtu R)) refl p
-  where
-    all : none (setupTable words mtu R) → after ≡ wordsOf (fresh device mtu R) → Made words device mtu R after
-    all n e =
-        let m : badMTU mtu ≡ false = unfold setupTable none in (n .1 .0) in
-        let r : badRoom mtu R ≡ false = unfold setupTable none in (n .1 .1 .0) in
-        let g = good (fresh device mtu R) (fresh-good device mtu R m r) in
-        record { state = e; MTU = m; holds-MTU = g .holds; most = g .room }
-
-    go : (v : VerdictOf SetupLeaves) → verdict (setupTable words mtu R) ≡ v → stands ready after ≡ setupBy words device mtu R v → Made words device mtu R after
-    go (refuse number leaves) t e =
-        let says : ready ≡ refused number = ap (λ (x : Stands). x .says) e in
-        absurd (false≢true cc)
-    go accept t e = all (none-held (setupTable words mtu R) t) (ap (λ (x : Stands). x .words) e)
-
-pub demand3-of-calls : Demand3OfCalls
-demand3-of-calls device mtu R s words after streams messages response ds set lends fair reads =
-    let m = made words device mtu R after set in
-    let f : Fresh mtu R streams messages response = record { holds-MTU = m .holds-MTU; lends = lends } in
-    calls-deliver reads
-    ∙ (ap (λ (w : List ℕ). deliveries (record { words = w; streamMemory = streams; messageMemory = messages; response = response }) (packets device mtu s)) (m .state)
-    ∙ demand3 device mtu R s streams messages response f fair)
-
 pub flows-do-not-disturb : FlowsDoNotDisturb
 flows-do-not-disturb = flows-apart
 
@@ -150,6 +103,19 @@ pub joint : Joint
 joint device mtu R flow first second streams messages response f pair =
     joint-delivered device mtu R flow first second _ pair
     (begins device mtu R (flow ∷ []) streams messages response (omega arith) (pair .ranges .allowed-MTU) (pair .ranges .allowed-R) f)
+
+pub joint-not-empty : JointNotEmpty
+unfolding badMTU segmentCount isJoint under
+joint-not-empty = record {
+  pair = record {
+    ranges = record { device-ID = omega arith; allowed-MTU = refl; allowed-R = omega arith; source = omega arith; cos = omega arith };
+    first-fair = record { stream = omega arith; bytes = are-bytes firstPDU refl; some-byte = omega arith; fits = omega arith; priorities = λ k. omega arith };
+    second-fair = record { stream = omega arith; bytes = are-bytes secondPDU refl; some-byte = omega arith; fits = omega arith; priorities = λ k. omega arith };
+    first-loses = refl;
+    second-loses = refl;
+  };
+  joint = refl;
+}
 
 pub joint-cannot-be-told : JointCannotBeTold
 joint-cannot-be-told = joint-untold

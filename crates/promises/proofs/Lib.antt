@@ -3,6 +3,7 @@ pub mod Exactly
 pub mod Good
 pub mod Wider
 pub mod Demands
+pub mod Calls
 pub mod Responses
 pub mod Demand2
 pub mod Status

@@ -10,12 +10,12 @@
 use Prim.Native.Nat.{ℕ, suc, _+_, _*_, _<_, _≤_}
 use mathlib.Core.Path.{_≡_}
 use mathlib.Core.Logic.{_↔_}
-use mathlib.Core.Bool.{cond}
+use mathlib.Core.Bool.{true, cond}
 use mathlib.Core.List.{List, [], _∷_, _++_}
 use mathlib.Core.Option.{Option}
 use mathlib.Core.Option as option
 use lib.Dec.{eqb}
-use lib.ListN.{length, take, drop}
+use lib.ListN.{length, take, drop, replicate}
 use denote.Ref.{RefT, now}
 use Rattle.lists.specs.Bytes.{byte, written}
 use Rattle.wire.specs.Packet.{priority, tt, packetType, destination, source}
@@ -24,6 +24,7 @@ use Rattle.wire.specs.declared.Parsed.the-variants.{Refused, Stream, Message}
 use Rattle.wire.specs.Parsed.{parsed}
 use Rattle.responses.specs.Type13.{DONE, RETRY, ERROR, above, responseTo, answered}
 use Rattle.cutting.specs.Cutting.{packetOf}
+use Rattle.flows.specs.OneFlow.{pdu}
 use Rattle.flows.specs.Board.{Board, Delivery, delivery, deliveredBy, Lends, freshBoard}
 use Rattle.flows.specs.ByFlow.{AreBytes}
 use Rattle.flows.specs.Apart.{FlowsApart}
@@ -32,7 +33,7 @@ use Rattle.sending.specs.Segment.{SegmentsReadBack}
 use Rattle.sending.specs.OfSendings.{ReadsBack, LengthIsMeasured, firstTurns}
 use Rattle.sending.specs.Meaning.{InOrder, WholeIsIntact}
 use Rattle.sending.specs.Mixture.{MixtureIsFair}
-use Rattle.examples.specs.Table.{ExamplesHold}
+use Rattle.examples.specs.Table.{firstPDU, secondPDU, ExamplesHold}
 use Rattle.examples.specs.Impostors.{ReadMeets, SilentBreaks3, SameBreaks2, CountMoverBreaks2, CountMoverBreaks3, InventorBreaks2, IdleWriterBreaks2}
 use Rattle.sending.specs.Joint.{Pair, isJoint, jointPDU, pairPackets, JointUntold}
 use Rattle.answers.specs.declared.Reading.{Reading}
@@ -46,7 +47,7 @@ use Rattle.answers.specs.Refusals.{RowOf, Row, Decides, none}
 use Rattle.contexts.specs.State.{fresh, streamIn, messageIn, withStream, withMessage, closedStream, closedMessage, isFreeStream, isFreeMessage}
 use Rattle.contexts.specs.Words.{stateOf, wordsOf}
 use Rattle.reading.specs.Table.{Lent, stateIn, segmentIn, messageSegmentIn, is9, is11, table}
-use Rattle.reading.specs.Read.{ReadPromise, reading, leaving, accepting, lent}
+use Rattle.reading.specs.Read.{ReadPromise, butResponse, reading, leaving, accepting, lent}
 use Rattle.reading.specs.Good.{GoodWords, StillGood}
 use Rattle.cutting.specs.declared.Heading.{Heading}
 use Rattle.segments.specs.Writer.{writerTable, writing, wroteOf, WritePromise, CountPromise}
@@ -299,11 +300,23 @@ Demand3AnyLoss =
 abbrev pub Demand3NotEmpty : Type 0
 Demand3NotEmpty = MixtureIsFair
 
--- the calls themselves: `read` for each packet, each with the state and the memories that the call before left, each outcome one that its promise allows; and what they deliver
+-- and so can setup's: an MTU and an R that it allows, and memories that 12 allows
+abbrev pub FreshNotEmpty : Type 0
+FreshNotEmpty = Fresh 32 64 (replicate 1024 0) (replicate 32768 0) (replicate 7 0)
+
+-- the response buffer decides nothing: with any two of 7 or more bytes a packet is answered the same and leaves the same, but for the response itself
+abbrev pub ResponseBufferDecidesNothing : Type 0
+ResponseBufferDecidesNothing =
+    (words streamMemory messageMemory response response′ packet : List ℕ) → 7 ≤ length response → 7 ≤ length response′
+    → butResponse (reading (lent words streamMemory messageMemory response packet)) ≡ butResponse (reading (lent words streamMemory messageMemory response′ packet))
+
+-- the calls themselves: `read` for each packet, each with the state and the two memories that the call before left, and with any response buffer that
+-- 12 allows; each outcome one that its promise allows; and what they deliver. The board's own response buffer is lent only where the caller does so
 pub data Reads : Board → List (List ℕ) → List Delivery → Type 0 where
   stop : {b : Board} → Reads b [] []
-  call : {b : Board} {p : List ℕ} {ps : List (List ℕ)} {ds : List Delivery} (r : Reading) (words streamMemory messageMemory response : List ℕ)
-      → ReadPromise (lent (b .words) (b .streamMemory) (b .messageMemory) (b .response) p) r words streamMemory messageMemory response
+  call : {b : Board} {p : List ℕ} {ps : List (List ℕ)} {ds : List Delivery} (r : Reading) (given words streamMemory messageMemory response : List ℕ)
+      → 7 ≤ length given
+      → ReadPromise (lent (b .words) (b .streamMemory) (b .messageMemory) given p) r words streamMemory messageMemory response
       → Reads (record { words = words; streamMemory = streamMemory; messageMemory = messageMemory; response = response }) ps ds
       → Reads b (p ∷ ps) (deliveredBy (stateOf words .room) streamMemory (said (r .answer)) ++ ds)
 
@@ -326,13 +339,18 @@ Demand2OfCalls =
     → Reads (record { words = after; streamMemory = streamMemory; messageMemory = messageMemory; response = response }) ps ds
     → ds ≡ delivery flow (s .pdu) ∷ []
 
--- setup, and then a call for each packet that a sending leaves: they deliver exactly what is whole
+-- setup, and then a call for each packet that a sending leaves: they deliver exactly what is whole. Of calls from C and of bursts: from_c/specs/OfCalls.antt
 abbrev pub Demand3OfCalls : Type 0
 Demand3OfCalls =
     (device mtu R : ℕ) (s : Sending) (words after streamMemory messageMemory response : List ℕ) (ds : List Delivery)
     → SetupPromise words device mtu R Ready after → Lends R streamMemory messageMemory response → Fair device mtu R s
     → Reads (record { words = after; streamMemory = streamMemory; messageMemory = messageMemory; response = response }) (packets device mtu s) ds
     → ds ≡ whole device mtu s
+
+-- these calls can be made: setup says ready, and then there are calls for any packets
+pub record CallsNotEmpty : Type 0 where
+  pub sets-up : SetupPromise (replicate 147 0) 1 32 64 Ready (wordsOf (fresh 1 32 64))
+  pub reads : (b : Board) (ps : List (List ℕ)) → (ds : List Delivery) × Reads b ps ds
 
 -- THE COROLLARY: two sendings that leave the same packets agree on every whole PDU
 abbrev pub Corollary3 : Type 0
@@ -381,7 +399,19 @@ Joint =
     → deliveries (freshBoard device mtu R streamMemory messageMemory response) (pairPackets device mtu flow first second)
     ≡ cond (isJoint mtu first second) (delivery flow (jointPDU mtu first second) ∷ []) []
 
--- no receiver can tell: those packets are also left by a sending in which that PDU was sent whole
+-- example 9: two PDUs of 40 bytes, the first without its end, the second without its start
+abbrev pub endLost : Sent
+endLost = record { pdu = pdu 7 firstPDU; lost = 1 ∷ []; priorities = [] }
+
+abbrev pub startLost : Sent
+startLost = record { pdu = pdu 8 secondPDU; lost = 0 ∷ []; priorities = [] }
+
+-- it happens: they are such a pair, and a joint
+pub record JointNotEmpty : Type 0 where
+  pub pair : Pair 1 32 2048 (record { source = 2; cos = 5 }) endLost startLost
+  pub joint : isJoint 32 endLost startLost ≡ true
+
+-- no receiver can tell: those packets are left by a sending in which nothing is whole, and by a fair sending in which that PDU is sent whole
 abbrev pub JointCannotBeTold : Type 0
 JointCannotBeTold = JointUntold
 

@@ -71,6 +71,21 @@ module _ (x : Lent) where
       (λ o. rw (t, o) (placed-same (messageFound (stateIn x) (messageSegmentIn x)) _ _))
       (λ o. rw (t, o) (placed-same (freeMessage (stateIn x)) 0 0)))
 
+  -- R stays, whatever the words
+  same-R : (t : State) → Same (stateIn x) t → stateOf (wordsOf t) .room ≡ stateIn x .room
+  same-R t e = ap (λ (s : State). s .room) (state-of t (e .streams ∙ sixteen (x .words)) (e .messages ∙ eight (x .words))) ∙ e .room
+
+  pub room-kept : stateOf (reading x .words) .room ≡ stateIn x .room
+  unfolding reading
+  room-kept = by-verdict (verdict (table x))
+    where
+      by-verdict : (v : Verdict) → stateOf (outcome x v .words) .room ≡ stateIn x .room
+      by-verdict (refuse number all) = refl
+      by-verdict (refuse number flowClosed) = same-R _ (closing-same number)
+      by-verdict (refuse number allERROR) = refl
+      by-verdict (refuse number allRETRY) = refl
+      by-verdict accept = by-test (is9 x) (λ t. rw t (same-R _ stream-same)) (λ t. rw t (same-R _ message-same))
+
   -- every row of an accepted packet has failed
   abbrev Passed : Type 0
   Passed = none (table x)

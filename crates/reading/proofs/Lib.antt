@@ -5,3 +5,5 @@ pub mod Rows
 pub mod Packets
 pub mod Kept
 pub mod Left
+pub mod Response
+pub mod Spoken

@@ -1,7 +1,7 @@
 -- What reading one packet answers, and what it leaves in the state and in every lent byte.
 use Prim.Native.Nat.{ℕ}
 use mathlib.Core.Path.{_≡_}
-use mathlib.Core.List.{List}
+use mathlib.Core.List.{List, []}
 use mathlib.Core.Bool.{Bool, false, cond}
 use Rattle.answers.specs.Answers.{Said, said, refused}
 use Rattle.answers.specs.declared.Reading.{Reading}
@@ -32,6 +32,10 @@ left says dropped words streamMemory messageMemory response = record {
   messageMemory = messageMemory;
   response = response;
 }
+
+-- all of that, the response buffer aside
+abbrev pub butResponse : Left → Left
+butResponse x = left (x .says) (x .dropped) (x .words) (x .streamMemory) (x .messageMemory) []
 
 -- what a type 9 packet leaves; message memory and response stay
 abbrev pub ofStream : Lent → streamRoom.Joined → Left

@@ -23,13 +23,13 @@ behind front back i = getD-append-add front back i 0
 here : (front back : List ℕ) → byte (front ++ back) (length front) ≡ byte back 0
 here front back = ap (byte (front ++ back)) (sym (add-zero (length front))) ∙ behind front back 0
 
-abbrev Stands : List ℕ → List ℕ → List ℕ → List ℕ → Type 0
+abbrev pub Stands : List ℕ → List ℕ → List ℕ → List ℕ → Type 0
 Stands front bytes packet rest =
     nextRecord (front ++ (bytes ++ (packet ++ rest))) (length front)
     ≡ Record (length front + length bytes) (length packet) (length front + length bytes + length packet)
 
 -- the record that stands behind the front
-stands : (front packet rest : List ℕ) → length packet < 16384 → Stands front (lengthBytes (length packet)) packet rest
+pub stands : (front packet rest : List ℕ) → length packet < 16384 → Stands front (lengthBytes (length packet)) packet rest
 unfolding lengthBytes
 stands front packet rest short = go (ltb (length packet) 128) refl
   where
@@ -53,13 +53,13 @@ stands front packet rest short = go (ltb (length packet) 128) refl
         ∙ ap (λ (k : ℕ). Record (length front + 2) k (length front + 2 + k)) whole
 
 -- the packet of that record, and what follows it
-packet-of : (front bytes packet rest : List ℕ) → take (length packet) (drop (length front + length bytes) (front ++ (bytes ++ (packet ++ rest)))) ≡ packet
+pub packet-of : (front bytes packet rest : List ℕ) → take (length packet) (drop (length front + length bytes) (front ++ (bytes ++ (packet ++ rest)))) ≡ packet
 packet-of front bytes packet rest =
     ap (take (length packet)) (drop-append-add front (bytes ++ (packet ++ rest)) (length bytes) ∙ drop-at bytes (packet ++ rest) (length bytes) refl)
     ∙ take-at packet rest (length packet) refl
 
 -- the end
-ended : (log : List ℕ) → nextRecord log (length log) ≡ End
+pub ended : (log : List ℕ) → nextRecord log (length log) ≡ End
 unfolding nextRecord
 ended log = simp (le-ltb (length log) (length log) (omega arith))
 

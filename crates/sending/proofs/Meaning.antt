@@ -74,7 +74,7 @@ module _ (device mtu : ℕ) (flow : Flow) (s : Sent) (more : List Put) where
   completed-from (suc n) k e = rw (whole-of k false (ne-eqb (k + 1) (packetCount mtu s) (λ t. omega arith))) (completed-from n (suc k) (omega arith))
 
 -- and so for all PDUs of a flow
-flow-completed : (device mtu R : ℕ) (flow : Flow) → badMTU mtu ≡ false → (ss : List Sent) → Each (FairPDU R) ss → completed (flowPuts device mtu flow ss) ≡ intact mtu ss
+pub flow-completed : (device mtu R : ℕ) (flow : Flow) → badMTU mtu ≡ false → (ss : List Sent) → Each (FairPDU R) ss → completed (flowPuts device mtu flow ss) ≡ intact mtu ss
 flow-completed device mtu R flow allowed [] fair = refl
 flow-completed device mtu R flow allowed (s ∷ ss) fair = go (packetCount mtu s) refl (flow-completed device mtu R flow allowed ss (fair .1))
   where

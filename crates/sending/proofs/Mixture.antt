@@ -15,7 +15,7 @@ use Rattle.sending.specs.Sending.{putOf, FairPDU, Fair}
 use Rattle.sending.specs.Mixture.{lossy, sound, odd, letterOne, reservedSsize, mixture, MixtureIsFair}
 
 -- whether every number of a list is below a bound
-under : ℕ → List ℕ → Bool
+unfoldable pub under : ℕ → List ℕ → Bool
 under bound [] = true
 under bound (x ∷ xs) = ltb x bound && under bound xs
 
@@ -29,7 +29,7 @@ under-at bound (x ∷ xs) i pos e = go (ltb x bound) refl e i (λ j r. under-at 
     go true h e (suc i) rest = rest i e
     go false h e i rest = absurd (false≢true e)
 
-are-bytes : (l : List ℕ) → under 256 l ≡ true → AreBytes l
+pub are-bytes : (l : List ℕ) → under 256 l ≡ true → AreBytes l
 are-bytes l e i = under-at 256 l i (omega arith) e
 
 priorities : (l : List ℕ) → under 4 l ≡ true → (k : ℕ) → getD l k 0 ≤ 3

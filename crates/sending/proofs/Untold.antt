@@ -1,24 +1,32 @@
 -- No receiver can tell a joint from a PDU that was sent whole: packet 0 is the first's, every later one the second's, byte for byte.
+-- A flow alone, with a turn for each packet, puts all of them on, in order.
 use Prim.Native.Nat.{ℕ, zero, suc, _+_, _-_, _*_, _≤_}
 use mathlib.Core.Path.{_≡_, refl, sym, ap, _∙_, subst}
-use mathlib.Core.List.{List, [], _∷_, _++_}
-use mathlib.Core.Bool.{Bool, true, false, _&&_, false≢true}
+use mathlib.Core.List.{List, [], _∷_, _++_, map, tail}
+use mathlib.Core.Bool.{Bool, true, false, cond, _&&_, false≢true}
+use mathlib.Core.Option.{Option, none, some}
 use native.Mathlib.Omega.{arith}
 use native.Mathlib.Nat.{zero-mul}
-use lib.ListN.{length, take, drop, getD}
+use lib.ListN.{length, take, drop, getD, replicate}
 use lib.Seq.{length-take-le, take-at, drop-append-add, drop-drop, getD-drop}
 use lib.Dec.{eqb, leb}
 use borrow.Author.Tests.{eqb-true, leb-true, eq-eqb, ne-eqb}
 use Rattle.wire.specs.declared.Flow.{Flow}
 use Rattle.lists.specs.Bytes.{high, low}
 use Rattle.cutting.specs.Cutting.{segmentCount, segmentData, isFirst, isFinal, padOf, flagsOf, fieldOf, packetOf}
-use Rattle.sending.specs.Sending.{Sent, isLost, priorityOf, packetCount, lossesFrom, losses, Put, headingFor, putOf, putsFrom, flowPuts, FairPDU}
-use Rattle.sending.specs.OneFlow.{arriving}
-use Rattle.sending.specs.Joint.{isJoint, jointPDU, pairPackets, Pair, jointSent, JointUntold}
+use Rattle.sizes.specs.Sizes.{badMTU}
+use Rattle.flows.specs.OneFlow.{PDU}
+use Rattle.flows.specs.Board.{Delivery, delivery}
+use Rattle.flows.proofs.Flows.{same-refl}
+use Rattle.sending.specs.Sending.{Sent, isLost, priorityOf, packetCount, lossesFrom, losses, isWhole, Put, headingFor, putOf, putsFrom, flowPuts, next, headOf, advance, events, queues, packetsLeft, tell, wholes, packets, whole, Each, FairPDU, FairTurn}
+use Rattle.sending.specs.Meaning.{intact}
+use Rattle.sending.specs.OneFlow.{also, arriving}
+use Rattle.sending.specs.Joint.{isJoint, jointPDU, pairPackets, Pair, jointSent, inTurn, JointUntold}
 use Rattle.sending.proofs.Cut.{bytes-append, bytes-take, bytes-drop}
 use Rattle.sending.proofs.Steps.{inner-size}
 use Rattle.sending.proofs.Losses.{no-losses, count-lost, none-lost, lost-counts}
-use Rattle.sending.proofs.Joint.{joint-length}
+use Rattle.sending.proofs.Joint.{joint-length, completed}
+use Rattle.sending.proofs.Meaning.{flow-completed}
 
 -- what the test says
 record Joint (mtu : ℕ) (a b : Sent) : Type 0 where
@@ -189,9 +197,76 @@ module _ (device mtu R : ℕ) (flow : Flow) (a b : Sent) (pair : Pair device mtu
       priority zero = pair .first-fair .priorities 0
       priority (suc k) = subst (λ (q : ℕ). q ≤ 3) (sym (getD-drop 1 (b .priorities) k 0)) (pair .second-fair .priorities (1 + k))
 
+-- ---- One flow with a turn for each packet: all that it has is put on, in order
+
+module _ (flow : Flow) where
+  -- the turn moves the queue by one
+  moved : (queue : Flow → List Put) (x : Put) (xs : List Put) → queue flow ≡ x ∷ xs → advance queue flow flow ≡ xs
+  moved queue x xs e = rw (same-refl flow) (ap tail e)
+
+  turns-leave : (xs : List Put) (queue : Flow → List Put) → queue flow ≡ xs → packetsLeft (events queue (replicate (length xs) (next flow))) ≡ arriving xs
+  turns-leave [] queue e = refl
+  turns-leave (x ∷ xs) queue e =
+      ap (λ (l : List Put). packetsLeft (headOf flow l ++ events (advance queue flow) (replicate (length xs) (next flow)))) e
+      ∙ ap (λ (l : List (List ℕ)). cond (x .lost) l (x .packet ∷ l)) (turns-leave xs (advance queue flow) (moved queue x xs e))
+
+  -- the PDUs of the flow, as deliveries
+  abbrev ofFlow : List PDU → List Delivery
+  ofFlow ps = map (delivery flow) ps
+
+  told : (w : Option PDU) (ps : List PDU) → tell flow w (ofFlow ps) ≡ ofFlow (also w ps)
+  told none ps = refl
+  told (some p) ps = refl
+
+  turns-whole : (xs : List Put) (queue : Flow → List Put) → queue flow ≡ xs → wholes (events queue (replicate (length xs) (next flow))) ≡ ofFlow (completed xs)
+  turns-whole [] queue e = refl
+  turns-whole (x ∷ xs) queue e =
+      ap (λ (l : List Put). wholes (headOf flow l ++ events (advance queue flow) (replicate (length xs) (next flow)))) e
+      ∙ (ap (tell flow (x .whole)) (turns-whole xs (advance queue flow) (moved queue x xs e)) ∙ told (x .whole) (completed xs))
+
+  module _ (device mtu : ℕ) (sent : List Sent) where
+    queue-is : queues device mtu (inTurn device mtu flow sent) flow ≡ flowPuts device mtu flow sent
+    queue-is = ap (λ (b : Bool). flowPuts device mtu flow (cond b sent [])) (same-refl flow)
+
+    in-turn-leaves : packets device mtu (inTurn device mtu flow sent) ≡ arriving (flowPuts device mtu flow sent)
+    in-turn-leaves = turns-leave (flowPuts device mtu flow sent) (queues device mtu (inTurn device mtu flow sent)) queue-is
+
+    in-turn-whole : (R : ℕ) → badMTU mtu ≡ false → Each (FairPDU R) sent → whole device mtu (inTurn device mtu flow sent) ≡ ofFlow (intact mtu sent)
+    in-turn-whole R allowed fair =
+        turns-whole (flowPuts device mtu flow sent) (queues device mtu (inTurn device mtu flow sent)) queue-is ∙ ap ofFlow (flow-completed device mtu R flow allowed sent fair)
+
+turns-fair : (n : ℕ) (flow : Flow) → Each FairTurn (replicate n (next flow))
+turns-fair zero flow = tt
+turns-fair (suc n) flow = (tt, turns-fair n flow)
+
+one-lost : (mtu : ℕ) (s : Sent) → losses mtu s ≡ 1 → isWhole mtu s ≡ false
+one-lost mtu s e = ne-eqb (losses mtu s) 0 (λ z. omega (arith, e, z))
+
 pub joint-untold : JointUntold
-joint-untold device mtu R flow a b pair test = record {
-  fair = joint-fair device mtu R flow a b pair test;
-  intact = eq-eqb (losses mtu (jointSent mtu a b)) 0 (no-losses 0 (packetCount mtu (jointSent mtu a b)));
-  same-packets = same-packets device mtu R flow a b pair test;
-}
+joint-untold device mtu R flow a b pair test =
+    let one = jointSent mtu a b in
+    let none-lost : losses mtu (jointSent mtu a b) ≡ 0 = no-losses 0 (packetCount mtu (jointSent mtu a b)) in
+    let fair = joint-fair device mtu R flow a b pair test in
+    record {
+      two-leave = in-turn-leaves flow device mtu (a ∷ b ∷ []);
+      two-whole = in-turn-whole flow device mtu (a ∷ b ∷ []) R (pair .ranges .allowed-MTU) (pair .first-fair, (pair .second-fair, tt)) ∙ two (isWhole mtu a) (isWhole mtu b) (one-lost mtu a (pair .first-loses)) (one-lost mtu b (pair .second-loses));
+      fair = record {
+        but-losses = record {
+          device-ID = pair .ranges .device-ID;
+          allowed-MTU = pair .ranges .allowed-MTU;
+          allowed-R = pair .ranges .allowed-R;
+          sixteen = omega arith;
+          flows = (record { source = pair .ranges .source; cos = pair .ranges .cos; PDUs = (fair, tt); apart = tt }, tt);
+          turns = turns-fair (length (flowPuts device mtu flow (jointSent mtu a b ∷ []))) flow;
+        };
+        one-loss = ((omega (arith, none-lost), tt), tt);
+      };
+      leaves = in-turn-leaves flow device mtu (jointSent mtu a b ∷ []) ∙ sym (same-packets device mtu R flow a b pair test);
+      is-whole = in-turn-whole flow device mtu (jointSent mtu a b ∷ []) R (pair .ranges .allowed-MTU) (fair, tt) ∙ alone (isWhole mtu (jointSent mtu a b)) (eq-eqb (losses mtu (jointSent mtu a b)) 0 none-lost);
+    }
+  where
+    two : (v w : Bool) → v ≡ false → w ≡ false → ofFlow flow (cond v (a .pdu ∷ cond w (b .pdu ∷ []) []) (cond w (b .pdu ∷ []) [])) ≡ []
+    two v w e f = rw (e, f)
+
+    alone : (v : Bool) → v ≡ true → ofFlow flow (cond v (jointPDU mtu a b ∷ []) []) ≡ delivery flow (jointPDU mtu a b) ∷ []
+    alone v e = rw e

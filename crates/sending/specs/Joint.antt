@@ -5,12 +5,12 @@ use mathlib.Core.Logic.{_↔_}
 use mathlib.Core.List.{List, [], _∷_, _++_}
 use mathlib.Core.Bool.{Bool, true, cond, _&&_}
 use mathlib.Core.Option.{none}
-use lib.ListN.{length, take, drop}
+use lib.ListN.{length, take, drop, replicate}
 use lib.Dec.{eqb, leb}
 use Rattle.wire.specs.declared.Flow.{Flow}
 use Rattle.flows.specs.OneFlow.{PDU, pdu}
 use Rattle.flows.specs.Board.{Board, delivery}
-use Rattle.sending.specs.Sending.{Sent, isLost, priorityOf, packetCount, losses, isWhole, flowPuts, deliveries, Ranges, FairPDU}
+use Rattle.sending.specs.Sending.{Sent, isLost, priorityOf, packetCount, losses, flowPuts, next, Sending, packets, whole, deliveries, Ranges, FairPDU, Fair}
 use Rattle.sending.specs.OneFlow.{flowDeliveries, arriving}
 use Rattle.sending.specs.OfSendings.{Begins}
 
@@ -58,15 +58,23 @@ JointDelivered =
     (device mtu R : ℕ) (flow : Flow) (first second : Sent) (b : Board) → Pair device mtu R flow first second → Begins device mtu R (flow ∷ []) b
     → deliveries b (pairPackets device mtu flow first second) ≡ cond (isJoint mtu first second) (delivery flow (jointPDU mtu first second) ∷ []) []
 
--- NO RECEIVER CAN TELL: the packets that a joint leaves are those of another sending, in which that PDU is sent, fair and whole.
--- So the premise of demand 3 that no two neighbours both lose a packet cannot be left out.
+-- NO RECEIVER CAN TELL: two sendings leave the packets of a joint. In the one the two PDUs are sent, and nothing is whole; in the other that PDU is
+-- sent, alone, without loss: it is fair, and the PDU is whole. So the premise of demand 3 that no two neighbours both lose a packet cannot be left out.
 abbrev pub jointSent : ℕ → Sent → Sent → Sent
 jointSent mtu first second = record { pdu = jointPDU mtu first second; lost = []; priorities = priorityOf first 0 ∷ drop 1 (second .priorities) }
 
+-- one flow sends these, with a turn for each packet
+abbrev pub inTurn : (device mtu : ℕ) → Flow → List Sent → Sending
+inTurn device mtu flow sent = record { flows = record { flow = flow; sent = sent } ∷ []; turns = replicate (length (flowPuts device mtu flow sent)) (next flow) }
+
 pub record Untold (device mtu R : ℕ) (flow : Flow) (first second : Sent) : Type 0 where
-  pub fair : FairPDU R (jointSent mtu first second)
-  pub intact : isWhole mtu (jointSent mtu first second) ≡ true
-  pub same-packets : pairPackets device mtu flow first second ≡ arriving (flowPuts device mtu flow (jointSent mtu first second ∷ []))
+  -- the two
+  pub two-leave : packets device mtu (inTurn device mtu flow (first ∷ second ∷ [])) ≡ pairPackets device mtu flow first second
+  pub two-whole : whole device mtu (inTurn device mtu flow (first ∷ second ∷ [])) ≡ []
+  -- the one
+  pub fair : Fair device mtu R (inTurn device mtu flow (jointSent mtu first second ∷ []))
+  pub leaves : packets device mtu (inTurn device mtu flow (jointSent mtu first second ∷ [])) ≡ pairPackets device mtu flow first second
+  pub is-whole : whole device mtu (inTurn device mtu flow (jointSent mtu first second ∷ [])) ≡ delivery flow (jointPDU mtu first second) ∷ []
 
 abbrev pub JointUntold : Type 0
 JointUntold =

@@ -1,0 +1,91 @@
+-- The response buffer decides nothing: of two that 12 allows, both leave the same, but for the response itself; and its length stays.
+use Prim.Native.Nat.{ℕ, _≤_}
+use mathlib.Core.Path.{_≡_, refl, ap, _∙_}
+use mathlib.Core.List.{List}
+use lib.ListN.{length}
+use native.Mathlib.Omega.{arith}
+use borrow.Author.Tests.{le-ltb}
+use Rattle.lists.proofs.Written.{length-written}
+use Rattle.answers.specs.Refusals.{Row, Leaves, all, flowClosed, allERROR, allRETRY, Verdict, refuse, accept, verdict}
+use Rattle.wire.specs.Type11.{isSingle}
+use Rattle.responses.specs.Type13.{DONE, ERROR, RETRY, responseTo, answered}
+use Rattle.contexts.specs.State.{freeMessage}
+use Rattle.message_rooms.specs.Placing as messageRoom
+use Rattle.messages.specs.Joining as message
+use Rattle.messages.specs.Rows.{messageOpen, messageFound}
+use Rattle.reading.specs.Table.{Lent, stateIn, messageSegmentIn, is9, wrongSizes, table}
+use Rattle.reading.specs.Read.{lent, butResponse, ofMessage, reading, outcome, leaving}
+use Rattle.reading.proofs.Cases.{by-test}
+
+module _ (words streams messages response response′ packet : List ℕ) where
+  abbrev x : Lent
+  x = lent words streams messages response packet
+
+  abbrev y : Lent
+  y = lent words streams messages response′ packet
+
+  -- what is placed is answered and stored alike
+  placed-alike : (n marks last : ℕ)
+      → butResponse (ofMessage x (messageRoom.messagePlaced (stateIn x) messages response packet (messageSegmentIn x) n marks last))
+      ≡ butResponse (ofMessage y (messageRoom.messagePlaced (stateIn x) messages response′ packet (messageSegmentIn x) n marks last))
+  unfolding messageRoom.messagePlaced
+  placed-alike n marks last = refl
+
+  message-alike : butResponse (ofMessage x (message.messageAccepted (stateIn x) messages response packet (messageSegmentIn x)))
+      ≡ butResponse (ofMessage y (message.messageAccepted (stateIn x) messages response′ packet (messageSegmentIn x)))
+  unfolding message.messageAccepted message.deliveredAtOnce
+  message-alike =
+      by-test (isSingle (messageSegmentIn x)) (λ t. rw t)
+      (λ t. by-test (messageOpen (stateIn x) (messageSegmentIn x))
+      (λ o. rw (t, o) (placed-alike (messageFound (stateIn x) (messageSegmentIn x)) _ _))
+      (λ o. rw (t, o) (placed-alike (freeMessage (stateIn x)) 0 0)))
+
+  by-leaves : (number : ℕ) (leaves : Leaves) → butResponse (leaving x number leaves) ≡ butResponse (leaving y number leaves)
+  by-leaves number all = refl
+  by-leaves number flowClosed = refl
+  by-leaves number allERROR = refl
+  by-leaves number allRETRY = refl
+
+  by-verdict : (v : Verdict) → butResponse (outcome x v) ≡ butResponse (outcome y v)
+  by-verdict (refuse number leaves) = by-leaves number leaves
+  by-verdict accept = by-test (is9 x) (λ t. rw t) (λ t. rw t message-alike)
+
+  -- only row 12 looks at it, and there only at its length
+  same-table : 7 ≤ length response → 7 ≤ length response′ → table x ≡ table y
+  unfolding table wrongSizes
+  same-table a b = rw (le-ltb (length response) 7 a, le-ltb (length response′) 7 b)
+
+  pub response-decides-nothing : 7 ≤ length response → 7 ≤ length response′ → butResponse (reading x) ≡ butResponse (reading y)
+  unfolding reading
+  response-decides-nothing a b = by-verdict (verdict (table x)) ∙ ap (λ (rows : List Row). butResponse (outcome y (verdict rows))) (same-table a b)
+
+-- ---- its length stays
+
+-- a response takes the buffer's first 7 bytes
+pub length-answered : (response p : List ℕ) (status : ℕ) → 7 ≤ length response → length (answered response p status) ≡ length response
+unfolding answered responseTo
+length-answered response p status h = length-written response (responseTo p status) 0 (omega arith)
+
+module _ (x : Lent) (h : 7 ≤ length (x .response)) where
+  placed-length : (n marks last : ℕ) → length (messageRoom.messagePlaced (stateIn x) (x .messageMemory) (x .response) (x .packet) (messageSegmentIn x) n marks last .response) ≡ length (x .response)
+  unfolding messageRoom.messagePlaced
+  placed-length n marks last = length-answered (x .response) (x .packet) DONE h
+
+  message-length : length (message.messageAccepted (stateIn x) (x .messageMemory) (x .response) (x .packet) (messageSegmentIn x) .response) ≡ length (x .response)
+  unfolding message.messageAccepted message.deliveredAtOnce
+  message-length =
+      by-test (isSingle (messageSegmentIn x)) (λ t. rw t (length-answered (x .response) (x .packet) DONE h))
+      (λ t. by-test (messageOpen (stateIn x) (messageSegmentIn x))
+      (λ o. rw (t, o) (placed-length (messageFound (stateIn x) (messageSegmentIn x)) _ _))
+      (λ o. rw (t, o) (placed-length (freeMessage (stateIn x)) 0 0)))
+
+  left-length : (v : Verdict) → length (outcome x v .response) ≡ length (x .response)
+  left-length (refuse number all) = refl
+  left-length (refuse number flowClosed) = refl
+  left-length (refuse number allERROR) = length-answered (x .response) (x .packet) ERROR h
+  left-length (refuse number allRETRY) = length-answered (x .response) (x .packet) RETRY h
+  left-length accept = by-test (is9 x) (λ t. rw t) (λ t. rw t message-length)
+
+  pub response-length : length (reading x .response) ≡ length (x .response)
+  unfolding reading
+  response-length = left-length (verdict (table x))
