@@ -38,7 +38,7 @@ fn print_packets(
 ) {
     let mut at = 0;
     loop {
-        let found = records::next_record(log, at);
+        let found = logreader::record_at(log, at);
         let Next::Record {
             from,
             size: _,

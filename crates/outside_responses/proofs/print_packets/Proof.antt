@@ -10,7 +10,7 @@ use Rattle.outside_responses.proofs.print_packets.Tie as tie
 use Rattle.outside_responses.proofs.print_packets.Reads as reads
 use Rattle.outside_responses.proofs.print_packets.Lts as lts
 use Rattle.outside_responses.proofs.print_packet.Reads as print-packet-reads
-use Rattle.records.proofs.next_record.Reads as next-record-reads
+use Rattle.logreader.proofs.record_at.Reads as record-at-reads
 
 abbrev Inv-loop : tie.InvT-loop
 Inv-loop state₀ stream-memory₀ message-memory₀ log at₀ state stream-memory message-memory at = (length state ≡ length state₀) × (length stream-memory ≡ length stream-memory₀) × (length message-memory ≡ length message-memory₀) × (at ≤ length log)
@@ -21,8 +21,8 @@ abbrev μ-loop : tie.MeasureT-loop
 loop-holds : tie.Need-loop-holds Inv-loop μ-loop
 loop-holds c = search needs
 
-next-record-requires : tie.Need-next-record-requires Inv-loop μ-loop
-next-record-requires c κs = search needs
+record-at-requires : tie.Need-record-at-requires Inv-loop μ-loop
+record-at-requires c κs = search needs
 
 enum-known-found : tie.Need-enum-known-found Inv-loop μ-loop
 enum-known-found c = search needs
@@ -41,17 +41,17 @@ returns c = search needs
 
 sub-print-packet : tie.Need-sub-print-packet Inv-loop μ-loop
 sub-print-packet c =
-    let r = inside (c .before .before .before .before .before .before .before .before .before .before .before .before .args .log .now) _ _ _ _ (sym (c .before .before .before .before .before .before .next-record .ensures) ∙ c .before .before .before .before .found .given .1) in
+    let r = inside (c .before .before .before .before .before .before .before .before .before .before .before .before .args .log .now) _ _ _ _ (sym (c .before .before .before .before .before .before .record-at .ensures) ∙ c .before .before .before .before .found .given .1) in
     omega (arith, r .behind)
 
 part-print-packet-start : tie.Need-part-print-packet-start Inv-loop μ-loop
 part-print-packet-start c =
-    let r = inside (c .before .before .before .before .before .before .before .before .before .before .before .before .args .log .now) _ _ _ _ (sym (c .before .before .before .before .before .before .next-record .ensures) ∙ c .before .before .before .before .found .given .1) in
+    let r = inside (c .before .before .before .before .before .before .before .before .before .before .before .before .args .log .now) _ _ _ _ (sym (c .before .before .before .before .before .before .record-at .ensures) ∙ c .before .before .before .before .found .given .1) in
     omega (arith, r .behind)
 
 part-print-packet-end : tie.Need-part-print-packet-end Inv-loop μ-loop
 part-print-packet-end c =
-    let r = inside (c .before .before .before .before .before .before .before .before .before .before .before .before .args .log .now) _ _ _ _ (sym (c .before .before .before .before .before .before .next-record .ensures) ∙ c .before .before .before .before .found .given .1) in
+    let r = inside (c .before .before .before .before .before .before .before .before .before .before .before .before .args .log .now) _ _ _ _ (sym (c .before .before .before .before .before .before .record-at .ensures) ∙ c .before .before .before .before .found .given .1) in
     r .within
 
 print-packet-requires : tie.Need-print-packet-requires Inv-loop μ-loop
@@ -59,12 +59,12 @@ print-packet-requires c κs = search needs
 
 loop-less : tie.Need-loop-less Inv-loop μ-loop
 loop-less c =
-    let r = inside (c .before .before .before .before .before .before .before .before .before .before .before .before .before .before .before .before .before .before .before .before .args .log .now) _ _ _ _ (sym (c .before .before .before .before .before .before .before .before .before .before .before .before .before .before .next-record .ensures) ∙ c .before .before .before .before .before .before .before .before .before .before .before .before .found .given .1) in
+    let r = inside (c .before .before .before .before .before .before .before .before .before .before .before .before .before .before .before .before .before .before .before .before .args .log .now) _ _ _ _ (sym (c .before .before .before .before .before .before .before .before .before .before .before .before .before .before .record-at .ensures) ∙ c .before .before .before .before .before .before .before .before .before .before .before .before .found .given .1) in
     omega (arith, r .onward, r .within)
 
 loop-again : tie.Need-loop-again Inv-loop μ-loop
 loop-again c =
-    let r = inside (c .before .before .before .before .before .before .before .before .before .before .before .before .before .before .before .before .before .before .before .before .args .log .now) _ _ _ _ (sym (c .before .before .before .before .before .before .before .before .before .before .before .before .before .before .next-record .ensures) ∙ c .before .before .before .before .before .before .before .before .before .before .before .before .found .given .1) in
+    let r = inside (c .before .before .before .before .before .before .before .before .before .before .before .before .before .before .before .before .before .before .before .before .args .log .now) _ _ _ _ (sym (c .before .before .before .before .before .before .before .before .before .before .before .before .before .before .record-at .ensures) ∙ c .before .before .before .before .before .before .before .before .before .before .before .before .found .given .1) in
     let i = c .before .before .before .before .before .before .before .before .before .before .before .before .before .before .before .loop .inv in
     let n = c .before .before .before .before .before .before .print-packet .kept in
     (n .0 ∙ i .0, n .1 .0 ∙ i .1, n .1 .1 .0 ∙ i .2, r .within)
@@ -76,7 +76,7 @@ print-packets-spec =
     Inv-loop
     μ-loop
     loop-holds
-    next-record-requires
+    record-at-requires
     enum-known-found
     same-length
     same-length-2
