@@ -9,8 +9,8 @@ ghost use lib.ListN.{length};
 ghost use Rattle.answers.specs.Answers.{said};
 ghost use Rattle.lines.specs.Text.{text};
 ghost use Rattle.lines.specs.Decimal.{digit, decimal};
-ghost use Rattle.lines.specs.Lines.{spaced, answerText, lineOf, endLine, badLog};
-ghost use Rattle.lines.specs.Puts.{Puts, linePut, putLine, lineRoom};
+ghost use Rattle.lines.specs.Lines.{spaced, answerText};
+ghost use Rattle.lines.specs.Puts.{Puts, WriteLinePromise, WriteEndPromise, WriteBadPromise};
 
 // Room for every line: a word of seven letters, four numbers of twenty digits, ` dropped`.
 pub const LINE: usize = 128;
@@ -107,7 +107,7 @@ fn put_dropped(out: &mut [u8], at: usize, dropped: bool) -> usize
 
 // The line of a record's reading, into the front of `out`. Answers its length; 0, and nothing is written, where `out` has under LINE bytes.
 pub fn write_line(out: &mut [u8], reading: Reading) -> usize
-    ensures { λ r. ⌜ (linePut r (now (out .exit)) ≡ putLine (now (out .entry)) (lineOf (said (reading .answer)) (reading .dropped))) × (r ≤ lineRoom) ⌝ }
+    ensures { λ r. ⌜ WriteLinePromise (now (out .entry)) reading r (now (out .exit)) ⌝ }
 {
     if out.len() < LINE {
         return 0;
@@ -120,7 +120,7 @@ pub fn write_line(out: &mut [u8], reading: Reading) -> usize
 
 // The line of a clean end, the same way.
 pub fn write_end(out: &mut [u8], count: usize) -> usize
-    ensures { λ r. ⌜ (linePut r (now (out .exit)) ≡ putLine (now (out .entry)) (endLine count)) × (r ≤ lineRoom) ⌝ }
+    ensures { λ r. ⌜ WriteEndPromise (now (out .entry)) count r (now (out .exit)) ⌝ }
 {
     if out.len() < LINE {
         return 0;
@@ -132,7 +132,7 @@ pub fn write_end(out: &mut [u8], count: usize) -> usize
 
 // The line of a bad log, the same way.
 pub fn write_bad(out: &mut [u8]) -> usize
-    ensures { λ r. ⌜ (linePut r (now (out .exit)) ≡ putLine (now (out .entry)) badLog) × (r ≤ lineRoom) ⌝ }
+    ensures { λ r. ⌜ WriteBadPromise (now (out .entry)) r (now (out .exit)) ⌝ }
 {
     if out.len() < LINE {
         return 0;

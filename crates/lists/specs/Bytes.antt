@@ -1,4 +1,4 @@
--- Bytes in a list: one, two as a number, and a run of them written over others.
+-- Bytes in a list: one, two or four as a number, and a run of them written over others.
 use Prim.Native.Nat.{ℕ, _+_, _*_, _/_, _%_}
 use mathlib.Core.List.{List, _++_}
 use lib.ListN.{length, getD, take, drop}
@@ -10,6 +10,10 @@ byte p n = getD p n 0
 -- two bytes as a number, most significant first
 abbrev pub word : List ℕ → ℕ → ℕ
 word p n = byte p n * 256 + byte p (n + 1)
+
+-- four bytes as a number, most significant first
+abbrev pub long : List ℕ → ℕ → ℕ
+long p n = word p n * 65536 + word p (n + 2)
 
 -- the two bytes of a number below 65,536
 abbrev pub high : ℕ → ℕ

@@ -2,7 +2,7 @@
 ghost use mathlib.Core.Path.{_≡_};
 ghost use Prim.Native.Nat.{_+_, _<_, _≤_};
 ghost use lib.ListN.{length};
-ghost use Rattle.lists.specs.Bytes.{word, written};
+ghost use Rattle.lists.specs.Bytes.{word, long, written};
 
 // A byte as a number.
 pub fn wide(b: u8) -> usize
@@ -17,6 +17,14 @@ pub fn word_at(bytes: &[u8], at: usize) -> usize
     ensures { λ r. ⌜ (r ≡ word (now (bytes .entry)) at) × (r < 65536) ⌝ }
 {
     wide(bytes[at]) * 256 + wide(bytes[at + 1])
+}
+
+// The four bytes from `at` on, the first the highest. Every caller has tested the length.
+pub fn long_at(bytes: &[u8], at: usize) -> usize
+    requires { ⌜ at + 3 < length (now bytes) ⌝ }
+    ensures { λ r. ⌜ (r ≡ long (now (bytes .entry)) at) × (r < 4294967296) ⌝ }
+{
+    word_at(bytes, at) * 65536 + word_at(bytes, at + 2)
 }
 
 // The copying leaf: `bytes` into the front of `memory`. Every caller has room for them.

@@ -1,5 +1,6 @@
 -- What a log reader does: where it stands, what it finds there, where it moves, and how many records a log has.
 use Prim.Native.Nat.{ℕ}
+use mathlib.Core.Path.{_≡_}
 use mathlib.Core.List.{List}
 use lib.ListN.{length}
 use denote.Ref.{RefT, now}
@@ -29,3 +30,32 @@ movedOn reader = readerAt (reader .log) (placeBehind (foundBy reader) (reader .a
 -- the records of a log up to its end or to where it is bad, counted
 unfoldable pub countOf : List ℕ → ℕ
 countOf log = length (recordsOf log .packets)
+
+-- ---- what the calls promise
+
+abbrev pub NewReaderPromise : RefT (List ℕ) → LogReader → Type 0
+NewReaderPromise log r = r ≡ readerAt log 0
+
+abbrev pub PlacePromise : LogReader → ℕ → Type 0
+PlacePromise reader r = r ≡ reader .at
+
+abbrev pub MovedPromise : LogReader → ℕ → LogReader → Type 0
+MovedPromise reader at r = r ≡ readerAt (reader .log) at
+
+abbrev pub FoundPromise : LogReader → Next → Type 0
+FoundPromise reader r = r ≡ foundBy reader
+
+abbrev pub PlaceBehindPromise : Next → ℕ → ℕ → Type 0
+PlaceBehindPromise next at r = r ≡ placeBehind next at
+
+abbrev pub NextPromise : LogReader → Next → LogReader → Type 0
+NextPromise reader r after = (r ≡ foundBy reader) × (after ≡ movedOn reader)
+
+abbrev pub RecordAtPromise : List ℕ → ℕ → Next → Type 0
+RecordAtPromise log at r = r ≡ nextRecord log at
+
+abbrev pub PlaceAfterPromise : List ℕ → ℕ → ℕ → Type 0
+PlaceAfterPromise log at r = r ≡ placeBehind (nextRecord log at) at
+
+abbrev pub CountRecordsPromise : List ℕ → ℕ → Type 0
+CountRecordsPromise log r = r ≡ countOf log

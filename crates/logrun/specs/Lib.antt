@@ -1,3 +1,4 @@
 pub mod Output
 pub mod Printing
 pub mod Running
+pub mod Once

@@ -18,7 +18,7 @@ fn print_at(bundle: &[u8], at: usize) -> usize
     requires { ⌜ at + 4 ≤ length (now bundle) ⌝ }
     ensures { λ r. ⌜ (at < r) × (r ≤ length (now (bundle .entry))) ⌝ }
 {
-    let size = lists::word_at(bundle, at) * 65536 + lists::word_at(bundle, at + 2);
+    let size = lists::long_at(bundle, at);
     let from = at + 4;
     if bundle.len() - from < size {
         return bundle.len();

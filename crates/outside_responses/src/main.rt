@@ -3,6 +3,8 @@ use libc::STDIN_FILENO;
 use printing::print_bytes;
 use printing::print_text;
 use records::Next;
+ghost use mathlib.Core.Path.{_≡_};
+ghost use Rattle.outside_responses.specs.Found.{LiesIn, isRecord};
 
 // Every response has seven bytes, and none begins with 0.
 fn print_response(response: &[u8; 7]) {
@@ -29,26 +31,42 @@ fn print_packet(
     print_response(&response);
 }
 
-// Reads the records of a log.
+// Reads the packet that was found in the log, if one was. Answers whether one was.
+fn print_found<'a, 'b>(
+    state: &'a mut [usize],
+    stream_memory: &'a mut [u8],
+    message_memory: &'a mut [u8],
+    log: &'b [u8],
+    found: Next,
+) -> bool
+    requires { ⌜ LiesIn (now log) found ⌝ }
+    ensures { λ r. ⌜ r ≡ isRecord found ⌝ }
+{
+    let Next::Record {
+        from,
+        size: _,
+        next,
+    } = found
+    else {
+        return false;
+    };
+    print_packet(state, stream_memory, message_memory, &log[from..next]);
+    true
+}
+
+// Reads the records of a log, by a reader that holds it.
 fn print_packets(
     state: &mut [usize],
     stream_memory: &mut [u8],
     message_memory: &mut [u8],
     log: &[u8],
 ) {
-    let mut at = 0;
+    let mut reader = logreader::new(log);
     loop {
-        let found = records::next_record(log, at);
-        let Next::Record {
-            from,
-            size: _,
-            next,
-        } = found
-        else {
+        let found = logreader::next(&mut reader);
+        if !print_found(state, stream_memory, message_memory, log, found) {
             return;
-        };
-        print_packet(state, stream_memory, message_memory, &log[from..next]);
-        at = next;
+        }
     }
 }
 

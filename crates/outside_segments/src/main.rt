@@ -6,7 +6,6 @@ use printing::print_bytes;
 use printing::print_number;
 use printing::print_text;
 ghost use mathlib.Core.Path.{_≡_};
-ghost use Prim.Native.Nat.{_+_, _≤_};
 ghost use lib.ListN.{length};
 
 // Byte i of a PDU.
@@ -57,20 +56,13 @@ fn print_pdu(heading: Heading, mtu: usize, seed: u8, pdu: &mut [u8], out: &mut [
     print_segments(heading, mtu, pdu, out);
 }
 
-// A number of four bytes.
-fn long_at(bytes: &[u8], at: usize) -> usize
-    requires { ⌜ at + 4 ≤ length (now bytes) ⌝ }
-{
-    lists::word_at(bytes, at) * 65536 + lists::word_at(bytes, at + 2)
-}
-
 // mtu 4, priority 1, destination 2, source 2, cos 1, streamID 2, length 4, seed 1, output's length 3.
 fn print_case(case: &[u8])
     requires { ⌜ length (now case) ≡ 20 ⌝ }
 {
     let mut pdu = [0u8; 65537];
     let mut out = [0u8; 300];
-    let size = long_at(case, 12);
+    let size = lists::long_at(case, 12);
     let room = lists::wide(case[17]) * 65536 + lists::word_at(case, 18);
     if 65537 < size {
         return;
@@ -87,7 +79,7 @@ fn print_case(case: &[u8])
     };
     print_pdu(
         heading,
-        long_at(case, 0),
+        lists::long_at(case, 0),
         case[16],
         &mut pdu[..size],
         &mut out[..room],

@@ -17,7 +17,8 @@ fn print_byte(b: u8) {
     io::print_hex(STDOUT_FILENO, b as u64, 2);
 }
 
-// Bytes as pairs of hexadecimal digits, each pair behind the same text. Answers how many bytes it has come past: all.
+// Bytes as pairs of hexadecimal digits, each pair behind the same text. Answers how many bytes it has come past: all. Only that is
+// promised. That each was printed, and as which digits, is not: `io` says nothing of what is written. The vectors show it.
 pub fn print_bytes(before: &[u8], bytes: &[u8]) -> usize
     ensures { λ r. ⌜ r ≡ length (now (bytes .entry)) ⌝ }
 {

@@ -1,5 +1,6 @@
 -- A log is records, each a length and that many packet bytes (document 01, 'The log program').
 use Prim.Native.Nat.{ℕ, zero, suc, _+_, _-_, _*_}
+use mathlib.Core.Path.{_≡_}
 use mathlib.Core.List.{List, [], _∷_}
 use mathlib.Core.Bool.{Bool, true, false, cond}
 use lib.ListN.{length, take, drop}
@@ -29,6 +30,10 @@ nextRecord log at =
     (recordFrom (length log) (at + 1) (byte log at))
     (longRecord log at))
     End
+
+-- what `next_record` promises
+abbrev pub NextRecordPromise : List ℕ → ℕ → Next → Type 0
+NextRecordPromise log at r = r ≡ nextRecord log at
 
 -- the packets of a log up to its end or to where it is bad, and whether it ends clean
 pub record Records : Type 0 where

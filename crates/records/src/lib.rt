@@ -3,7 +3,7 @@ ghost use mathlib.Core.Path.{_≡_};
 ghost use Prim.Native.Nat.{_+_, _<_, _≤_};
 ghost use lib.ListN.{length};
 ghost use Rattle.lists.specs.Bytes.{byte};
-ghost use Rattle.records.specs.Records.{recordFrom, longRecord, nextRecord};
+ghost use Rattle.records.specs.Records.{recordFrom, longRecord, NextRecordPromise};
 
 // A record: where its packet begins, how many bytes that has, and the place behind it. Or the end. Or a log that is bad there.
 pub enum Next {
@@ -51,7 +51,7 @@ fn long_record(log: &[u8], at: usize) -> Next
 
 // The record at that place. At the log's end, and past it, there is none.
 pub fn next_record(log: &[u8], at: usize) -> Next
-    ensures { λ r. ⌜ r ≡ nextRecord (now (log .entry)) at ⌝ }
+    ensures { λ r. ⌜ NextRecordPromise (now (log .entry)) at r ⌝ }
 {
     if log.len() <= at {
         return Next::End;
