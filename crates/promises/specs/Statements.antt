@@ -174,6 +174,12 @@ pub record Responds (x : Lent) : Type 0 where
 abbrev pub ResponsesFromUs : Type 0
 ResponsesFromUs = (x : Lent) (status : ℕ) → statusOf x (reading x .says) ≡ option.some status → Responds x
 
+-- the response buffer decides nothing: with any two of 7 or more bytes a packet is answered the same and leaves the same, but for the response itself
+abbrev pub ResponseBufferDecidesNothing : Type 0
+ResponseBufferDecidesNothing =
+    (words streamMemory messageMemory response response′ packet : List ℕ) → 7 ≤ length response → 7 ≤ length response′
+    → butResponse (reading (lent words streamMemory messageMemory response packet)) ≡ butResponse (reading (lent words streamMemory messageMemory response′ packet))
+
 -- ---- Good states: setup makes one, and reading (of a packet whose items are bytes) and abandoning leave one.
 -- So a run over many packets tests the state once.
 
@@ -250,6 +256,10 @@ pub record Fresh (mtu R : ℕ) (streamMemory messageMemory response : List ℕ) 
   pub holds-MTU : mtu ≤ R
   pub lends : Lends R streamMemory messageMemory response
 
+-- there are such boards
+abbrev pub FreshNotEmpty : Type 0
+FreshNotEmpty = Fresh 32 64 (replicate 1024 0) (replicate 32768 0) (replicate 7 0)
+
 -- the writer makes the packets of the layout, byte for byte
 abbrev pub WriterMakes : Type 0
 WriterMakes =
@@ -281,6 +291,42 @@ pub record IsResponse (p response : List ℕ) (status : ℕ) : Type 0 where
 abbrev pub ResponseLayout : Type 0
 ResponseLayout = (p : List ℕ) (status : ℕ) → AreBytes p → IsResponse p (responseTo p status) status
 
+-- ---- The calls themselves
+
+-- `read` for each packet, each with the state and the two memories that the call before left, and with any response buffer that
+-- 12 allows; each outcome one that its promise allows; and what they deliver. The board's own response buffer is lent only where the caller does so
+pub data Reads : Board → List (List ℕ) → List Delivery → Type 0 where
+  stop : {b : Board} → Reads b [] []
+  call : {b : Board} {p : List ℕ} {ps : List (List ℕ)} {ds : List Delivery} (r : Reading) (given words streamMemory messageMemory response : List ℕ)
+      → 7 ≤ length given
+      → ReadPromise (lent (b .words) (b .streamMemory) (b .messageMemory) given p) r words streamMemory messageMemory response
+      → Reads (record { words = words; streamMemory = streamMemory; messageMemory = messageMemory; response = response }) ps ds
+      → Reads b (p ∷ ps) (deliveredBy (stateOf words .room) streamMemory (said (r .answer)) ++ ds)
+
+-- these calls can be made: setup says ready, and then there are calls for any packets
+pub record CallsNotEmpty : Type 0 where
+  pub sets-up : SetupPromise (replicate 147 0) 1 32 64 Ready (wordsOf (fresh 1 32 64))
+  pub reads : (b : Board) (ps : List (List ℕ)) → (ds : List Delivery) × Reads b ps ds
+
+-- `write_segment` for n segments of a PDU from number k on, each with any output buffer, each outcome a length that its
+-- promise allows; and the packets that then stand in the buffers
+pub data Writes (device mtu : ℕ) (flow : Flow) (s : Sent) : (k n : ℕ) → List (List ℕ) → Type 0 where
+  written-all : {k : ℕ} → Writes device mtu flow s k 0 []
+  write : {k n : ℕ} {ps : List (List ℕ)} (out after : List ℕ) (size : ℕ)
+      → WritePromise out (headingFor device flow s k) mtu (s .pdu .bytes) k (Length size) after
+      → Writes device mtu flow s (suc k) n ps
+      → Writes device mtu flow s k (suc n) (take size after ∷ ps)
+
+-- setup, as many calls of the writer as `segment_count` says, and then a call of `read` for each packet: they deliver exactly that PDU
+abbrev pub Demand2OfCalls : Type 0
+Demand2OfCalls =
+    (device mtu R : ℕ) (flow : Flow) (s : Sent) (words after streamMemory messageMemory response : List ℕ) (count : ℕ) (ps : List (List ℕ)) (ds : List Delivery)
+    → SetupPromise words device mtu R Ready after → Lends R streamMemory messageMemory response
+    → device < 65536 → flow .source < 65536 → flow .cos < 256 → FairPDU R s
+    → CountPromise mtu (length (s .pdu .bytes)) count → Writes device mtu flow s 0 count ps
+    → Reads (record { words = after; streamMemory = streamMemory; messageMemory = messageMemory; response = response }) ps ds
+    → ds ≡ delivery flow (s .pdu) ∷ []
+
 -- ==== DEMAND 3: what is delivered is exactly what lost nothing, with flow, stream and bytes, in the order of the last packets
 
 abbrev pub Demand3 : Type 0
@@ -300,45 +346,6 @@ Demand3AnyLoss =
 abbrev pub Demand3NotEmpty : Type 0
 Demand3NotEmpty = MixtureIsFair
 
--- and so can setup's: an MTU and an R that it allows, and memories that 12 allows
-abbrev pub FreshNotEmpty : Type 0
-FreshNotEmpty = Fresh 32 64 (replicate 1024 0) (replicate 32768 0) (replicate 7 0)
-
--- the response buffer decides nothing: with any two of 7 or more bytes a packet is answered the same and leaves the same, but for the response itself
-abbrev pub ResponseBufferDecidesNothing : Type 0
-ResponseBufferDecidesNothing =
-    (words streamMemory messageMemory response response′ packet : List ℕ) → 7 ≤ length response → 7 ≤ length response′
-    → butResponse (reading (lent words streamMemory messageMemory response packet)) ≡ butResponse (reading (lent words streamMemory messageMemory response′ packet))
-
--- the calls themselves: `read` for each packet, each with the state and the two memories that the call before left, and with any response buffer that
--- 12 allows; each outcome one that its promise allows; and what they deliver. The board's own response buffer is lent only where the caller does so
-pub data Reads : Board → List (List ℕ) → List Delivery → Type 0 where
-  stop : {b : Board} → Reads b [] []
-  call : {b : Board} {p : List ℕ} {ps : List (List ℕ)} {ds : List Delivery} (r : Reading) (given words streamMemory messageMemory response : List ℕ)
-      → 7 ≤ length given
-      → ReadPromise (lent (b .words) (b .streamMemory) (b .messageMemory) given p) r words streamMemory messageMemory response
-      → Reads (record { words = words; streamMemory = streamMemory; messageMemory = messageMemory; response = response }) ps ds
-      → Reads b (p ∷ ps) (deliveredBy (stateOf words .room) streamMemory (said (r .answer)) ++ ds)
-
--- demand 2 of the calls: `write_segment` for n segments of a PDU from number k on, each with any output buffer, each outcome a length that its
--- promise allows; and the packets that then stand in the buffers
-pub data Writes (device mtu : ℕ) (flow : Flow) (s : Sent) : (k n : ℕ) → List (List ℕ) → Type 0 where
-  written-all : {k : ℕ} → Writes device mtu flow s k 0 []
-  write : {k n : ℕ} {ps : List (List ℕ)} (out after : List ℕ) (size : ℕ)
-      → WritePromise out (headingFor device flow s k) mtu (s .pdu .bytes) k (Length size) after
-      → Writes device mtu flow s (suc k) n ps
-      → Writes device mtu flow s k (suc n) (take size after ∷ ps)
-
--- setup, as many calls of the writer as `segment_count` says, and then a call of `read` for each packet: they deliver exactly that PDU
-abbrev pub Demand2OfCalls : Type 0
-Demand2OfCalls =
-    (device mtu R : ℕ) (flow : Flow) (s : Sent) (words after streamMemory messageMemory response : List ℕ) (count : ℕ) (ps : List (List ℕ)) (ds : List Delivery)
-    → SetupPromise words device mtu R Ready after → Lends R streamMemory messageMemory response
-    → device < 65536 → flow .source < 65536 → flow .cos < 256 → FairPDU R s
-    → CountPromise mtu (length (s .pdu .bytes)) count → Writes device mtu flow s 0 count ps
-    → Reads (record { words = after; streamMemory = streamMemory; messageMemory = messageMemory; response = response }) ps ds
-    → ds ≡ delivery flow (s .pdu) ∷ []
-
 -- setup, and then a call for each packet that a sending leaves: they deliver exactly what is whole. Of calls from C and of bursts: from_c/specs/OfCalls.antt
 abbrev pub Demand3OfCalls : Type 0
 Demand3OfCalls =
@@ -346,11 +353,6 @@ Demand3OfCalls =
     → SetupPromise words device mtu R Ready after → Lends R streamMemory messageMemory response → Fair device mtu R s
     → Reads (record { words = after; streamMemory = streamMemory; messageMemory = messageMemory; response = response }) (packets device mtu s) ds
     → ds ≡ whole device mtu s
-
--- these calls can be made: setup says ready, and then there are calls for any packets
-pub record CallsNotEmpty : Type 0 where
-  pub sets-up : SetupPromise (replicate 147 0) 1 32 64 Ready (wordsOf (fresh 1 32 64))
-  pub reads : (b : Board) (ps : List (List ℕ)) → (ds : List Delivery) × Reads b ps ds
 
 -- THE COROLLARY: two sendings that leave the same packets agree on every whole PDU
 abbrev pub Corollary3 : Type 0
