@@ -17,7 +17,7 @@ use Rattle.sending.specs.OneFlow.{also}
 use Rattle.sending.specs.Meaning.{putBy, toCome, InOrder, intact, fromFlow, WholeIsIntact}
 use Rattle.sending.proofs.Steps.{count-pos}
 use Rattle.flows.proofs.Flows.{same-true}
-use Rattle.sending.proofs.Joint.{completed}
+use Rattle.sending.proofs.Runs.{completed}
 
 in-order-from : (flow : Flow) (ts : List Turn) (q : Flow → List Put) → putBy flow (events q ts) ++ toCome q ts flow ≡ q flow
 in-order-from flow [] q = refl

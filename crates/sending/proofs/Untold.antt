@@ -25,7 +25,8 @@ use Rattle.sending.specs.Joint.{isJoint, jointPDU, pairPackets, Pair, jo
 use Rattle.sending.proofs.Cut.{bytes-append, bytes-take, bytes-drop}
 use Rattle.sending.proofs.Steps.{inner-size}
 use Rattle.sending.proofs.Losses.{no-losses, count-lost, none-lost, lost-counts}
-use Rattle.sending.proofs.Joint.{joint-length, completed}
+use Rattle.sending.proofs.Runs.{completed}
+use Rattle.sending.proofs.Joint.{joint-length}
 use Rattle.sending.proofs.Meaning.{flow-completed}
 
 -- what the test says
