@@ -24,7 +24,8 @@ use Rattle.flows.specs.OneFlow.{PDU, pdu, held, delivered, refused, FlowOutcome
 use Rattle.sending.specs.Segment.{cutSegment, segmentFor, InRange, ReadsAs}
 use Rattle.sending.specs.Sending.{Sent, packetCount, headingFor, FairPDU, Ranges}
 use Rattle.sending.specs.OneFlow.{packetStep}
-use Rattle.sending.proofs.Cut.{cut-length, cut-well-formed, pdu-length-back, segment-of-cut, segments-read-back}
+use Rattle.sending.proofs.Fields.{pdu-length-back}
+use Rattle.sending.proofs.Cut.{cut-length, cut-well-formed, segment-of-cut, segments-read-back}
 
 -- ---- A segment with the data d. Every one that passes row 6 has some
 

@@ -22,7 +22,7 @@ use Rattle.sending.specs.Sending.{Sent, isLost, priorityOf, packetCount,
 use Rattle.sending.specs.Meaning.{intact}
 use Rattle.sending.specs.OneFlow.{also, arriving}
 use Rattle.sending.specs.Joint.{isJoint, jointPDU, pairPackets, Pair, jointSent, inTurn, JointUntold}
-use Rattle.sending.proofs.Cut.{bytes-append, bytes-take, bytes-drop}
+use Rattle.sending.proofs.Fields.{bytes-append, bytes-take, bytes-drop}
 use Rattle.sending.proofs.Steps.{inner-size}
 use Rattle.sending.proofs.Losses.{no-losses, count-lost, none-lost, lost-counts}
 use Rattle.sending.proofs.Runs.{completed}
