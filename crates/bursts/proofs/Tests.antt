@@ -1,13 +1,12 @@
 -- The tests before a burst: rows 19 and 12; and the room that the lent buffers give.
-use Prim.Native.Nat.{ℕ, _/_, _≤_}
-use mathlib.Core.Path.{_≡_, refl}
+use Prim.Native.Nat.{ℕ, _/_}
+use mathlib.Core.Path.{_≡_}
 use mathlib.Core.List.{List}
-use mathlib.Core.Bool.{Bool, true, false, cond}
+use mathlib.Core.Bool.{true, false}
 use native.Mathlib.Omega.{arith}
 use native.Mathlib.Nat.{min-le-left, min-le-right}
-use lib.Dec.{ltb}
 use lib.ListN.{length}
-use borrow.Author.Tests.{eq-eqb, ne-eqb, ltb-true, ltb-false}
+use borrow.Author.Tests.{eq-eqb, ne-eqb}
 use Rattle.answers.specs.Refusals.{verdict}
 use Rattle.contexts.specs.Words.{stateOf, stateWords}
 use Rattle.refusal19.specs.Refusal19.{namedBy19}

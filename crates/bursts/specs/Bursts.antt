@@ -1,7 +1,7 @@
 -- A burst: packets in the log's record form, read one after another, each by the state and the memories that the one before left.
 use Prim.Native.Nat.{ℕ, zero, suc, min, _+_, _*_, _/_}
 use mathlib.Core.Path.{_≡_}
-use mathlib.Core.List.{List, [], _∷_}
+use mathlib.Core.List.{List, []}
 use mathlib.Core.Bool.{cond}
 use lib.ListN.{length, take, drop}
 use lib.Dec.{eqb}

@@ -1,7 +1,7 @@
 -- Laws of the marks: all of them as one number, and room for one more.
 use Prim.Native.Nat.{ℕ, zero, suc, _≤_, _<_, _+_, _-_, _*_, _/_, _%_, _^_}
 use mathlib.Core.Path.{_≡_, ap, sym, _∙_}
-use mathlib.Core.Bool.{Bool, true, false, _&&_, and-true, and-false}
+use mathlib.Core.Bool.{Bool, false, _&&_, and-true, and-false}
 use native.Mathlib.Omega.{arith}
 use native.Mathlib.Decide.{ℕ-discrete}
 use native.Mathlib.Nat.{one-mul, mod-eq-of-lt, mod-lt, zero-div, add-mul, mul-le-mul-right, pow-succ', div-lt-iff-lt-mul, div-add-mod'}

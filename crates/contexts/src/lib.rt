@@ -6,9 +6,9 @@ ghost use mathlib.Core.Path.{_≡_};
 ghost use mathlib.Core.List.{_∷_};
 ghost use Prim.Native.Nat.{_+_, _*_, _<_, _≤_, _^_};
 ghost use lib.ListN.{length, replicate};
-ghost use Rattle.contexts.specs.State.{isFreeStream, isOfFlow, isOfMessage, streamIn, messageIn, withStream, withMessage, flowContext, freeStream, messageContext, freeMessage};
+ghost use Rattle.contexts.specs.State.{isOfFlow, isOfMessage, streamIn, messageIn, withStream, withMessage, flowContext, freeStream, messageContext, freeMessage};
 ghost use Rattle.contexts.specs.Words.{stateOf, stateWords};
-ghost use Rattle.contexts.specs.Marks.{marked as markedOf, withMark, allMarked};
+ghost use Rattle.contexts.specs.Marks.{marked as markedOf, allMarked};
 
 // The words of a state.
 pub const WORDS: usize = 147;

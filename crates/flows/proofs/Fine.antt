@@ -6,14 +6,14 @@ use mathlib.Core.Bool.{true, false}
 use mathlib.Core.Option.{none}
 use mathlib.Core.List.{List}
 use lib.ListN.{length, replicate}
-use Rattle.lists.specs.First.{firstOf, any}
+use Rattle.lists.specs.First.{firstOf}
 use Rattle.wire.specs.declared.Flow.{Flow}
 use Rattle.sizes.specs.Sizes.{badMTU}
-use Rattle.contexts.specs.State.{State, fresh, streamIn, closedStream, isFreeStream, isFreeMessage, isOfFlow, flowContext}
+use Rattle.contexts.specs.State.{State, fresh, streamIn, closedStream, isFreeStream, isOfFlow, flowContext}
 use Rattle.contexts.specs.Words.{stateOf, wordsOf, stateWords}
 use Rattle.contexts.proofs.Words.{sixteen, state-of, length-words}
 use Rattle.refusal19.proofs.Kept.{fresh-good}
-use Rattle.refusal19.specs.Refusal19.{badRoom, badStream, badMessage, namedBy19}
+use Rattle.refusal19.specs.Refusal19.{badRoom, namedBy19}
 use Rattle.refusal19.proofs.Good.{good, stream-holds}
 use Rattle.reading.specs.Read.{Left}
 use Rattle.reading.specs.Good.{StillGood}

@@ -1,22 +1,19 @@
 -- Each flow by itself: a packet changes its own flow as a one-flow endpoint would, no other flow, and any other packet none.
-use Prim.Native.Nat.{ℕ, _<_, _≤_}
+use Prim.Native.Nat.{ℕ, _<_}
 use mathlib.Core.Path.{_≡_}
-use mathlib.Core.List.{List, [], _∷_, _++_}
+use mathlib.Core.List.{List, [], _∷_}
 use mathlib.Core.Bool.{Bool, true, false, _||_}
-use mathlib.Core.Option.{Option, none}
-use lib.ListN.{length}
 use Rattle.lists.specs.Bytes.{byte}
 use Rattle.answers.specs.Answers as answers
 use Rattle.wire.specs.declared.Flow.{Flow}
 use Rattle.wire.specs.declared.Segment.{Segment}
 use Rattle.wire.specs.declared.MessageSegment.{MessageSegment}
-use Rattle.wire.specs.declared.Parsed.{Parsed}
 use Rattle.wire.specs.declared.Parsed.the-variants.{Refused, Stream, Message}
 use Rattle.wire.specs.Type9.{sameFlow}
 use Rattle.wire.specs.Parsed.{parsed}
 use Rattle.stream_rooms.specs.Placing.{dataOf}
-use Rattle.flows.specs.OneFlow.{PDU, Told, held, delivered, refused, FlowOutcome, flowStep}
-use Rattle.flows.specs.Board.{Board, Delivery, delivery, deliveredBy, read, after, view}
+use Rattle.flows.specs.OneFlow.{Told, held, delivered, refused, flowStep}
+use Rattle.flows.specs.Board.{Board, delivery, deliveredBy, read, after, view}
 
 -- the flow is one of these
 abbrev pub among : Flow → List Flow → Bool

@@ -1,6 +1,6 @@
 -- One flow by itself: what joining its segments answers, where no other flow is looked at and no context has a number.
 use Prim.Native.Nat.{ℕ, _+_}
-use mathlib.Core.List.{List, [], _++_}
+use mathlib.Core.List.{List, _++_}
 use mathlib.Core.Bool.{Bool, true, false, cond}
 use mathlib.Core.Option.{Option, none, some}
 use lib.ListN.{length}

@@ -1,18 +1,17 @@
 -- Text put behind text.
 use Prim.Native.Nat.{ℕ, _+_, _≤_, _<_}
-use mathlib.Core.Path.{_≡_, refl, ap, sym, _∙_, subst}
+use mathlib.Core.Path.{_≡_, refl, ap, sym, _∙_}
 use mathlib.Core.List.{List, [], _∷_, _++_}
 use native.Mathlib.Omega.{arith}
 use lib.ListN.{length, length-append}
 use Rattle.lists.specs.Bytes.{written}
-use Rattle.lists.proofs.Written.{written-behind, length-written}
+use Rattle.lists.proofs.Written.{written-behind}
 use lib.ListN.{set, take, drop, take-append-drop}
-use lib.Dec.{ltb}
 use borrow.Author.Tests.{lt-ltb, le-ltb}
 use native.Mathlib.Nat.{add-zero, zero-add}
 use mathlib.Core.List.{append-nil}
 use Rattle.lists.proofs.Written.{stores}
-use Rattle.lines.specs.Puts.{Puts, LinePut, linePut, putLine}
+use Rattle.lines.specs.Puts.{Puts, linePut, putLine}
 
 -- two runs of bytes, the second where the first ends, are one
 pub both : (out first second mid after : List ℕ) (at r s : ℕ) → at + length first + length second ≤ length out

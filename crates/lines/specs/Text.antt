@@ -1,6 +1,6 @@
 -- Text as the bytes that are printed.
 use Prim.Native.Nat.{ℕ}
-use Prim.Native.Char.{Char, code}
+use Prim.Native.Char.{code}
 use Prim.Native.String.{String, [], _∷_}
 use mathlib.Core.List as list
 use mathlib.Core.List.{List}

@@ -1,5 +1,5 @@
 -- Any two outcomes that a promise of the log reader allows are one: each promise is an equation, or two.
-use mathlib.Core.Path.{_≡_, sym, _∙_}
+use mathlib.Core.Path.{sym, _∙_}
 use Rattle.logreader.specs.Once.{NewReaderOnce, PlaceOnce, MovedOnce, FoundOnce, PlaceBehindOnce, NextOnce, RecordAtOnce, PlaceAfterOnce, CountRecordsOnce}
 
 pub new-reader-once : NewReaderOnce

@@ -1,7 +1,6 @@
 -- The piece at a place, by what stands there.
 use Prim.Native.Nat.{ℕ, _-_, _≤_, _<_}
-use mathlib.Core.Path.{_≡_, refl, ap, ap₂, sym, subst, _∙_}
-use mathlib.Core.Bool.{Bool}
+use mathlib.Core.Path.{_≡_, refl, ap, sym, subst, _∙_}
 use mathlib.Core.List.{List, [], _∷_}
 use native.Mathlib.Omega.{arith}
 use types.Run.{OneOf}
@@ -9,12 +8,11 @@ use mathlib.Core.Logic.{inl, inr}
 use denote.Enum.Declared.{tagOf}
 use Rattle.records.proofs.Next.{the-type}
 use Rattle.records.proofs.Found.{inside}
-use lib.ListN.{length, take, drop}
+use lib.ListN.{take, drop}
 use Rattle.answers.specs.declared.Reading.{Reading}
-use Rattle.answers.specs.Answers.{Said, said}
-use Rattle.reading.specs.Read as reading
+use Rattle.answers.specs.Answers.{said}
 use Rattle.reading.specs.Read.{Left, lent, ReadPromise}
-use Rattle.flows.specs.Board.{Board, read, boardLeft, after}
+use Rattle.flows.specs.Board.{Board, boardLeft}
 use Rattle.records.specs.declared.Next.{Next}
 use Rattle.records.specs.declared.Next.the-variants.{Record, End, Bad}
 use Rattle.records.specs.Records.{nextRecord}
@@ -22,7 +20,7 @@ use Rattle.lines.specs.Lines.{lineOf, endLine, badLog}
 use Rattle.lines.specs.Puts.{LinePut, linePut, putLine}
 use Rattle.logrun.specs.declared.Piece.{Piece}
 use Rattle.logrun.specs.declared.Piece.the-variants.{Line, Last}
-use Rattle.logrun.specs.Printing.{Printing, printing, board, recordPrinted, lastPrinted, printedBy, printed, LinePromise, Onward}
+use Rattle.logrun.specs.Printing.{printing, board, recordPrinted, printedBy, printed, LinePromise, Onward}
 
 module _ (b : Board) (log : List ℕ) (at count : ℕ) (out : List ℕ) where
   -- the end, and a log that is bad there

@@ -1,7 +1,7 @@
 -- What the log program prints: a function of the log's bytes (document 01, 'The log program').
 use Prim.Native.Nat.{ℕ, _+_}
 use mathlib.Core.List.{List, [], _∷_, _++_}
-use mathlib.Core.Bool.{Bool, cond}
+use mathlib.Core.Bool.{cond}
 use lib.ListN.{length}
 use lib.Dec.{ltb}
 use Rattle.flows.specs.Board.{Board, paperBoard, read, after}

@@ -5,14 +5,12 @@ use mathlib.Core.List.{List}
 use mathlib.Core.Bool.{Bool, true, false}
 use native.Mathlib.Omega.{arith}
 use lib.ListN.{length-set}
-use Rattle.lists.specs.First.{firstOf, any}
 use Rattle.answers.specs.Refusals.{Verdict, VerdictOf, refuse, accept, verdict, none}
 use Rattle.answers.specs.Answers.{ready, refused}
 use Rattle.answers.proofs.Exactly.{none-held}
-use Rattle.sizes.specs.Sizes.{badMTU}
-use Rattle.contexts.specs.State.{State, fresh, withStream, withMessage, closedStream, closedMessage, isFreeStream, isFreeMessage}
+use Rattle.contexts.specs.State.{State, fresh, withStream, withMessage, closedStream, closedMessage}
 use Rattle.contexts.specs.Words.{stateOf, wordsOf}
-use Rattle.refusal19.specs.Refusal19.{badRoom, badStream, badMessage, namedBy19}
+use Rattle.refusal19.specs.Refusal19.{namedBy19}
 use Rattle.contexts.proofs.Words.{state-of, length-words}
 use Rattle.refusal19.proofs.Kept.{fresh-good, stream-kept, message-kept, closed-stream, closed-message}
 use Rattle.reading.specs.Good.{GoodWords, StillGood}

@@ -1,16 +1,13 @@
 -- A response, field by field.
-use Prim.Native.Nat.{ℕ, _+_, _*_, _/_, _%_, _<_, _≤_}
-use mathlib.Core.Path.{_≡_, refl, ap, sym, _∙_}
+use Prim.Native.Nat.{ℕ, _+_, _≤_}
+use mathlib.Core.Path.{_≡_, refl}
 use mathlib.Core.Bool.{Bool, true, false, cond}
-use mathlib.Core.List.{List}
 use native.Mathlib.Omega.{arith}
 use lib.Dec.{ltb}
 use borrow.Author.Tests.{ltb-true}
-use Rattle.lists.specs.Bytes.{byte}
-use Rattle.wire.specs.Packet.{priority, packetType, tt}
+use Rattle.wire.specs.Packet.{priority}
 use Rattle.responses.specs.Type13.{above, responseTo}
-use Rattle.flows.specs.ByFlow.{AreBytes}
-use Rattle.promises.specs.Statements.{IsResponse, ResponseLayout}
+use Rattle.promises.specs.Statements.{ResponseLayout}
 
 -- a priority fits two bits
 above-small : (n : ℕ) → above n ≤ 3

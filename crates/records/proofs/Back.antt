@@ -1,19 +1,18 @@
 -- A written log reads back as its records.
 use Prim.Native.Nat.{ℕ, zero, suc, _+_, _-_, _*_, _/_, _%_, _≤_, _<_}
-use mathlib.Core.Path.{_≡_, refl, ap, sym, _∙_, subst}
+use mathlib.Core.Path.{_≡_, refl, ap, sym, _∙_}
 use mathlib.Core.List.{List, [], _∷_, _++_, append-assoc, append-nil}
 use mathlib.Core.Bool.{Bool, true, false, cond}
 use native.Mathlib.Omega.{arith}
-use native.Mathlib.Nat.{div-add-mod', mod-lt, zero-add, add-zero}
+use native.Mathlib.Nat.{div-add-mod', mod-lt, add-zero}
 use lib.ListN.{length, take, drop, length-append}
 use lib.Seq.{getD-append-add, drop-append-add, drop-at, take-at}
 use lib.Dec.{ltb}
-use borrow.Author.Tests.{lt-ltb, le-ltb, ltb-true, ltb-false}
+use borrow.Author.Tests.{le-ltb, ltb-true, ltb-false}
 use Rattle.lists.specs.Bytes.{byte}
-use Rattle.records.specs.declared.Next.{Next}
-use Rattle.records.specs.declared.Next.the-variants.{Record, End, Bad}
-use Rattle.records.specs.Records.{Records, records, before, byNext, nextRecord, recordsFrom, recordsOf}
-use Rattle.records.specs.Written.{lengthBytes, writtenRecord, writtenLog, AllShort, LogReadsBack}
+use Rattle.records.specs.declared.Next.the-variants.{Record, End}
+use Rattle.records.specs.Records.{records, before, byNext, nextRecord, recordsFrom, recordsOf}
+use Rattle.records.specs.Written.{lengthBytes, writtenLog, AllShort, LogReadsBack}
 use Rattle.records.proofs.Found.{small, large}
 
 -- byte i behind the front

@@ -1,13 +1,12 @@
 -- A state that 19 does not name stays so where a good context, or a closed one, is put into it.
 use Prim.Native.Nat.{ℕ, _≤_, _<_, _+_, _^_}
-use mathlib.Core.Path.{_≡_, refl, ap, sym, _∙_}
+use mathlib.Core.Path.{_≡_, refl, ap, _∙_}
 use mathlib.Core.List.{List}
-use mathlib.Core.Bool.{Bool, true, false, not, _||_, _&&_, and-false}
+use mathlib.Core.Bool.{Bool, false, not, _||_, and-false}
 use native.Mathlib.Omega.{arith}
-use native.Mathlib.Decide.{ℕ-discrete, decLt}
-use lib.Dec.{eqb, ltb, leb}
+use native.Mathlib.Decide.{ℕ-discrete}
 use lib.ListN.{length, getD, set, length-set}
-use lib.Seq.{getD-set-same, getD-set-other, set-out}
+use lib.Seq.{getD-set-same, getD-set-other}
 use borrow.Author.Tests.{ne-eqb, le-ltb, lt-leb}
 use Rattle.lists.specs.First.{firstOf, any}
 use Rattle.lists.proofs.First.{none-passes, all-fail}

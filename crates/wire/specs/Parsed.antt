@@ -1,7 +1,7 @@
 -- Reading a packet before any context is looked at, in the order of the code; the refusal table (crate reading) says the same by rows.
 use Prim.Native.Nat.{ℕ}
 use mathlib.Core.List.{List}
-use mathlib.Core.Bool.{Bool, cond}
+use mathlib.Core.Bool.{cond}
 use lib.ListN.{length}
 use lib.Dec.{eqb, ltb}
 use Rattle.wire.specs.Packet.{tt, packetType, destination}

@@ -1,5 +1,4 @@
 -- `lines::put_decimal` meets its contract and ends: the number falls at each call.
-use borrow.Author.Needs.{needs}
 use native.Mathlib.Omega.{arith}
 use Prim.Native.Nat.{ℕ, _<_, _≤_, _/_}
 use mathlib.Core.Path.{subst, _∙_}

@@ -1,15 +1,9 @@
 -- `lines::put_answer` meets its contract, case by case.
 use mathlib.Core.Path.{refl}
 use Rattle.lines.proofs.Lines.{held-is, says-is, refused-is}
-use native.Mathlib.Omega.{arith}
 use borrow.Author.Needs.{needs}
 use Rattle.lines.proofs.put_answer.Statement.{statement}
 use Rattle.lines.proofs.put_answer.Tie as tie
-use Rattle.lines.proofs.put_answer.Reads as reads
-use Rattle.lines.proofs.put_answer.Lts as lts
-use Rattle.lines.proofs.put_four.Reads as put-four-reads
-use Rattle.lines.proofs.put_spaced.Reads as put-spaced-reads
-use Rattle.lines.proofs.put_text.Reads as put-text-reads
 
 -- src/lib.rt:75:34
 enum-told : tie.Need-enum-told

@@ -1,11 +1,8 @@
 use Prim.Native.Nat.{_+_}
 use Rattle.lines.proofs.Puts.{byte}
-use native.Mathlib.Omega.{arith}
 use borrow.Author.Needs.{needs}
 use Rattle.lines.proofs.put_digit.Statement.{statement}
 use Rattle.lines.proofs.put_digit.Tie as tie
-use Rattle.lines.proofs.put_digit.Reads as reads
-use Rattle.lines.proofs.put_digit.Lts as lts
 
 -- src/lib.rt:23:16
 add-out : tie.Need-add-out

@@ -1,12 +1,8 @@
 -- `lines::put_dropped` meets its contract.
 use Rattle.lines.proofs.Digits.{is-dropped, not-dropped}
-use native.Mathlib.Omega.{arith}
 use borrow.Author.Needs.{needs}
 use Rattle.lines.proofs.put_dropped.Statement.{statement}
 use Rattle.lines.proofs.put_dropped.Tie as tie
-use Rattle.lines.proofs.put_dropped.Reads as reads
-use Rattle.lines.proofs.put_dropped.Lts as lts
-use Rattle.lines.proofs.put_text.Reads as put-text-reads
 
 -- src/lib.rt:103:34
 slice-aggregate-put-text : tie.Need-slice-aggregate-put-text

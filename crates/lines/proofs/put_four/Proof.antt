@@ -1,13 +1,8 @@
 -- `lines::put_four` meets its contract.
 use Rattle.lines.proofs.Lines.{four}
-use native.Mathlib.Omega.{arith}
 use borrow.Author.Needs.{needs}
 use Rattle.lines.proofs.put_four.Statement.{statement}
 use Rattle.lines.proofs.put_four.Tie as tie
-use Rattle.lines.proofs.put_four.Reads as reads
-use Rattle.lines.proofs.put_four.Lts as lts
-use Rattle.lines.proofs.put_spaced.Reads as put-spaced-reads
-use Rattle.lines.proofs.put_text.Reads as put-text-reads
 
 -- src/lib.rt:62:9
 put-text-requires : tie.Need-put-text-requires

@@ -1,13 +1,8 @@
 -- `lines::put_spaced` meets its contract.
 use Rattle.lines.proofs.Digits.{number-fits, spaced-is}
-use native.Mathlib.Omega.{arith}
 use borrow.Author.Needs.{needs}
 use Rattle.lines.proofs.put_spaced.Statement.{statement}
 use Rattle.lines.proofs.put_spaced.Tie as tie
-use Rattle.lines.proofs.put_spaced.Reads as reads
-use Rattle.lines.proofs.put_spaced.Lts as lts
-use Rattle.lines.proofs.put_decimal.Reads as put-decimal-reads
-use Rattle.lines.proofs.put_text.Reads as put-text-reads
 
 -- src/lib.rt:53:36
 slice-aggregate-put-text : tie.Need-slice-aggregate-put-text

@@ -5,9 +5,6 @@ use native.Mathlib.Omega.{arith}
 use borrow.Author.Needs.{needs}
 use Rattle.lines.proofs.write_bad.Statement.{statement}
 use Rattle.lines.proofs.write_bad.Tie as tie
-use Rattle.lines.proofs.write_bad.Reads as reads
-use Rattle.lines.proofs.write_bad.Lts as lts
-use Rattle.lines.proofs.put_text.Reads as put-text-reads
 
 -- src/lib.rt:138:9
 returns : tie.Need-returns

@@ -2,14 +2,9 @@
 use Rattle.lines.specs.Lines.{endLine}
 use Rattle.lines.proofs.Puts.{no-room}
 use Rattle.lines.proofs.Lines.{end-is}
-use native.Mathlib.Omega.{arith}
 use borrow.Author.Needs.{needs}
 use Rattle.lines.proofs.write_end.Statement.{statement}
 use Rattle.lines.proofs.write_end.Tie as tie
-use Rattle.lines.proofs.write_end.Reads as reads
-use Rattle.lines.proofs.write_end.Lts as lts
-use Rattle.lines.proofs.put_spaced.Reads as put-spaced-reads
-use Rattle.lines.proofs.put_text.Reads as put-text-reads
 
 -- src/lib.rt:126:9
 returns : tie.Need-returns

@@ -3,15 +3,9 @@ use Rattle.answers.specs.Answers.{said}
 use Rattle.lines.specs.Lines.{lineOf}
 use Rattle.lines.proofs.Puts.{no-room}
 use Rattle.lines.proofs.Lines.{line-is}
-use native.Mathlib.Omega.{arith}
 use borrow.Author.Needs.{needs}
 use Rattle.lines.proofs.write_line.Statement.{statement}
 use Rattle.lines.proofs.write_line.Tie as tie
-use Rattle.lines.proofs.write_line.Reads as reads
-use Rattle.lines.proofs.write_line.Lts as lts
-use Rattle.lines.proofs.put_answer.Reads as put-answer-reads
-use Rattle.lines.proofs.put_dropped.Reads as put-dropped-reads
-use Rattle.lines.proofs.put_text.Reads as put-text-reads
 
 -- src/lib.rt:113:9
 returns : tie.Need-returns

@@ -3,10 +3,6 @@ use Rattle.logprint.proofs.Begins.{too-long}
 use borrow.Author.Needs.{needs}
 use Rattle.logprint.proofs.print_log.Statement.{statement}
 use Rattle.logprint.proofs.print_log.Tie as tie
-use Rattle.logprint.proofs.print_log.Reads as reads
-use Rattle.logprint.proofs.print_log.Lts as lts
-use Rattle.io.proofs.write_all.Reads as write-all-reads
-use Rattle.logprint.proofs.print_runs.Reads as print-runs-reads
 
 slice-aggregate-write-all : tie.Need-slice-aggregate-write-all
 slice-aggregate-write-all c = search needs

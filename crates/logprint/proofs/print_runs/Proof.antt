@@ -12,11 +12,6 @@ use borrow.Author.Needs.{needs}
 use native.Mathlib.Omega.{arith}
 use Rattle.logprint.proofs.print_runs.Statement.{statement}
 use Rattle.logprint.proofs.print_runs.Tie as tie
-use Rattle.logprint.proofs.print_runs.Reads as reads
-use Rattle.logprint.proofs.print_runs.Lts as lts
-use Rattle.endpoint.proofs.setup.Reads as setup-reads
-use Rattle.io.proofs.write_all.Reads as write-all-reads
-use Rattle.logrun.proofs.run.Reads as run-reads
 
 -- the arrays keep their lengths; the bytes put and those still to come are the output's; no more records than bytes were read, and each run
 -- puts at most a buffer and comes on by a byte

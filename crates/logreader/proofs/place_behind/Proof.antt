@@ -2,8 +2,6 @@
 use borrow.Author.Needs.{needs}
 use Rattle.logreader.proofs.place_behind.Statement.{statement}
 use Rattle.logreader.proofs.place_behind.Tie as tie
-use Rattle.logreader.proofs.place_behind.Reads as reads
-use Rattle.logreader.proofs.place_behind.Lts as lts
 
 enum-known-next : tie.Need-enum-known-next
 enum-known-next c = search needs

@@ -1,19 +1,12 @@
 -- `logrun::next_line` meets its contract: by what stands at the place.
 use native.Mathlib.Omega.{arith}
-use mathlib.Core.Path.{refl, sym, _∙_}
+use mathlib.Core.Path.{sym, _∙_}
 use Rattle.logrun.specs.Printing.{board}
 use Rattle.logrun.proofs.Laws.{at-end, at-bad, at-record, neither, packet-size}
 use Rattle.records.proofs.Found.{inside}
 use borrow.Author.Needs.{needs}
 use Rattle.logrun.proofs.next_line.Statement.{statement}
 use Rattle.logrun.proofs.next_line.Tie as tie
-use Rattle.logrun.proofs.next_line.Reads as reads
-use Rattle.logrun.proofs.next_line.Lts as lts
-use Rattle.endpoint.proofs.read.Reads as read-reads
-use Rattle.lines.proofs.write_bad.Reads as write-bad-reads
-use Rattle.lines.proofs.write_end.Reads as write-end-reads
-use Rattle.lines.proofs.write_line.Reads as write-line-reads
-use Rattle.records.proofs.next_record.Reads as next-record-reads
 
 -- src/lib.rt:31:9
 next-record-requires : tie.Need-next-record-requires

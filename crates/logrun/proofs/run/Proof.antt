@@ -11,9 +11,6 @@ use borrow.Author.Needs.{needs}
 use native.Mathlib.Omega.{arith}
 use Rattle.logrun.proofs.run.Statement.{statement}
 use Rattle.logrun.proofs.run.Tie as tie
-use Rattle.logrun.proofs.run.Reads as reads
-use Rattle.logrun.proofs.run.Lts as lts
-use Rattle.logrun.proofs.next_line.Reads as next-line-reads
 
 abbrev Inv-loop : tie.InvT-loop
 Inv-loop state₀ stream-memory₀ message-memory₀ response₀ log at count out₀ place₀ number₀ used₀ state stream-memory message-memory response out place number used =

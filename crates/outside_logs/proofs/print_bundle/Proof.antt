@@ -1,14 +1,9 @@
 -- `outside_logs::print_bundle` ends: each log's next place is behind it.
-use Prim.Native.Nat.{_≤_, _-_, _+_}
+use Prim.Native.Nat.{_≤_, _-_}
 use lib.ListN.{length}
-use mathlib.Core.Path.{_≡_}
 use borrow.Author.Needs.{needs}
-use native.Mathlib.Omega.{arith}
 use Rattle.outside_logs.proofs.print_bundle.Statement.{statement}
 use Rattle.outside_logs.proofs.print_bundle.Tie as tie
-use Rattle.outside_logs.proofs.print_bundle.Reads as reads
-use Rattle.outside_logs.proofs.print_bundle.Lts as lts
-use Rattle.outside_logs.proofs.print_at.Reads as print-at-reads
 
 abbrev Inv-loop : tie.InvT-loop
 Inv-loop bundle at₀ at = at ≤ length bundle

@@ -4,9 +4,6 @@ use native.Mathlib.Omega.{arith}
 use borrow.Author.Needs.{needs}
 use Rattle.outside_responses.proofs.print_found.Statement.{statement}
 use Rattle.outside_responses.proofs.print_found.Tie as tie
-use Rattle.outside_responses.proofs.print_found.Reads as reads
-use Rattle.outside_responses.proofs.print_found.Lts as lts
-use Rattle.outside_responses.proofs.print_packet.Reads as print-packet-reads
 
 enum-known-found : tie.Need-enum-known-found
 enum-known-found c = search needs

@@ -4,12 +4,6 @@ use native.Mathlib.Omega.{arith}
 use borrow.Author.Needs.{needs}
 use Rattle.outside_responses.proofs.print_packet.Statement.{statement}
 use Rattle.outside_responses.proofs.print_packet.Tie as tie
-use Rattle.outside_responses.proofs.print_packet.Reads as reads
-use Rattle.outside_responses.proofs.print_packet.Lts as lts
-use Rattle.endpoint.proofs.read.Reads as read-reads
-use Rattle.lines.proofs.write_line.Reads as write-line-reads
-use Rattle.outside_responses.proofs.print_response.Reads as print-response-reads
-use Rattle.printing.proofs.print_text.Reads as print-text-reads
 
 slice-aggregate-read : tie.Need-slice-aggregate-read
 slice-aggregate-read c = search needs

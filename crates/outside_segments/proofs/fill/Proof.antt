@@ -1,14 +1,10 @@
 -- `outside_segments::fill` ends and stays inside the PDU.
-use Prim.Native.Nat.{_≤_, _-_, _+_}
+use Prim.Native.Nat.{_≤_, _-_}
 use lib.ListN.{length}
 use mathlib.Core.Path.{_≡_}
 use borrow.Author.Needs.{needs}
-use native.Mathlib.Omega.{arith}
 use Rattle.outside_segments.proofs.fill.Statement.{statement}
 use Rattle.outside_segments.proofs.fill.Tie as tie
-use Rattle.outside_segments.proofs.fill.Reads as reads
-use Rattle.outside_segments.proofs.fill.Lts as lts
-use Rattle.outside_segments.proofs.pdu_byte.Reads as pdu-byte-reads
 
 abbrev Inv-loop : tie.InvT-loop
 Inv-loop pdu₀ seed i₀ pdu i = (length pdu ≡ length pdu₀) × (i ≤ length pdu₀)

@@ -4,12 +4,6 @@ use native.Mathlib.Omega.{arith}
 use borrow.Author.Needs.{needs}
 use Rattle.outside_segments.proofs.print_case.Statement.{statement}
 use Rattle.outside_segments.proofs.print_case.Tie as tie
-use Rattle.outside_segments.proofs.print_case.Reads as reads
-use Rattle.outside_segments.proofs.print_case.Lts as lts
-use Rattle.lists.proofs.wide.Reads as wide-reads
-use Rattle.lists.proofs.word_at.Reads as word-at-reads
-use Rattle.lists.proofs.long_at.Reads as long-at-reads
-use Rattle.outside_segments.proofs.print_pdu.Reads as print-pdu-reads
 
 -- src/main.rt:98:9
 long-at-requires : tie.Need-long-at-requires

@@ -1,14 +1,9 @@
 -- `outside_segments::print_cases` ends: each case's next place is behind it.
-use Prim.Native.Nat.{_≤_, _-_, _+_}
+use Prim.Native.Nat.{_≤_, _-_}
 use lib.ListN.{length}
-use mathlib.Core.Path.{_≡_}
 use borrow.Author.Needs.{needs}
-use native.Mathlib.Omega.{arith}
 use Rattle.outside_segments.proofs.print_cases.Statement.{statement}
 use Rattle.outside_segments.proofs.print_cases.Tie as tie
-use Rattle.outside_segments.proofs.print_cases.Reads as reads
-use Rattle.outside_segments.proofs.print_cases.Lts as lts
-use Rattle.outside_segments.proofs.print_case.Reads as print-case-reads
 
 abbrev Inv-loop : tie.InvT-loop
 Inv-loop cases at₀ at = at ≤ length cases

@@ -5,12 +5,6 @@ use native.Mathlib.Omega.{arith}
 use borrow.Author.Needs.{needs}
 use Rattle.outside_segments.proofs.print_segment.Statement.{statement}
 use Rattle.outside_segments.proofs.print_segment.Tie as tie
-use Rattle.outside_segments.proofs.print_segment.Reads as reads
-use Rattle.outside_segments.proofs.print_segment.Lts as lts
-use Rattle.printing.proofs.print_bytes.Reads as print-bytes-reads
-use Rattle.printing.proofs.print_number.Reads as print-number-reads
-use Rattle.printing.proofs.print_text.Reads as print-text-reads
-use Rattle.segments.proofs.write_segment.Reads as write-segment-reads
 
 write-segment-requires : tie.Need-write-segment-requires
 write-segment-requires c κs = search needs

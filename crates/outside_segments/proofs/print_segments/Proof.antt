@@ -1,17 +1,10 @@
 -- `outside_segments::print_segments` ends: the number rises to the count.
-use Prim.Native.Nat.{_≤_, _-_, _+_}
+use Prim.Native.Nat.{_≤_, _-_}
 use lib.ListN.{length}
 use mathlib.Core.Path.{_≡_}
 use borrow.Author.Needs.{needs}
-use native.Mathlib.Omega.{arith}
 use Rattle.outside_segments.proofs.print_segments.Statement.{statement}
 use Rattle.outside_segments.proofs.print_segments.Tie as tie
-use Rattle.outside_segments.proofs.print_segments.Reads as reads
-use Rattle.outside_segments.proofs.print_segments.Lts as lts
-use Rattle.outside_segments.proofs.print_segment.Reads as print-segment-reads
-use Rattle.printing.proofs.print_number.Reads as print-number-reads
-use Rattle.printing.proofs.print_text.Reads as print-text-reads
-use Rattle.segments.proofs.segment_count.Reads as segment-count-reads
 
 abbrev Inv-loop : tie.InvT-loop
 Inv-loop heading mtu pdu out₀ count number₀ out number = (length out ≡ length out₀) × (number ≤ count)

@@ -4,10 +4,6 @@ use lib.ListN.{length}
 use borrow.Author.Needs.{needs}
 use Rattle.printing.proofs.print_bytes.Statement.{statement}
 use Rattle.printing.proofs.print_bytes.Tie as tie
-use Rattle.printing.proofs.print_bytes.Reads as reads
-use Rattle.printing.proofs.print_bytes.Lts as lts
-use Rattle.printing.proofs.print_byte.Reads as print-byte-reads
-use Rattle.printing.proofs.print_text.Reads as print-text-reads
 
 abbrev Inv-loop : tie.InvT-loop
 Inv-loop before bytes i₀ i = i ≤ length bytes

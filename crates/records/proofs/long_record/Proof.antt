@@ -1,13 +1,8 @@
 use Rattle.records.specs.Records.{longRecord}
 use borrow.Author.Tests.{eq-eqb, le-ltb, lt-ltb, ne-eqb}
-use native.Mathlib.Omega.{arith}
 use borrow.Author.Needs.{needs}
 use Rattle.records.proofs.long_record.Statement.{statement}
 use Rattle.records.proofs.long_record.Tie as tie
-use Rattle.records.proofs.long_record.Reads as reads
-use Rattle.records.proofs.long_record.Lts as lts
-use Rattle.lists.proofs.wide.Reads as wide-reads
-use Rattle.records.proofs.record_from.Reads as record-from-reads
 
 -- src/lib.rt:39:20
 add-if1 : tie.Need-add-if1

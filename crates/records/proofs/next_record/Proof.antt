@@ -1,14 +1,8 @@
 use Rattle.records.specs.Records.{nextRecord}
 use borrow.Author.Tests.{le-ltb, lt-ltb}
-use native.Mathlib.Omega.{arith}
 use borrow.Author.Needs.{needs}
 use Rattle.records.proofs.next_record.Statement.{statement}
 use Rattle.records.proofs.next_record.Tie as tie
-use Rattle.records.proofs.next_record.Reads as reads
-use Rattle.records.proofs.next_record.Lts as lts
-use Rattle.lists.proofs.wide.Reads as wide-reads
-use Rattle.records.proofs.long_record.Reads as long-record-reads
-use Rattle.records.proofs.record_from.Reads as record-from-reads
 
 -- src/lib.rt:57:9
 returns : tie.Need-returns

@@ -1,11 +1,8 @@
 use Rattle.records.specs.Records.{recordFrom}
 use borrow.Author.Tests.{le-ltb, lt-ltb}
-use native.Mathlib.Omega.{arith}
 use borrow.Author.Needs.{needs}
 use Rattle.records.proofs.record_from.Statement.{statement}
 use Rattle.records.proofs.record_from.Tie as tie
-use Rattle.records.proofs.record_from.Reads as reads
-use Rattle.records.proofs.record_from.Lts as lts
 
 -- src/lib.rt:24:8
 sub-if1 : tie.Need-sub-if1
