@@ -1,15 +1,26 @@
-// Text, numbers and bytes on standard output, for the programs. No contract can say what stands there afterwards.
+// Text, numbers and bytes to standard output, for the programs. Each function answers how much it hands over, and only that is promised:
+// `io` says nothing of what is written. The vectors show it.
 use libc::STDOUT_FILENO;
 ghost use mathlib.Core.Path.{_≡_};
 ghost use lib.ListN.{length};
+ghost use Rattle.io.specs.Digits.{Fewest};
 
-pub fn print_text(text: &[u8]) {
+// Text as it stands. Answers its length.
+pub fn print_text(text: &[u8]) -> usize
+    ensures { λ r. ⌜ r ≡ length (now (text .entry)) ⌝ }
+{
     io::write_all(STDOUT_FILENO, text);
+    text.len()
 }
 
-// A number in decimal.
-pub fn print_number(n: usize) {
-    io::print_decimal(STDOUT_FILENO, n as u64);
+// A number in decimal, without zeros in front. Answers how many digits that are.
+pub fn print_number(n: usize) -> usize
+    ensures { λ r. ⌜ Fewest 10 1 n r ⌝ }
+{
+    let mut digits = [0u8; 20];
+    let count = io::decimal(n as u64, &mut digits);
+    print_text(&digits[..count]);
+    count
 }
 
 // A byte as two hexadecimal digits.
@@ -17,8 +28,7 @@ fn print_byte(b: u8) {
     io::print_hex(STDOUT_FILENO, b as u64, 2);
 }
 
-// Bytes as pairs of hexadecimal digits, each pair behind the same text. Answers how many bytes it has come past: all. Only that is
-// promised. That each was printed, and as which digits, is not: `io` says nothing of what is written. The vectors show it.
+// Bytes as pairs of hexadecimal digits, each pair behind the same text. Answers how many bytes it has come past: all.
 pub fn print_bytes(before: &[u8], bytes: &[u8]) -> usize
     ensures { λ r. ⌜ r ≡ length (now (bytes .entry)) ⌝ }
 {

@@ -12,7 +12,9 @@ fn number(n: usize) {
 // One line for an answer.
 fn line(answer: Answer) {
     match answer {
-        Answer::Held => print_text(b"held"),
+        Answer::Held => {
+            print_text(b"held");
+        }
         Answer::Delivered {
             context: _,
             source,
