@@ -1,13 +1,14 @@
 -- Demands 2 and 3 of the endpoint itself: the theorems of `sending` stand on laws between a flow and the endpoint, and `flows` shows that they hold.
 use Prim.Native.Nat.{ℕ, suc, _*_, _≤_}
 use mathlib.Core.Path.{_≡_, refl, ap, sym, _∙_}
-use mathlib.Core.Bool.{false}
+use mathlib.Core.Bool.{Bool, true, false, _&&_, false≢true}
 use mathlib.Core.List.{List, [], _∷_}
 use native.Mathlib.Omega.{arith}
 use lib.ListN.{length, replicate, length-replicate}
 use borrow.Author.Tests.{le-ltb}
 use Rattle.answers.proofs.Exactly.{accepted}
 use Rattle.wire.specs.declared.Flow.{Flow}
+use Rattle.wire.specs.Parsed.{parsed, parsedByType, parsedStream, parsedFielded}
 use Rattle.sizes.specs.Sizes.{badMTU}
 use Rattle.refusal19.specs.Refusal19.{badRoom}
 use Rattle.cutting.specs.Cutting.{segmentCount, packetOf}
@@ -15,21 +16,24 @@ use Rattle.segments.specs.Writer.{writerTable, writing, wroteBy}
 use Rattle.flows.specs.Board.{freshBoard}
 use Rattle.flows.proofs.Fine.{Fine, fresh-fine}
 use Rattle.flows.proofs.Machine.{by-flow}
+use Rattle.flows.specs.Apart.{AllBytes}
 use Rattle.flows.proofs.Apart.{flows-apart}
-use Rattle.sending.specs.Sending.{Sending, FlowSent, flowsOf, packets, whole, deliveries, Fair}
+use Rattle.sending.specs.Sending.{Sending, FlowSent, flowsOf, putOf, packets, whole, deliveries, Fair}
 use Rattle.sending.specs.OfSendings.{Begins}
 use Rattle.sending.proofs.Fresh.{fresh-begins}
 use Rattle.sending.proofs.Cut.{segments-read-back}
 use Rattle.sending.proofs.ReadBack.{read-back}
 use Rattle.sending.proofs.Merge.{delivered-is-whole, delivered-at-every-turn}
 use Rattle.sending.specs.Joint.{isJoint}
+use Rattle.sending.specs.Mixture.{mixture}
 use Rattle.sending.proofs.Mixture.{under, are-bytes, mixture-is-fair}
 use Rattle.sending.proofs.Joint.{joint-delivered}
 use Rattle.sending.proofs.Untold.{joint-untold}
 use Rattle.examples.specs.Table.{firstPDU, secondPDU}
+use Rattle.examples.proofs.Computing.{computing}
 use Rattle.examples.proofs.Table.{examples-hold}
 use Rattle.promises.proofs.Wider.{largest-holds, wider}
-use Rattle.promises.specs.Statements.{Fresh, WriterMakes, FieldsReadBack, Demand2, Demand3, Demand3AnyLoss, Demand3NotEmpty, FreshNotEmpty, Corollary3, FlowsDoNotDisturb, Joint, JointNotEmpty, JointCannotBeTold, StarredExamples}
+use Rattle.promises.specs.Statements.{Fresh, WriterMakes, FieldsReadBack, Demand2, Demand3, Demand3AnyLoss, Demand3NotEmpty, FreshNotEmpty, Corollary3, FlowsDoNotDisturb, FlowsNotEmpty, Joint, JointNotEmpty, JointCannotBeTold, StarredExamples}
 
 -- MTU ≤ R ≤ 65,536
 room-allowed : (mtu R : ℕ) → mtu ≤ R → R ≤ 65536 → badRoom mtu R ≡ false
@@ -98,6 +102,31 @@ corollary3 device mtu R s s′ fair fair′ e =
 
 pub flows-do-not-disturb : FlowsDoNotDisturb
 flows-do-not-disturb = flows-apart
+
+-- whether every packet is of bytes
+unfoldable ofBytes : List (List ℕ) → Bool
+ofBytes [] = true
+ofBytes (p ∷ ps) = under 256 p && ofBytes ps
+
+all-bytes : (ps : List (List ℕ)) → ofBytes ps ≡ true → AllBytes ps
+unfolding ofBytes
+all-bytes [] e = tt
+all-bytes (p ∷ ps) e = go (under 256 p) refl e (all-bytes ps)
+  where
+    go : (b : Bool) → under 256 p ≡ b → (b && ofBytes ps) ≡ true → (ofBytes ps ≡ true → AllBytes ps) → AllBytes (p ∷ ps)
+    go true h e rest = (are-bytes p h, rest e)
+    go false h e rest = absurd (false≢true e)
+
+pub flows-not-empty : FlowsNotEmpty
+unfolding computing parsed parsedByType parsedStream parsedFielded putOf under ofBytes
+flows-not-empty = record {
+  mtu-fits = refl;
+  room-fits = refl;
+  lends = fresh-not-empty .lends;
+  few = omega arith;
+  bytes = all-bytes (packets 1 32 mixture) refl;
+  occur = (refl, (refl, (refl, (refl, (refl, (refl, (refl, tt)))))));
+}
 
 pub joint : Joint
 joint device mtu R flow first second streams messages response f pair =

@@ -27,12 +27,12 @@ use Rattle.cutting.specs.Cutting.{packetOf}
 use Rattle.flows.specs.OneFlow.{pdu}
 use Rattle.flows.specs.Board.{Board, Delivery, delivery, deliveredBy, Lends, freshBoard}
 use Rattle.flows.specs.ByFlow.{AreBytes}
-use Rattle.flows.specs.Apart.{FlowsApart}
+use Rattle.flows.specs.Apart.{AtMostSixteenFlows, FlowsApart}
 use Rattle.sending.specs.Sending.{Sent, headingFor, Ranges, FairPDU, Sending, packets, whole, deliveries, Fair, FairAnyLoss}
 use Rattle.sending.specs.Segment.{SegmentsReadBack}
 use Rattle.sending.specs.OfSendings.{ReadsBack, LengthIsMeasured, firstTurns}
 use Rattle.sending.specs.Meaning.{InOrder, WholeIsIntact}
-use Rattle.sending.specs.Mixture.{MixtureIsFair}
+use Rattle.sending.specs.Mixture.{five, six, mixture, MixtureIsFair}
 use Rattle.examples.specs.Table.{firstPDU, secondPDU, ExamplesHold}
 use Rattle.examples.specs.Impostors.{ReadMeets, SilentBreaks3, SameBreaks2, CountMoverBreaks2, CountMoverBreaks3, InventorBreaks2, IdleWriterBreaks2}
 use Rattle.sending.specs.Joint.{Pair, isJoint, jointPDU, pairPackets, JointUntold}
@@ -389,6 +389,10 @@ pub record ImpostorsBreak : Type 0 where
 -- FLOWS ARE APART: what a flow's packets are answered depends on that flow's packets alone, context numbers aside
 abbrev pub FlowsDoNotDisturb : Type 0
 FlowsDoNotDisturb = FlowsApart
+
+-- there are such packets: those that the mixture leaves
+abbrev pub FlowsNotEmpty : Type 0
+FlowsNotEmpty = AtMostSixteenFlows 1 32 64 (replicate 1024 0) (replicate 32768 0) (replicate 7 0) (five ∷ six ∷ []) (packets 1 32 mixture)
 
 -- ==== THE JOINT, outside those premises: two neighbouring PDUs of one flow, each of which loses exactly one packet
 
