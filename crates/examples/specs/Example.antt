@@ -104,8 +104,3 @@ computed b (p ∷ ps) (arrives says dropped facts ∷ lines) = arrives (read b p
 -- an example comes out as it says
 abbrev pub Holds : Example → Type 0
 Holds e = computed paperBoard (e .sent) (e .lines) ≡ e .lines
-
--- every row of a table does
-abbrev pub AllHold : List Example → Type 0
-AllHold [] = Unit {0}
-AllHold (e ∷ es) = Holds e × AllHold es

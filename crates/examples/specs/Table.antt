@@ -5,7 +5,8 @@ use lib.ListN.{take, drop, replicate}
 use Rattle.answers.specs.Answers.{held, delivered, message, refused}
 use Rattle.cutting.specs.declared.Heading.{Heading}
 use Rattle.cutting.specs.Cutting.{packetOf}
-use Rattle.examples.specs.Example.{counting, cut, Fact, hasBytes, byte6, lengthField, delivers, deliversNot, response, lost, gets, getsDropped, Example, example, AllHold}
+use Rattle.lists.specs.Each.{Each}
+use Rattle.examples.specs.Example.{counting, cut, Fact, hasBytes, byte6, lengthField, delivers, deliversNot, response, lost, gets, getsDropped, Example, example, Holds}
 
 -- to device 1, cos 5, priority 0
 abbrev pub heading : (source stream : ℕ) → Heading
@@ -87,4 +88,4 @@ examples =
 
 -- every example comes out as the paper says
 abbrev pub ExamplesHold : Type 0
-ExamplesHold = AllHold examples
+ExamplesHold = Each Holds examples

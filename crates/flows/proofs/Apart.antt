@@ -4,6 +4,7 @@ use mathlib.Core.Path.{_≡_, refl, ap, ap₂, sym, _∙_}
 use mathlib.Core.Bool.{Bool, true, false}
 use mathlib.Core.Option.{Option, none}
 use mathlib.Core.List.{List, [], _∷_}
+use Rattle.lists.specs.Each.{Each}
 use Rattle.answers.specs.Answers as answers
 use Rattle.wire.specs.declared.Flow.{Flow}
 use Rattle.wire.specs.declared.Segment.{Segment}
@@ -16,7 +17,7 @@ use Rattle.reading.proofs.Packets.{stream-parsed}
 use Rattle.flows.specs.OneFlow.{PDU, Told, held, delivered, refused, FlowOutcome, flowStep}
 use Rattle.flows.specs.Board.{Board, read, after, view, freshBoard}
 use Rattle.flows.specs.ByFlow.{AreBytes, Tells, OwnFlow, NoFlow, ByFlow}
-use Rattle.flows.specs.Apart.{FlowAnswer, flowAnswer, heardOf, heardAlone, isOf, packetsOf, answersTo, alone, AllBytes, flowAmong, AmongFlows, FlowsApart, SamePacketsSameAnswers}
+use Rattle.flows.specs.Apart.{FlowAnswer, flowAnswer, heardOf, heardAlone, isOf, packetsOf, answersTo, alone, flowAmong, AmongFlows, FlowsApart, SamePacketsSameAnswers}
 use Rattle.flows.proofs.Flows.{same-true, same-false, ne-same}
 use Rattle.flows.proofs.Fine.{Fine, fresh-fine, fresh-view}
 use Rattle.flows.proofs.Machine.{by-flow}
@@ -85,7 +86,7 @@ module _ (device mtu room : ℕ) (flows : List Flow) (Ok : Board → Type 0) (la
           skipped b p ps (ap (isOf flow) e ∙ t) (l .others flow (ne-same flow (g .flow) (λ q. same-false (g .flow) flow t (sym q)))) (ih (l .ok))
 
   -- from any board
-  pub apart-from : (packets : List (List ℕ)) (b : Board) → Ok b → AllBytes packets → AmongFlows device flows packets
+  pub apart-from : (packets : List (List ℕ)) (b : Board) → Ok b → Each AreBytes packets → AmongFlows device flows packets
       → answersTo device room flow b packets ≡ alone mtu room flow (view b flow) (packetsOf device flow packets)
   apart-from [] b ok bytes occur = refl
   apart-from (p ∷ ps) b ok bytes occur = step b p ps ok (bytes .0) (occur .0) (λ next. apart-from ps (after b p) next (bytes .1) (occur .1)) (parsed device p) refl

@@ -5,6 +5,7 @@ use mathlib.Core.List.{List, [], _∷_}
 use mathlib.Core.Bool.{Bool, true, false, cond}
 use mathlib.Core.Option.{Option, none}
 use lib.ListN.{length}
+use Rattle.lists.specs.Each.{Each}
 use Rattle.answers.specs.Answers as answers
 use Rattle.wire.specs.declared.Flow.{Flow}
 use Rattle.wire.specs.declared.Parsed.{Parsed}
@@ -82,11 +83,6 @@ alone mtu room flow before (p ∷ ps) =
 
 -- ---- the statements
 
--- every item of every packet is a byte
-abbrev pub AllBytes : List (List ℕ) → Type 0
-AllBytes [] = Unit {0}
-AllBytes (p ∷ ps) = AreBytes p × AllBytes ps
-
 -- a packet of type 9 that rows 1 to 5 pass has one of these flows
 abbrev pub flowAmong : List Flow → Parsed → Bool
 flowAmong flows (Refused number) = true
@@ -94,8 +90,7 @@ flowAmong flows (Stream g) = among (g .flow) flows
 flowAmong flows (Message m) = true
 
 abbrev pub AmongFlows : ℕ → List Flow → List (List ℕ) → Type 0
-AmongFlows device flows [] = Unit {0}
-AmongFlows device flows (p ∷ ps) = (flowAmong flows (parsed device p) ≡ true) × AmongFlows device flows ps
+AmongFlows device flows = Each (λ (p : List ℕ). flowAmong flows (parsed device p) ≡ true)
 
 -- an endpoint as setup makes it, memories that 12 allows, and any packets at all of which those of type 9 have at most sixteen flows
 pub record AtMostSixteenFlows (device mtu room : ℕ) (streamMemory messageMemory response : List ℕ) (flows : List Flow) (packets : List (List ℕ)) : Type 0 where
@@ -103,7 +98,7 @@ pub record AtMostSixteenFlows (device mtu room : ℕ) (streamMemory messageMemor
   pub room-fits : badRoom mtu room ≡ false
   pub lends : Lends room streamMemory messageMemory response
   pub few : length flows ≤ 16
-  pub bytes : AllBytes packets
+  pub bytes : Each AreBytes packets
   pub occur : AmongFlows device flows packets
 
 -- each flow is answered as if its packets came alone

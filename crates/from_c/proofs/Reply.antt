@@ -6,6 +6,7 @@ use mathlib.Core.Bool.{Bool, true, false, cond, not, _||_, true≢false}
 use native.Mathlib.Omega.{arith}
 use lib.Dec.{eqb, ltb}
 use borrow.Author.Tests.{eqb-true, not-false}
+use Rattle.lists.specs.Each.{Each}
 use Rattle.answers.specs.Refusals.{Row, Leaves, all, flowClosed, allERROR, allRETRY, Verdict, refuse, accept, verdict, none}
 use Rattle.answers.proofs.Exactly.{none-held}
 use Rattle.wire.specs.Packet.{packetType}
@@ -31,8 +32,7 @@ answersBy allERROR = true
 answersBy allRETRY = true
 
 abbrev Fits : List Row → Type 0
-Fits [] = Unit {0}
-Fits (r ∷ rs) = (not (ltb (r .number) 20) ≡ answersBy (r .leaves)) × Fits rs
+Fits = Each (λ (r : Row). not (ltb (r .number) 20) ≡ answersBy (r .leaves))
 
 -- the row that decides is one of them
 decides : (rows : List Row) → Fits rows → (number : ℕ) (leaves : Leaves) → verdict rows ≡ refuse number leaves → not (ltb number 20) ≡ answersBy leaves

@@ -6,6 +6,7 @@ use mathlib.Core.List.{List, [], _∷_}
 use native.Mathlib.Omega.{arith}
 use lib.ListN.{length, replicate, length-replicate}
 use borrow.Author.Tests.{le-ltb}
+use Rattle.lists.specs.Each.{Each}
 use Rattle.answers.proofs.Exactly.{accepted}
 use Rattle.wire.specs.declared.Flow.{Flow}
 use Rattle.wire.specs.Parsed.{parsed, parsedByType, parsedStream, parsedFielded}
@@ -16,7 +17,7 @@ use Rattle.segments.specs.Writer.{writerTable, writing, wroteBy}
 use Rattle.flows.specs.Board.{freshBoard}
 use Rattle.flows.proofs.Fine.{Fine, fresh-fine}
 use Rattle.flows.proofs.Machine.{by-flow}
-use Rattle.flows.specs.Apart.{AllBytes}
+use Rattle.flows.specs.ByFlow.{AreBytes}
 use Rattle.flows.proofs.Apart.{flows-apart}
 use Rattle.sending.specs.Sending.{Sending, FlowSent, flowsOf, putOf, packets, whole, deliveries, Fair}
 use Rattle.sending.specs.OfSendings.{Begins}
@@ -108,12 +109,12 @@ unfoldable ofBytes : List (List ℕ) → Bool
 ofBytes [] = true
 ofBytes (p ∷ ps) = under 256 p && ofBytes ps
 
-all-bytes : (ps : List (List ℕ)) → ofBytes ps ≡ true → AllBytes ps
+all-bytes : (ps : List (List ℕ)) → ofBytes ps ≡ true → Each AreBytes ps
 unfolding ofBytes
 all-bytes [] e = tt
 all-bytes (p ∷ ps) e = go (under 256 p) refl e (all-bytes ps)
   where
-    go : (b : Bool) → under 256 p ≡ b → (b && ofBytes ps) ≡ true → (ofBytes ps ≡ true → AllBytes ps) → AllBytes (p ∷ ps)
+    go : (b : Bool) → under 256 p ≡ b → (b && ofBytes ps) ≡ true → (ofBytes ps ≡ true → Each AreBytes ps) → Each AreBytes (p ∷ ps)
     go true h e rest = (are-bytes p h, rest e)
     go false h e rest = absurd (false≢true e)
 

@@ -17,7 +17,7 @@ use Rattle.reading.specs.Read.{reading, outcome, accepting}
 use Rattle.reading.proofs.Cases.{by-test}
 use Rattle.reading.proofs.Rows.{one-type}
 use Rattle.reading.proofs.Kept.{other-type}
-use Rattle.sending.specs.Sending.{Each}
+use Rattle.lists.specs.Each.{Each}
 use Rattle.promises.specs.Statements.{statusOf, responseLeft, ResponsesFromUs}
 use Rattle.promises.proofs.Status.{_and_, writes, nothing-written, refused-so, stream-silent, said-status, responses-exactly}
 

@@ -22,7 +22,7 @@ use Rattle.reading.specs.Read.{reading, outcome, leaving, accepting}
 use Rattle.reading.proofs.Cases.{by-test}
 use Rattle.reading.proofs.Rows.{one-type}
 use Rattle.reading.proofs.Kept.{other-type}
-use Rattle.sending.specs.Sending.{Each}
+use Rattle.lists.specs.Each.{Each}
 use Rattle.promises.specs.Statements.{statuses, statusIn, statusOf, responseLeft, ResponsesExactly}
 use Rattle.promises.proofs.Exactly.{chosen, number-said}
 

@@ -6,7 +6,8 @@ use mathlib.Core.Bool.{false}
 use native.Mathlib.Omega.{arith}
 use Rattle.sizes.specs.Sizes.{badMTU}
 use Rattle.refusal19.proofs.Good.{mtu-fits}
-use Rattle.sending.specs.Sending.{Sent, FlowSent, Sending, Each, FairPDU, FairFlow, FairAnyLoss, Fair}
+use Rattle.lists.specs.Each.{Each}
+use Rattle.sending.specs.Sending.{Sent, FlowSent, Sending, FairPDU, FairFlow, FairAnyLoss, Fair}
 
 each : {A : Type 0} (P Q : A → Type 0) → ((x : A) → P x → Q x) → (xs : List A) → Each P xs → Each Q xs
 each P Q f [] e = tt

@@ -5,6 +5,7 @@ use mathlib.Core.List.{List, [], _∷_, _++_}
 use mathlib.Core.Bool.{true, cond}
 use lib.ListN.{length}
 use lib.Dec.{ltb}
+use Rattle.lists.specs.Each.{Each}
 use Rattle.records.specs.Records.{records, recordsOf}
 
 -- a length below 16,384 in one byte or two
@@ -20,8 +21,7 @@ writtenLog (packet ∷ packets) = writtenRecord packet ++ writtenLog packets
 
 -- every packet is short enough for a length of two bytes
 abbrev pub AllShort : List (List ℕ) → Type 0
-AllShort [] = Unit {0}
-AllShort (packet ∷ packets) = (length packet < 16384) × AllShort packets
+AllShort = Each (λ (packet : List ℕ). length packet < 16384)
 
 -- a written log reads back as its records
 abbrev pub LogReadsBack : Type 0

@@ -10,7 +10,8 @@ use Rattle.wire.specs.Type9.{sameFlow, segmentOf}
 use Rattle.flows.specs.OneFlow.{PDU, Told, held, delivered, refused}
 use Rattle.flows.specs.Board.{Board, Delivery, delivery, deliveredBy, read, after, room, view}
 use Rattle.flows.specs.ByFlow.{among, Tells, OwnFlow, ByFlow}
-use Rattle.sending.specs.Sending.{tell, deliveries, Each}
+use Rattle.lists.specs.Each.{Each}
+use Rattle.sending.specs.Sending.{tell, deliveries}
 use Rattle.sending.specs.OneFlow.{packetStep, deliveredPDU, also, flowDeliveries}
 use Rattle.flows.proofs.Flows.{same-refl}
 use Rattle.sending.proofs.OneFlow.{Proper}

@@ -14,7 +14,8 @@ use borrow.Author.Tests.{eqb-true, eq-eqb, ne-eqb, leb-true}
 use Rattle.wire.specs.declared.Flow.{Flow}
 use Rattle.flows.specs.OneFlow.{PDU, pdu}
 use Rattle.flows.specs.Board.{delivery}
-use Rattle.sending.specs.Sending.{Each, Sent, isLost, packetCount, Put, putOf, putsFrom, flowPuts, FairPDU, Ranges}
+use Rattle.lists.specs.Each.{Each}
+use Rattle.sending.specs.Sending.{Sent, isLost, packetCount, Put, putOf, putsFrom, flowPuts, FairPDU, Ranges}
 use Rattle.sending.specs.OneFlow.{flowDeliveries, arriving}
 use Rattle.sending.specs.Joint.{isJoint, jointPDU, pairPackets, JointExactly, JointOnly, JointLength, JointDelivered}
 use Rattle.sending.proofs.Steps.{mtu-pos, inner-size}

@@ -12,7 +12,8 @@ use Rattle.wire.specs.Type9.{sameFlow}
 use Rattle.sizes.specs.Sizes.{badMTU}
 use Rattle.cutting.specs.Cutting.{isFinal}
 use Rattle.flows.specs.OneFlow.{PDU}
-use Rattle.sending.specs.Sending.{Sent, packetCount, isWhole, Put, putOf, putsFrom, flowPuts, FlowSent, Turn, next, message, sentOn, Event, put, sent, headOf, advance, events, queues, tell, wholes, Each, FairPDU, FairFlow}
+use Rattle.lists.specs.Each.{Each}
+use Rattle.sending.specs.Sending.{Sent, packetCount, isWhole, Put, putOf, putsFrom, flowPuts, FlowSent, Turn, next, message, sentOn, Event, put, sent, headOf, advance, events, queues, tell, wholes, FairPDU, FairFlow}
 use Rattle.sending.specs.OneFlow.{also}
 use Rattle.sending.specs.Meaning.{putBy, toCome, InOrder, intact, fromFlow, WholeIsIntact}
 use Rattle.sending.proofs.Steps.{count-pos}

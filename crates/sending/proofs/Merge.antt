@@ -19,7 +19,8 @@ use Rattle.wire.specs.Parsed.{parsed, parsedByType}
 use Rattle.flows.specs.OneFlow.{PDU}
 use Rattle.flows.specs.Board.{Board, Delivery, deliveredBy, read, after, room, view}
 use Rattle.flows.specs.ByFlow.{among, AreBytes, NoFlow, ByFlow}
-use Rattle.sending.specs.Sending.{Put, flowPuts, FlowSent, Turn, next, message, sentOn, flowsOf, Event, sent, headOf, advance, events, queues, packetsLeft, tell, wholes, whole, deliveries, Each, FairFlow, FairTurn}
+use Rattle.lists.specs.Each.{Each}
+use Rattle.sending.specs.Sending.{Put, flowPuts, FlowSent, Turn, next, message, sentOn, flowsOf, Event, sent, headOf, advance, events, queues, packetsLeft, tell, wholes, whole, deliveries, FairFlow, FairTurn}
 use Rattle.sending.specs.OneFlow.{packetStep, deliveredPDU}
 use Rattle.flows.proofs.Flows.{same-true}
 use Rattle.sending.specs.OfSendings.{DeliveredIsWhole, DeliveredIsWholeAnyLoss, firstTurns, DeliveredAtEveryTurn, SamePacketsSameWhole}

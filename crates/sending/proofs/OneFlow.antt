@@ -17,7 +17,8 @@ use Rattle.wire.specs.Parsed.{parsed}
 use Rattle.cutting.specs.Cutting.{segmentData, isFinal, packetOf}
 use Rattle.flows.specs.OneFlow.{PDU, pdu, Told, held, delivered, refused, flowOutcome, isOpen}
 use Rattle.flows.specs.ByFlow.{AreBytes}
-use Rattle.sending.specs.Sending.{Sent, isLost, packetCount, lossesFrom, losses, isWhole, Put, headingFor, putOf, putsFrom, flowPuts, Each, FairPDU, Apart, Ranges}
+use Rattle.lists.specs.Each.{Each}
+use Rattle.sending.specs.Sending.{Sent, isLost, packetCount, lossesFrom, losses, isWhole, Put, headingFor, putOf, putsFrom, flowPuts, FairPDU, Apart, Ranges}
 use Rattle.sending.specs.OneFlow.{packetStep, deliveredPDU}
 use Rattle.sending.proofs.Losses.{none-lost}
 use Rattle.sending.proofs.Steps.{mtu-pos, packet-read, packet-bytes, packet-flow, final-is, inner-is, some-packet, last-size, inner-size, data-behind, all-taken, at-single, at-start, at-inner, at-last, at-last-wrong, at-closed}

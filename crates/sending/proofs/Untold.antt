@@ -18,7 +18,8 @@ use Rattle.sizes.specs.Sizes.{badMTU}
 use Rattle.flows.specs.OneFlow.{PDU}
 use Rattle.flows.specs.Board.{Delivery, delivery}
 use Rattle.flows.proofs.Flows.{same-refl}
-use Rattle.sending.specs.Sending.{Sent, isLost, priorityOf, packetCount, lossesFrom, losses, isWhole, Put, headingFor, putOf, putsFrom, flowPuts, next, headOf, advance, events, queues, packetsLeft, tell, wholes, packets, whole, Each, FairPDU, FairTurn}
+use Rattle.lists.specs.Each.{Each}
+use Rattle.sending.specs.Sending.{Sent, isLost, priorityOf, packetCount, lossesFrom, losses, isWhole, Put, headingFor, putOf, putsFrom, flowPuts, next, headOf, advance, events, queues, packetsLeft, tell, wholes, packets, whole, FairPDU, FairTurn}
 use Rattle.sending.specs.Meaning.{intact}
 use Rattle.sending.specs.OneFlow.{also, arriving}
 use Rattle.sending.specs.Joint.{isJoint, jointPDU, pairPackets, Pair, jointSent, inTurn, JointUntold}

@@ -6,6 +6,7 @@ use mathlib.Core.Bool.{Bool, true, false, cond, _||_, _&&_}
 use mathlib.Core.Option.{Option, none, some}
 use lib.ListN.{length, getD}
 use lib.Dec.{eqb}
+use Rattle.lists.specs.Each.{Each}
 use Rattle.wire.specs.Packet.{packetType}
 use Rattle.wire.specs.declared.Flow.{Flow}
 use Rattle.wire.specs.Type9.{sameFlow}
@@ -160,11 +161,6 @@ deliveries b [] = []
 deliveries b (p ∷ ps) = deliveredBy (room (after b p)) (after b p .streamMemory) (read b p .says) ++ deliveries (after b p) ps
 
 -- ---- The premises
-
--- it holds of each
-abbrev pub Each : {A : Type 0} → (A → Type 0) → List A → Type 0
-Each P [] = Unit {0}
-Each P (x ∷ xs) = P x × Each P xs
 
 -- what all PDUs of a flow share is in its range
 pub record Ranges (device mtu R : ℕ) (flow : Flow) : Type 0 where
