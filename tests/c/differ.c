@@ -793,6 +793,12 @@ int main(int argc, char **argv)
     for (size_t i = 0; i < sizeof needed / sizeof needed[0] && total >= 10000; i++)
         if (refusals[needed[i]] == 0)
             fail("refusal %u did not occur", needed[i]);
+    for (size_t i = 0; i < sizeof kinds / sizeof kinds[0] && total >= 10000; i++)
+        if (kinds[i] == 0)
+            fail("answer %zu did not occur", i);
+    for (size_t i = 0; i < sizeof stops / sizeof stops[0] && total >= 10000; i++)
+        if (stops[i] == 0)
+            fail("no burst stopped by %zu", i);
     printf("no difference\n");
     return 0;
 }

@@ -9,6 +9,7 @@
 #include <stdlib.h>
 #include <string.h>
 #include <sys/mman.h>
+#include <ucontext.h>
 #include <unistd.h>
 
 #include "kaiverohm.h"
@@ -418,6 +419,21 @@ static void bursts(void)
     BURST(REPLY - 1, 27, MESSAGE, 0, KAIVEROHM_BURST_REFUSED, 19, 0, 0);
     WANT(changed() == 0);
     BURST(64, 27, "\x05", 0, KAIVEROHM_BURST_REFUSED, 19, 0, 0);
+    /* the other lengths, each one off */
+    for (int i = 0; i < 6; i++) {
+        int more = i % 2 ? 1 : -1;
+        size_t words = WORDS + (i / 2 == 0 ? (size_t)more : 0);
+        size_t streams = STREAM_MEMORY + (i / 2 == 1 ? (size_t)more : 0);
+        size_t memory = KAIVEROHM_MESSAGE_MEMORY + (i / 2 == 2 ? (size_t)more : 0);
+        fresh();
+        keep();
+        struct kaiverohm_burst b = kaiverohm_read_burst(
+            state(words), words, streams_end - streams, streams, messages_end - memory, memory,
+            response_end - SLOT, SLOT, (uint64_t *)(void *)(reports_end - 8 * REPORT), REPORT,
+            packet_end, 0, 0);
+        says(b, KAIVEROHM_BURST_REFUSED, 12, 0, 0, __LINE__);
+        WANT(changed() == 0);
+    }
 }
 
 /* ---- abandoning, rooms */
@@ -568,6 +584,39 @@ static void writer(void)
     WANT(kaiverohm_segment_count(UINT64_MAX - 3, 40) == 0);
 }
 
+/* ---- the stack: calls on one of their own, which is filled before */
+
+static uint8_t stack[32768];
+static ucontext_t outside, inside;
+
+static void calls(void)
+{
+    lent(WORDS, STREAM_MEMORY, KAIVEROHM_MESSAGE_MEMORY, REPLY, START("\x09"));
+    lent(WORDS, STREAM_MEMORY, KAIVEROHM_MESSAGE_MEMORY, REPLY, MADE("\x1b\x01\x02\x00\x09\x1a\x01", 16));
+    burst(64, 27, MESSAGE MESSAGE, sizeof MESSAGE MESSAGE - 1, 0);
+    kaiverohm_abandon_stream(state(WORDS), WORDS, 0);
+    kaiverohm_abandon_message(state(WORDS), WORDS, 0);
+    struct kaiverohm_heading h = {.destination = 1, .source = 2, .stream = 3, .cos = 4, .priority = 0};
+    kaiverohm_write_segment(reports_end - 64, 64, h, MTU, packet_end - 100, 100, 3);
+}
+
+static void stacks(void)
+{
+    fresh();
+    memset(stack, 0xa7, sizeof stack);
+    WANT(getcontext(&inside) == 0);
+    inside.uc_stack.ss_sp = stack;
+    inside.uc_stack.ss_size = sizeof stack;
+    inside.uc_link = &outside;
+    makecontext(&inside, calls, 0);
+    WANT(swapcontext(&outside, &inside) == 0);
+    size_t used = sizeof stack;
+    while (stack[sizeof stack - used] == 0xa7)
+        used--;
+    printf("edges: at most %zu bytes of stack\n", used);
+    WANT(used <= 2048);
+}
+
 int main(void)
 {
     state_end = fenced(sizeof kept.state) + sizeof kept.state;
@@ -585,6 +634,7 @@ int main(void)
     abandons();
     rooms();
     writer();
+    stacks();
     printf("edges: %u checks\n", checks);
     return 0;
 }
