@@ -20,6 +20,9 @@ enum {
     REPORT = KAIVEROHM_REPORT_WORDS, STREAM_MEMORY = KAIVEROHM_STREAM_CONTEXTS * ROOM
 };
 
+/* A number whose low 32 bits are 0. */
+#define FAR (UINT64_C(1) << 32)
+
 static unsigned checks;
 
 #define WANT(test) want((test), #test, __LINE__)
@@ -175,21 +178,20 @@ static int setup_says(size_t words, uint16_t device, uint64_t mtu, uint64_t room
 
 static void setups(void)
 {
-    static const uint64_t far = UINT64_C(1) << 32;
     WANT(kaiverohm_state_length() == WORDS);
     WANT(setup_says(0, 1, 33, 0) == 12);
     WANT(setup_says(WORDS - 1, 1, MTU, ROOM) == 12);
     WANT(setup_says(WORDS + 1, 1, MTU, ROOM) == 12);
     for (uint64_t mtu = 0; mtu < 300; mtu++)
         WANT(setup_says(WORDS, 1, mtu, 65536) == (mtu < 32 || mtu > 256 || mtu % 4 ? 18 : 0));
-    WANT(setup_says(WORDS, 1, far + MTU, ROOM) == 18);
+    WANT(setup_says(WORDS, 1, FAR + MTU, ROOM) == 18);
     WANT(setup_says(WORDS, 1, UINT64_MAX - 3, UINT64_MAX) == 18);
     WANT(setup_says(WORDS, 1, 33, 0) == 18);
     WANT(setup_says(WORDS, 1, MTU, MTU - 1) == 19);
     WANT(setup_says(WORDS, 0, MTU, MTU) == 0);
     WANT(setup_says(WORDS, 0xffff, 256, 65536) == 0);
     WANT(setup_says(WORDS, 1, 256, 65537) == 19);
-    WANT(setup_says(WORDS, 1, MTU, far + ROOM) == 19);
+    WANT(setup_says(WORDS, 1, MTU, FAR + ROOM) == 19);
     WANT(setup_says(WORDS, 1, MTU, UINT64_MAX) == 19);
 }
 
@@ -246,6 +248,82 @@ static void states(void)
     state(WORDS)[8] = UINT64_MAX;
     REFUSES(MADE("\x19\x01\x02\x00\x09\x05\x00", 31), 6, 1, STATE);
     WANT(state(WORDS)[3] == 7 && zeros(state(WORDS) + 8, 40));
+}
+
+/* ---- row 19, in every context: the paper's words once more */
+
+#define EACH(number, list) for (size_t number = 0; number < sizeof list / sizeof list[0]; number++)
+
+static int is_state(void)
+{
+    return kaiverohm_stream_room(state(WORDS), WORDS, STREAM_MEMORY, 1, 1).length == 1;
+}
+
+static int bad_message(uint64_t msglen, uint64_t ssize, uint64_t marks, uint64_t last)
+{
+    if (ssize < 9 || ssize > 14 || msglen == 0 || msglen > 15)
+        return 1;
+    uint64_t whole = (UINT64_C(2) << msglen) - 1;
+    if (marks == 0 || marks >= whole)
+        return 1;
+    if ((marks >> msglen & 1) == 0)
+        return last != 0;
+    return last < 8 || last > UINT64_C(8) << (ssize - 9) || last % 8 != 0;
+}
+
+static void row_19(void)
+{
+    static const uint64_t open[] = {0, 1, 2, FAR, UINT64_MAX};
+    static const uint64_t held[] = {0, 1, ROOM - 1, ROOM, ROOM + 1, FAR, FAR + 1, UINT64_MAX};
+    static const uint64_t msglen[] = {0, 1, 2, 15, 16, FAR + 1, UINT64_MAX};
+    static const uint64_t ssize[] = {0, 8, 9, 10, 14, 15, 16, 25, FAR + 9, UINT64_MAX};
+    static const uint64_t marks[] = {0, 1, 2, 3, 4, 5, 7, 8, 0x7fff, 0x8000, 0xfffe, 0xffff, 0x10000,
+                                     FAR + 1, UINT64_MAX};
+    static const uint64_t last[] = {0, 4, 7, 8, 9, 16, 24, 256, 264, FAR, FAR + 8, UINT64_MAX - 7};
+    fresh();
+    for (size_t n = 0; n < KAIVEROHM_STREAM_CONTEXTS; n++) {
+        uint64_t *c = state(WORDS) + 3 + 5 * n;
+        EACH(o, open) EACH(h, held) {
+            c[0] = open[o];
+            c[4] = held[h];
+            WANT(is_state() == !(open[o] != 0 && (held[h] == 0 || held[h] > ROOM)));
+        }
+        memset(c, 0, 40);
+    }
+    for (size_t n = 0; n < KAIVEROHM_MESSAGE_CONTEXTS; n++) {
+        uint64_t *c = state(WORDS) + 83 + 8 * n;
+        EACH(o, open) EACH(m, msglen) EACH(z, ssize) EACH(k, marks) EACH(l, last) {
+            c[0] = open[o];
+            c[4] = msglen[m];
+            c[5] = ssize[z];
+            c[6] = marks[k];
+            c[7] = last[l];
+            WANT(is_state() == !(open[o] != 0 && bad_message(c[4], c[5], c[6], c[7])));
+        }
+        memset(c, 0, 64);
+    }
+    /* A number of a context counts with all its 64 bits. */
+    for (size_t n = 0; n < KAIVEROHM_STREAM_CONTEXTS; n++)
+        for (size_t word = 1; word < 3; word++) {
+            uint64_t *c = state(WORDS) + 3 + 5 * n;
+            fresh();
+            const uint64_t open_one[] = {1, 9, 5, 7, MTU};
+            memcpy(c, open_one, sizeof open_one);
+            c[word] += FAR;
+            REFUSES(MADE("\x19\x01\x02\x00\x09\x05\x00", MTU), 8, 0, 0);
+            c[word] -= FAR;
+            WANT(read_it(MADE("\x19\x01\x02\x00\x09\x05\x00", MTU)).kind == KAIVEROHM_HELD);
+        }
+    for (size_t n = 0; n < KAIVEROHM_MESSAGE_CONTEXTS; n++)
+        for (size_t word = 1; word < 4; word++) {
+            uint64_t *c = state(WORDS) + 83 + 8 * n;
+            fresh();
+            const uint64_t open_one[] = {1, 9, 1, 2, 1, 9, 1, 0};
+            memcpy(c, open_one, sizeof open_one);
+            REFUSES(MADE("\x1b\x01\x02\x00\x09\x19\x60", 8), 24, 0, RESPONSE);
+            c[word] += FAR;
+            WANT(read_it(MADE("\x1b\x01\x02\x00\x09\x19\x60", 8)).kind == KAIVEROHM_HELD);
+        }
 }
 
 static void rows(void)
@@ -545,7 +623,6 @@ static int writes(size_t out, uint64_t mtu, uint8_t priority, size_t pdu, uint64
 
 static void writer(void)
 {
-    const uint64_t far = UINT64_C(1) << 32;
     int longest = 0;
     for (uint64_t mtu = 32; mtu <= 256; mtu += mtu < 64 ? 4 : 64)
         for (size_t pdu = 1; pdu < 3 * mtu; pdu += 1 + pdu % 7) {
@@ -562,13 +639,13 @@ static void writer(void)
         }
     WANT(longest == KAIVEROHM_LARGEST_PACKET);
     WANT(writes(0, 33, 4, 0, 9) == -18);
-    WANT(writes(0, far + 32, 4, 0, 9) == -18);
+    WANT(writes(0, FAR + 32, 4, 0, 9) == -18);
     WANT(writes(0, 32, 4, 0, 9) == -17);
     WANT(writes(0, 32, 255, 0, 9) == -17);
     WANT(writes(0, 32, 3, 0, 9) == -14);
     WANT(writes(0, 32, 3, KAIVEROHM_LARGEST_PDU + 1, UINT64_MAX) == -14);
     WANT(writes(0, 32, 3, KAIVEROHM_LARGEST_PDU, 2048) == -15);
-    WANT(writes(0, 32, 3, 40, far) == -15);
+    WANT(writes(0, 32, 3, 40, FAR) == -15);
     WANT(writes(0, 32, 3, 40, UINT64_MAX) == -15);
     WANT(writes(0, 32, 3, 40, 0) == -16);
     WANT(writes(265, 32, 3, KAIVEROHM_LARGEST_PDU, 2047) == 41);
@@ -576,11 +653,11 @@ static void writer(void)
     WANT(kaiverohm_segment_count(32, KAIVEROHM_LARGEST_PDU) == 2048);
     WANT(kaiverohm_segment_count(32, KAIVEROHM_LARGEST_PDU + 1) == 0);
     WANT(kaiverohm_segment_count(32, UINT64_MAX) == 0);
-    WANT(kaiverohm_segment_count(32, far + 1) == 0);
+    WANT(kaiverohm_segment_count(32, FAR + 1) == 0);
     WANT(kaiverohm_segment_count(32, 0) == 0);
     WANT(kaiverohm_segment_count(33, 40) == 0);
     WANT(kaiverohm_segment_count(0, 40) == 0);
-    WANT(kaiverohm_segment_count(far + 32, 40) == 0);
+    WANT(kaiverohm_segment_count(FAR + 32, 40) == 0);
     WANT(kaiverohm_segment_count(UINT64_MAX - 3, 40) == 0);
 }
 
@@ -628,6 +705,7 @@ int main(void)
     setups();
     lengths();
     states();
+    row_19();
     rows();
     messages();
     bursts();
