@@ -3,6 +3,8 @@
 #     make            the archive and the example
 #     make test       the tests from C
 #     make install    archive, header and pkg-config file, below $(DESTDIR)$(PREFIX)
+#     make uninstall  removes these three
+#     make clean      removes all that was built, the proofs too: the next make proves anew, which takes minutes
 PREFIX ?= /usr/local
 VERSION = 0.1
 
@@ -34,13 +36,16 @@ test: $(archive)
 	tests/c/run
 
 install: $(archive)
-	install -d $(DESTDIR)$(PREFIX)/lib/pkgconfig $(DESTDIR)$(PREFIX)/include
-	install -m 644 $(archive) $(DESTDIR)$(PREFIX)/lib/
-	install -m 644 include/kaiverohm.h $(DESTDIR)$(PREFIX)/include/
+	install -d '$(DESTDIR)$(PREFIX)/lib/pkgconfig' '$(DESTDIR)$(PREFIX)/include'
+	install -m 644 $(archive) '$(DESTDIR)$(PREFIX)/lib/'
+	install -m 644 include/kaiverohm.h '$(DESTDIR)$(PREFIX)/include/'
 	sed -e 's|@PREFIX@|$(PREFIX)|' -e 's|@VERSION@|$(VERSION)|' kaiverohm.pc.in >target/kaiverohm.pc
-	install -m 644 target/kaiverohm.pc $(DESTDIR)$(PREFIX)/lib/pkgconfig/
+	install -m 644 target/kaiverohm.pc '$(DESTDIR)$(PREFIX)/lib/pkgconfig/'
+
+uninstall:
+	rm -f '$(DESTDIR)$(PREFIX)/lib/libkaiverohm.a' '$(DESTDIR)$(PREFIX)/include/kaiverohm.h' '$(DESTDIR)$(PREFIX)/lib/pkgconfig/kaiverohm.pc'
 
 clean:
 	rm -rf target
 
-.PHONY: all example test install clean
+.PHONY: all example test install uninstall clean

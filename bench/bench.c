@@ -10,7 +10,7 @@
 #include <string.h>
 #include <time.h>
 
-enum { PACKETS = 2048, LONGEST = 300, STATE = 147, ROOM = 4096 };
+enum { PACKETS = 2048, LONGEST = 300, STATE = KAIVEROHM_STATE_WORDS, ROOM = 4096 };
 
 static uint8_t packets[PACKETS][LONGEST];
 static size_t lengths[PACKETS];
@@ -161,20 +161,48 @@ static const struct {
                  {"unchecked", round_unchecked},
                  {"memcpy", round_memcpy}};
 
-/* library and twin give the same answers */
+static void same(int holds, const char *what, size_t packet)
+{
+    if (holds)
+        return;
+    fprintf(stderr, "bench: %s differ at packet %zu\n", what, packet);
+    exit(1);
+}
+
+/* Library and twin give the same answers, and leave the same states, responses and memories. So does the burst call. */
 static void agree(void)
 {
+    static uint8_t twin_streams[sizeof streams], twin_messages[sizeof messages], twin_response[sizeof response];
+    static struct kaiverohm_report answers[PACKETS];
+    static uint8_t answered[PACKETS][7];
     for (size_t i = 0; i < count; i++) {
         struct kaiverohm_report a = kaiverohm_read(state, STATE, streams, 16 * ROOM, messages, 32768, response, 7,
                                                    packets[i], lengths[i]);
-        struct twin_report b =
-            twin_read(&twin, streams, 16 * ROOM, messages, 32768, response, 7, packets[i], lengths[i]);
-        if (a.kind != b.kind || a.number != b.number || a.dropped != b.dropped || a.context != b.context ||
-            a.source != b.source || a.length != b.length || memcmp(state, &twin, sizeof twin) != 0) {
-            fprintf(stderr, "bench: library and twin differ at packet %zu\n", i);
-            exit(1);
-        }
+        struct twin_report b = twin_read(&twin, twin_streams, 16 * ROOM, twin_messages, 32768, twin_response, 7,
+                                         packets[i], lengths[i]);
+        same(a.kind == b.kind && a.number == b.number && a.dropped == b.dropped && a.context == b.context &&
+                 a.source == b.source && a.cos_or_letter == b.cos_or_letter &&
+                 a.stream_or_mailbox == b.stream_or_mailbox && a.length == b.length,
+             "answers", i);
+        same(memcmp(state, &twin, sizeof twin) == 0, "states", i);
+        same(memcmp(response, twin_response, sizeof response) == 0, "responses", i);
+        if (a.kind == KAIVEROHM_DELIVERED)
+            same(memcmp(streams + a.context * ROOM, twin_streams + a.context * ROOM, a.length) == 0, "PDUs", i);
+        if (a.kind == KAIVEROHM_MESSAGE)
+            same(memcmp(messages + a.context * 4096, twin_messages + a.context * 4096, a.length) == 0, "messages", i);
+        answers[i] = a;
+        memcpy(answered[i], response, sizeof response);
     }
+    same(memcmp(streams, twin_streams, sizeof streams) == 0, "stream memories", count);
+    same(memcmp(messages, twin_messages, sizeof messages) == 0, "message memories", count);
+
+    struct kaiverohm_burst b = kaiverohm_read_burst(state, STATE, streams, 16 * ROOM, messages, 32768, responses,
+                                                    sizeof responses, reports, PACKETS * 9, burst, burst_length, 0);
+    same(b.stop == KAIVEROHM_BURST_END && b.count == count, "bursts", b.count);
+    same(memcmp(reports, answers, count * sizeof answers[0]) == 0, "reports of a burst", count);
+    same(memcmp(state, &twin, sizeof twin) == 0, "states behind a burst", count);
+    for (size_t i = 0; i < count; i++)
+        same(answers[i].response == 0 || memcmp(responses + 8 * i, answered[i], 7) == 0, "responses of a burst", i);
 }
 
 int main(int argc, char **argv)

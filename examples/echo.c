@@ -1,17 +1,62 @@
 /* Sets an endpoint up, cuts a PDU into packets, reads them back through the
    library and prints what comes out. */
 
+#include <inttypes.h>
 #include <stdio.h>
 
 #include "kaiverohm.h"
 
 enum { DEVICE = 1, MTU = 32, ROOM = 2048 };
 
-/* All that an endpoint keeps. These may stand anywhere in memory. */
+/* All that an endpoint keeps. These may stand anywhere in memory that is the
+   endpoint's alone; an array of uint64_t begins at a multiple of 8. */
 static uint64_t state[KAIVEROHM_STATE_WORDS];
 static uint8_t streams[KAIVEROHM_STREAM_CONTEXTS * ROOM];
 static uint8_t messages[KAIVEROHM_MESSAGE_MEMORY];
 static uint8_t response[KAIVEROHM_RESPONSE_BYTES];
+
+static void print_part(const uint8_t *memory, struct kaiverohm_place place)
+{
+    fwrite(memory + place.offset, 1, place.length, stdout);
+    printf("\n");
+}
+
+/* What a board does with a packet that came. Answers whether it was accepted. */
+static int packet_came(const uint8_t *packet, size_t length)
+{
+    struct kaiverohm_report report = kaiverohm_read(
+        state, KAIVEROHM_STATE_WORDS, streams, sizeof streams, messages, sizeof messages,
+        response, sizeof response, packet, length);
+
+    switch (report.kind) {
+    case KAIVEROHM_HELD:
+        printf("held\n");
+        break;
+    case KAIVEROHM_DELIVERED:
+        /* Its bytes are in our own memory. The next packet may write over them. */
+        printf("delivered, source %" PRIu64 ", cos %" PRIu64 ", stream %" PRIu64 "\n",
+               report.source, report.cos_or_letter, report.stream_or_mailbox);
+        print_part(streams, kaiverohm_stream_room(state, KAIVEROHM_STATE_WORDS, sizeof streams,
+                                                  report.context, report.length));
+        break;
+    case KAIVEROHM_MESSAGE:
+        printf("message, source %" PRIu64 ", letter %" PRIu64 ", mailbox %" PRIu64 "\n",
+               report.source, report.cos_or_letter, report.stream_or_mailbox);
+        print_part(messages, kaiverohm_message_room(state, KAIVEROHM_STATE_WORDS, sizeof messages,
+                                                    report.context, report.length));
+        break;
+    default:
+        printf("refused: %" PRIu64 "\n", report.number);
+        break;
+    }
+    /* A packet, refused or not, may have given an unfinished PDU of its flow up. */
+    if (report.dropped)
+        printf("an unfinished PDU was dropped\n");
+    /* A message segment has a response, which goes back to its sender. */
+    if (report.response)
+        printf("a response of %" PRIu64 " bytes is to be sent\n", report.response);
+    return report.kind != KAIVEROHM_REFUSED;
+}
 
 int main(void)
 {
@@ -24,45 +69,27 @@ int main(void)
     struct kaiverohm_answer answer =
         kaiverohm_setup(state, KAIVEROHM_STATE_WORDS, DEVICE, MTU, ROOM);
     if (answer.kind != KAIVEROHM_READY) {
-        printf("setup refused: %llu\n", (unsigned long long)answer.number);
+        printf("setup refused: %" PRIu64 "\n", answer.number);
         return 1;
     }
 
+    /* 0 for an MTU or a length that the writer would refuse */
     uint64_t count = kaiverohm_segment_count(MTU, length);
-    printf("%zu bytes make %llu packets\n", length, (unsigned long long)count);
+    printf("%zu bytes make %" PRIu64 " packets\n", length, count);
+    if (count == 0)
+        return 1;
 
     for (uint64_t k = 0; k < count; k++) {
-        uint8_t packet[MTU + 9];
+        uint8_t packet[KAIVEROHM_LARGEST_PACKET];
         answer = kaiverohm_write_segment(packet, sizeof packet, heading, MTU,
                                          (const uint8_t *)text, length, k);
         if (answer.kind != KAIVEROHM_WRITTEN) {
-            printf("writer refused: %llu\n", (unsigned long long)answer.number);
+            printf("writer refused: %" PRIu64 "\n", answer.number);
             return 1;
         }
-        printf("packet %llu, %llu bytes: ", (unsigned long long)k,
-               (unsigned long long)answer.number);
-
-        struct kaiverohm_report report = kaiverohm_read(
-            state, KAIVEROHM_STATE_WORDS, streams, sizeof streams, messages, sizeof messages,
-            response, sizeof response, packet, answer.number);
-        switch (report.kind) {
-        case KAIVEROHM_HELD:
-            printf("held\n");
-            break;
-        case KAIVEROHM_DELIVERED: {
-            printf("delivered, source %llu, cos %llu, stream %llu\n",
-                   (unsigned long long)report.source,
-                   (unsigned long long)report.cos_or_letter,
-                   (unsigned long long)report.stream_or_mailbox);
-            struct kaiverohm_place place = kaiverohm_stream_room(
-                state, KAIVEROHM_STATE_WORDS, sizeof streams, report.context, report.length);
-            printf("%.*s\n", (int)place.length, (const char *)streams + place.offset);
-            break;
-        }
-        default:
-            printf("refused: %llu\n", (unsigned long long)report.number);
+        printf("packet %" PRIu64 ", %" PRIu64 " bytes: ", k, answer.number);
+        if (!packet_came(packet, answer.number))
             return 1;
-        }
     }
     return 0;
 }

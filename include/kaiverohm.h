@@ -21,10 +21,15 @@
      5. No buffer ends past the end of the address space, and none is longer
         than 2^63 - 1 bytes.
 
-   Nothing else is asked. A buffer of another length than the endpoint needs
-   is refused by its number. A state that no call could have left is refused
-   by its number or read as it stands, and every byte written is one that the
-   promise names.
+   Nothing else is asked. A buffer of another length than the call needs is
+   answered as the call says below: most often by a refusal. A state that no
+   call could have left is refused by its number or read as it stands, and every
+   byte written is one that the promise names.
+
+   The code is for x86-64 with the System V calling convention. It uses the SSE2
+   registers and the red zone, as programs may and an interrupt handler often
+   may not. No call took more than 2,048 bytes of stack (tests/c/edges.c): that
+   is measured, and no proof bounds it.
 
    'The paper' is the association's document 01, 'The rack endpoint and its
    rules'. Numbers of refusals are those of its table. 'All stays' means: no
@@ -58,8 +63,8 @@
 #include <stddef.h>
 #include <stdint.h>
 
-#if !defined(__x86_64__) || defined(__ILP32__)
-#error "libkaiverohm.a is for x86-64 with 64-bit pointers"
+#if !defined(__x86_64__) || defined(__ILP32__) || defined(_WIN32) || defined(__CYGWIN__)
+#error "libkaiverohm.a is for x86-64 with 64-bit pointers and the System V calling convention"
 #endif
 
 #ifdef __cplusplus
@@ -108,8 +113,9 @@ struct kaiverohm_answer {
 struct kaiverohm_report {
     uint64_t kind;              /* refused, held, delivered or message */
     uint64_t number;            /* refused: the refusal */
-    uint64_t dropped;           /* any kind: 1 where this packet closed an open
-                                   stream context undelivered */
+    uint64_t dropped;           /* any kind: 1 where this packet gave an unfinished
+                                   PDU up: refused 6, 7, 9 or 11, or a start or
+                                   single on a flow that had one. Else 0 */
     uint64_t response;          /* any kind: bytes of response written, 7 or 0 */
     uint64_t context;           /* delivered, message: the context, so the room */
     uint64_t source;            /* delivered, message: who sent it */
@@ -123,7 +129,7 @@ struct kaiverohm_burst {
     uint64_t stop;    /* why it stopped */
     uint64_t number;  /* refused: the refusal. Else 0 */
     uint64_t count;   /* the packets read, so the reports written */
-    uint64_t next;    /* where the first record that was not read begins */
+    uint64_t next;    /* the byte of burst where the first unread record begins */
 };
 
 /* A part of a memory of yours. */
@@ -152,6 +158,7 @@ uint64_t kaiverohm_state_length(void);
      12  the state has another length than 147. All stays.
      18  the MTU is no multiple of 4 from 32 to 256. The state is zeros.
      19  R is under the MTU or over 65,536. The state is zeros.
+   A state of zeros is none: reading and abandoning refuse it by 19.
    Promise: crates/kaiverohm/specs/Exports.antt, SetupFromCPromise. */
 struct kaiverohm_answer kaiverohm_setup(uint64_t *state, size_t state_words,
                                         uint16_t device, uint64_t mtu, uint64_t room);
@@ -164,14 +171,19 @@ struct kaiverohm_answer kaiverohm_setup(uint64_t *state, size_t state_words,
    response:       7 bytes or more. The first 7 may be written.
    packet:         any number of bytes, read.
    Answers HELD, DELIVERED, MESSAGE or REFUSED by the first row of the paper's
-   table that holds: 19, 12, 1 to 11, 20 to 25.
+   table that holds. 19 and 12, where a state of another length than 147 is 12;
+   1 (under 5 bytes), 2, 3, 4; 1 (under 7 bytes); then for type 9: 5; 1 (a start,
+   an end or a single, under 9 bytes); 6 to 11; for type 11: 20 to 25.
      type 9 accepted   its data go into a stream room, and the context's words
-                       are written.
-     type 11 accepted  its data go into a message room, and the context's words
-                       and the response are written.
+                       are written: all 0 where the PDU is whole.
+     type 11 accepted  its data go into a message room, the context's words are
+                       written, all 0 where the message is whole, and the
+                       response, DONE.
      refused           19, 12, 1 to 5, 8, 10: all stays. 6, 7, 9, 11: the flow's
                        context is closed if it was open, all else stays.
-                       20 to 25: the response is written, all else stays.
+                       20 to 25: the response is written, ERROR, or RETRY for
+                       25; all else stays.
+   A response is a whole type 13 packet. It is the caller who sends it.
    report.response says whether the response was written (crates/from_c/specs/
    OfCalls.antt, ReportsReply). A delivered room keeps its bytes until its
    context is next used.
@@ -186,9 +198,12 @@ struct kaiverohm_report kaiverohm_read(uint64_t *state, size_t state_words,
    and the lengths are tested once.
 
    state, stream_memory, message_memory: as in kaiverohm_read.
-   responses:  8 bytes for each packet; at least 7. Packet k may write the first
-               7 of the 8 bytes from 8 k on; report k says whether it did.
+   responses:  8 bytes for each packet; under 7 in all is refused. Packet k may
+               write the first 7 of the 8 bytes from 8 k on; report k says
+               whether it did.
    reports:    9 words for each packet: a struct kaiverohm_report, from 9 k on.
+               An array of them may be lent, as (uint64_t *)array and 9 words
+               for each.
    burst:      records, each a length and that many packet bytes, read. A
                length below 128 is one byte. A longer one, below 16,384, is two:
                128 + length % 128, then length / 128, which is not 0.
@@ -200,10 +215,13 @@ struct kaiverohm_report kaiverohm_read(uint64_t *state, size_t state_words,
      END       all were read.
      BAD       the record at next is cut, or its length is none. All before it
                were read.
-     FULL      a record stands at next and has no room. Call again from there.
+     FULL      a whole record stands at next and has no room. Call again from
+               there; but where count is 0, with more room: under 9 words of
+               reports or 8 bytes of responses no packet is ever read.
      DELIVERY  the last report delivers. Take its bytes out of the room, then
-               call again from next.
-     REFUSED   19 or 12, as in kaiverohm_read. All stays, count is 0.
+               call again from next, also where no record is left: that call
+               says END.
+     REFUSED   19 or 12, as in kaiverohm_read. All stays, count and next are 0.
    Words and bytes behind the last report and its response stay.
    Without pause a later packet of the same burst may use the room of a PDU or a
    message that was delivered, since its context is free again: then only the

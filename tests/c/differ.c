@@ -496,11 +496,12 @@ static uint64_t odd_number(const struct board *b)
     static const uint64_t bounds[] = {0,   1,    2,    3,     7,     8,     9,     14,
                                       15,  16,   31,   32,    33,    64,    128,   255,
                                       256, 2047, 2048, 65535, 65536, 65537, 1u << 31};
-    switch (below(6)) {
+    switch (below(7)) {
     case 0: return draw();
     case 1: return UINT64_MAX - below(3);
     case 2: return b->room + below(3) - 1;
     case 3: return b->mtu + below(3) - 1;
+    case 4: return (draw() << 32) + below(20); /* small in its low half alone */
     default: return bounds[below(sizeof bounds / sizeof bounds[0])];
     }
 }
@@ -793,6 +794,12 @@ int main(int argc, char **argv)
     for (size_t i = 0; i < sizeof needed / sizeof needed[0] && total >= 10000; i++)
         if (refusals[needed[i]] == 0)
             fail("refusal %u did not occur", needed[i]);
+    for (size_t i = 0; i < sizeof kinds / sizeof kinds[0] && total >= 10000; i++)
+        if (kinds[i] == 0)
+            fail("answer %zu did not occur", i);
+    for (size_t i = 0; i < sizeof stops / sizeof stops[0] && total >= 10000; i++)
+        if (stops[i] == 0)
+            fail("no burst stopped by %zu", i);
     printf("no difference\n");
     return 0;
 }

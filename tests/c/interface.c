@@ -41,6 +41,23 @@ _Static_assert(offsetof(struct kaiverohm_heading, stream) == 4, "heading");
 _Static_assert(offsetof(struct kaiverohm_heading, cos) == 6, "heading");
 _Static_assert(offsetof(struct kaiverohm_heading, priority) == 7, "heading");
 
+/* The types once more, as crates/kaiverohm/src/lib.rt has them: a pointer and
+   a length for each slice. The compiler refuses a header that has others. */
+uint64_t kaiverohm_state_length(void);
+struct kaiverohm_answer kaiverohm_setup(uint64_t *, size_t, uint16_t, uint64_t, uint64_t);
+struct kaiverohm_report kaiverohm_read(uint64_t *, size_t, uint8_t *, size_t, uint8_t *, size_t,
+                                       uint8_t *, size_t, const uint8_t *, size_t);
+struct kaiverohm_burst kaiverohm_read_burst(uint64_t *, size_t, uint8_t *, size_t, uint8_t *, size_t,
+                                            uint8_t *, size_t, uint64_t *, size_t, const uint8_t *,
+                                            size_t, uint64_t);
+struct kaiverohm_answer kaiverohm_abandon_stream(uint64_t *, size_t, uint64_t);
+struct kaiverohm_answer kaiverohm_abandon_message(uint64_t *, size_t, uint64_t);
+struct kaiverohm_place kaiverohm_stream_room(const uint64_t *, size_t, uint64_t, uint64_t, uint64_t);
+struct kaiverohm_place kaiverohm_message_room(const uint64_t *, size_t, uint64_t, uint64_t, uint64_t);
+uint64_t kaiverohm_segment_count(uint64_t, uint64_t);
+struct kaiverohm_answer kaiverohm_write_segment(uint8_t *, size_t, struct kaiverohm_heading, uint64_t,
+                                                const uint8_t *, size_t, uint64_t);
+
 enum { MTU = 32, ROOM = 2048 };
 
 static uint64_t state[KAIVEROHM_STATE_WORDS];
@@ -152,7 +169,7 @@ int main(void)
     uint8_t responses[3 * KAIVEROHM_SLOT_BYTES] = {0};
     struct kaiverohm_burst b = kaiverohm_read_burst(
         state, KAIVEROHM_STATE_WORDS, streams, sizeof streams, messages, sizeof messages,
-        responses, sizeof responses, &reports[0].kind, 3 * KAIVEROHM_REPORT_WORDS, burst, at, 0);
+        responses, sizeof responses, (uint64_t *)reports, 3 * KAIVEROHM_REPORT_WORDS, burst, at, 0);
     WANT(b.stop == KAIVEROHM_BURST_END && b.number == 0 && b.count == 3 && b.next == at);
     WANT(reports[0].kind == KAIVEROHM_HELD && reports[0].response == 0);
     WANT(reports[1].kind == KAIVEROHM_MESSAGE && reports[1].stream_or_mailbox == 62);
@@ -160,11 +177,11 @@ int main(void)
     WANT(responses[0] == 0 && responses[16] == 0);
     WANT(reports[2].kind == KAIVEROHM_DELIVERED && reports[2].length == sizeof pdu);
     b = kaiverohm_read_burst(state, KAIVEROHM_STATE_WORDS, streams, sizeof streams, messages,
-                             sizeof messages, responses, sizeof responses, &reports[0].kind,
+                             sizeof messages, responses, sizeof responses, (uint64_t *)reports,
                              3 * KAIVEROHM_REPORT_WORDS, burst, at, 1);
     WANT(b.stop == KAIVEROHM_BURST_DELIVERY && b.count == 2 && b.next == 42 + 16);
     b = kaiverohm_read_burst(state, 0, streams, sizeof streams, messages, sizeof messages,
-                             responses, sizeof responses, &reports[0].kind, 27, burst, at, 0);
+                             responses, sizeof responses, (uint64_t *)reports, 27, burst, at, 0);
     WANT(b.stop == KAIVEROHM_BURST_REFUSED && b.number == 12 && b.count == 0 && b.next == 0);
 
     printf("interface: %u checks\n", checks);

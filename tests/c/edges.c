@@ -1,0 +1,718 @@
+/* The header's sentences, tried at their edges: every refusal in its order,
+   what it leaves in every buffer, numbers of 64 bits, lengths that are one off.
+   Every buffer ends at a page that nobody may touch, so a byte read or written
+   behind its end stops the program. */
+
+#define _DEFAULT_SOURCE
+
+#include <stdio.h>
+#include <stdlib.h>
+#include <string.h>
+#include <sys/mman.h>
+#include <ucontext.h>
+#include <unistd.h>
+
+#include "kaiverohm.h"
+
+enum {
+    DEVICE = 0x0102, MTU = 32, ROOM = 100, MOST = 70000,
+    WORDS = KAIVEROHM_STATE_WORDS, REPLY = KAIVEROHM_RESPONSE_BYTES, SLOT = KAIVEROHM_SLOT_BYTES,
+    REPORT = KAIVEROHM_REPORT_WORDS, STREAM_MEMORY = KAIVEROHM_STREAM_CONTEXTS * ROOM
+};
+
+/* A number whose low 32 bits are 0. */
+#define FAR (UINT64_C(1) << 32)
+
+static unsigned checks;
+
+#define WANT(test) want((test), #test, __LINE__)
+
+static void want(int holds, const char *test, int line)
+{
+    checks++;
+    if (!holds) {
+        fprintf(stderr, "edges.c:%d: not so: %s\n", line, test);
+        exit(1);
+    }
+}
+
+/* ---- buffers that end at a closed page */
+
+static uint8_t *fenced(size_t length)
+{
+    size_t page = (size_t)sysconf(_SC_PAGESIZE), whole = (length + page - 1) / page * page;
+    uint8_t *at = mmap(NULL, whole + page, PROT_READ | PROT_WRITE, MAP_PRIVATE | MAP_ANONYMOUS, -1, 0);
+    if (at == MAP_FAILED || mprotect(at + whole, page, PROT_NONE) != 0) {
+        perror("edges: no memory");
+        exit(1);
+    }
+    return at + whole - length;
+}
+
+/* Where each buffer ends. A buffer of n bytes begins n bytes before it. */
+static uint8_t *state_end, *streams_end, *messages_end, *response_end, *packet_end, *reports_end;
+
+enum { STATE = 1, STREAMS = 2, MESSAGES = 4, RESPONSE = 8 };
+
+static uint64_t *state(size_t words)
+{
+    return (uint64_t *)(void *)(state_end - 8 * words);
+}
+
+/* The buffers as they stood, with the longest lengths that are lent. */
+static struct {
+    uint8_t state[8 * (WORDS + 1)], streams[STREAM_MEMORY + 1], messages[KAIVEROHM_MESSAGE_MEMORY + 1],
+        response[64];
+} kept;
+
+static void keep(void)
+{
+    memcpy(kept.state, state_end - sizeof kept.state, sizeof kept.state);
+    memcpy(kept.streams, streams_end - sizeof kept.streams, sizeof kept.streams);
+    memcpy(kept.messages, messages_end - sizeof kept.messages, sizeof kept.messages);
+    memcpy(kept.response, response_end - sizeof kept.response, sizeof kept.response);
+}
+
+static int differs(const uint8_t *before, const uint8_t *end, size_t length, int name)
+{
+    return memcmp(before, end - length, length) != 0 ? name : 0;
+}
+
+static int changed(void)
+{
+    return differs(kept.state, state_end, sizeof kept.state, STATE)
+           | differs(kept.streams, streams_end, sizeof kept.streams, STREAMS)
+           | differs(kept.messages, messages_end, sizeof kept.messages, MESSAGES)
+           | differs(kept.response, response_end, sizeof kept.response, RESPONSE);
+}
+
+static int all(const void *at, size_t length, uint8_t byte)
+{
+    const uint8_t *bytes = at;
+    for (size_t i = 0; i < length; i++)
+        if (bytes[i] != byte)
+            return 0;
+    return 1;
+}
+
+static int zeros(const void *at, size_t length)
+{
+    return all(at, length, 0);
+}
+
+static void fresh(void)
+{
+    memset(state_end - sizeof kept.state, 0xe7, sizeof kept.state);
+    memset(streams_end - sizeof kept.streams, 0xe1, sizeof kept.streams);
+    memset(messages_end - sizeof kept.messages, 0xe2, sizeof kept.messages);
+    memset(response_end - sizeof kept.response, 0xe3, sizeof kept.response);
+    struct kaiverohm_answer a = kaiverohm_setup(state(WORDS), WORDS, DEVICE, MTU, ROOM);
+    WANT(a.kind == KAIVEROHM_READY && a.number == 0);
+}
+
+/* ---- packets */
+
+static uint8_t packet[MOST];
+
+/* The first bytes are given, the rest of the data count up. */
+static size_t made(const char *head, size_t head_length, size_t data)
+{
+    memcpy(packet, head, head_length);
+    for (size_t i = 0; i < data; i++)
+        packet[head_length + i] = (uint8_t)(i + 1);
+    return head_length + data;
+}
+
+#define MADE(head, data) made(head, sizeof head - 1, data)
+#define START(source) MADE("\x19\x01\x02\x00" source "\x05\x80\x00\x07", MTU)
+
+static struct kaiverohm_report lent(size_t words, size_t streams, size_t messages, size_t response,
+                                    size_t length)
+{
+    memcpy(packet_end - length, packet, length);
+    keep();
+    return kaiverohm_read(state(words), words, streams_end - streams, streams, messages_end - messages,
+                          messages, response_end - response, response, packet_end - length, length);
+}
+
+static struct kaiverohm_report read_it(size_t length)
+{
+    return lent(WORDS, STREAM_MEMORY, KAIVEROHM_MESSAGE_MEMORY, REPLY, length);
+}
+
+/* The packet is refused by that number, and just these buffers are changed. */
+static void refuses(size_t length, unsigned number, unsigned dropped, int changes, int line)
+{
+    struct kaiverohm_report r = read_it(length);
+    want(r.kind == KAIVEROHM_REFUSED && r.number == number && r.dropped == dropped, "refusal", line);
+    want(r.response == (number >= 20 ? REPLY : 0), "response", line);
+    want(r.context == 0 && r.source == 0 && r.cos_or_letter == 0 && r.stream_or_mailbox == 0
+             && r.length == 0, "fields that a refusal does not name are 0", line);
+    want(changed() == changes, "what is left", line);
+}
+
+#define REFUSES(length, number, dropped, changes) refuses(length, number, dropped, changes, __LINE__)
+
+/* ---- setup */
+
+static int setup_says(size_t words, uint16_t device, uint64_t mtu, uint64_t room)
+{
+    fresh();
+    memset(state_end - sizeof kept.state, 0xe7, sizeof kept.state);
+    keep();
+    struct kaiverohm_answer a = kaiverohm_setup(state(words), words, device, mtu, room);
+    WANT(memcmp(kept.state, state_end - sizeof kept.state, 8) == 0); /* the word before it */
+    if (a.kind == KAIVEROHM_READY) {
+        WANT(a.number == 0 && changed() == STATE);
+        WANT(state(WORDS)[0] == device && state(WORDS)[1] == mtu && state(WORDS)[2] == room);
+        WANT(zeros(state(WORDS - 3), 8 * (WORDS - 3)));
+        return 0;
+    }
+    WANT(a.kind == KAIVEROHM_REFUSED);
+    if (a.number == 12)
+        WANT(changed() == 0);
+    else
+        WANT(changed() == STATE && zeros(state(WORDS), 8 * WORDS));
+    return (int)a.number;
+}
+
+static void setups(void)
+{
+    WANT(kaiverohm_state_length() == WORDS);
+    WANT(setup_says(0, 1, 33, 0) == 12);
+    WANT(setup_says(WORDS - 1, 1, MTU, ROOM) == 12);
+    WANT(setup_says(WORDS + 1, 1, MTU, ROOM) == 12);
+    for (uint64_t mtu = 0; mtu < 300; mtu++)
+        WANT(setup_says(WORDS, 1, mtu, 65536) == (mtu < 32 || mtu > 256 || mtu % 4 ? 18 : 0));
+    WANT(setup_says(WORDS, 1, FAR + MTU, ROOM) == 18);
+    WANT(setup_says(WORDS, 1, UINT64_MAX - 3, UINT64_MAX) == 18);
+    WANT(setup_says(WORDS, 1, 33, 0) == 18);
+    WANT(setup_says(WORDS, 1, MTU, MTU - 1) == 19);
+    WANT(setup_says(WORDS, 0, MTU, MTU) == 0);
+    WANT(setup_says(WORDS, 0xffff, 256, 65536) == 0);
+    WANT(setup_says(WORDS, 1, 256, 65537) == 19);
+    WANT(setup_says(WORDS, 1, MTU, FAR + ROOM) == 19);
+    WANT(setup_says(WORDS, 1, MTU, UINT64_MAX) == 19);
+}
+
+/* ---- reading: 19, 12, then the packet's rows, each with the later ones true as well */
+
+static void lengths(void)
+{
+    const size_t s = STREAM_MEMORY, m = KAIVEROHM_MESSAGE_MEMORY;
+    const size_t wrong[][4] = {
+        {WORDS - 1, s, m, REPLY}, {WORDS + 1, s, m, REPLY}, {0, s, m, REPLY},
+        {WORDS, s - 1, m, REPLY}, {WORDS, s + 1, m, REPLY}, {WORDS, 0, m, REPLY},
+        {WORDS, s, m - 1, REPLY}, {WORDS, s, m + 1, REPLY}, {WORDS, s, 0, REPLY},
+        {WORDS, s, m, REPLY - 1}, {WORDS, s, m, 0},         {0, 0, 0, 0}};
+    for (size_t i = 0; i < sizeof wrong / sizeof wrong[0]; i++) {
+        fresh();
+        size_t length = i % 2 ? START("\x09") : 0;
+        struct kaiverohm_report r = lent(wrong[i][0], wrong[i][1], wrong[i][2], wrong[i][3], length);
+        WANT(r.kind == KAIVEROHM_REFUSED && r.number == 12 && changed() == 0);
+        if (wrong[i][0] != WORDS)
+            continue;
+        /* A state that is none comes before the other buffers, and only for 147 words. */
+        state(WORDS)[1] = 33;
+        r = lent(wrong[i][0], wrong[i][1], wrong[i][2], wrong[i][3], length);
+        WANT(r.kind == KAIVEROHM_REFUSED && r.number == 19 && changed() == 0);
+    }
+    /* A longer response buffer is as good; the bytes behind the seventh stay. */
+    fresh();
+    struct kaiverohm_report r = lent(WORDS, s, m, 64, MADE("\x1b\x01\x02\x00\x09\x09\x60", 8));
+    WANT(r.kind == KAIVEROHM_MESSAGE && r.response == 7);
+    WANT(memcmp(response_end - 64, "\x5d\x00\x09\x01\x02\x10\x60\xe3", 8) == 0);
+}
+
+static void states(void)
+{
+    static const uint64_t mtus[] = {0, 28, 33, 260, UINT64_MAX - 3};
+    static const uint64_t rooms[] = {0, MTU - 1, 65537, UINT64_MAX};
+    for (size_t i = 0; i < 9; i++) {
+        fresh();
+        if (i < 5)
+            state(WORDS)[1] = mtus[i];
+        else
+            state(WORDS)[2] = rooms[i - 5];
+        REFUSES(0, 19, 0, 0);
+    }
+    /* A device that no packet can name is read as it stands. */
+    fresh();
+    state(WORDS)[0] = DEVICE + 65536;
+    REFUSES(START("\x09"), 3, 0, 0);
+    /* So is an open word that is not 1; what no packet is about stays. */
+    fresh();
+    read_it(START("\x08"));
+    read_it(START("\x09"));
+    state(WORDS)[3] = 7;
+    state(WORDS)[8] = UINT64_MAX;
+    REFUSES(MADE("\x19\x01\x02\x00\x09\x05\x00", 31), 6, 1, STATE);
+    WANT(state(WORDS)[3] == 7 && zeros(state(WORDS) + 8, 40));
+}
+
+/* ---- row 19, in every context: the paper's words once more */
+
+#define EACH(number, list) for (size_t number = 0; number < sizeof list / sizeof list[0]; number++)
+
+static int is_state(void)
+{
+    return kaiverohm_stream_room(state(WORDS), WORDS, STREAM_MEMORY, 1, 1).length == 1;
+}
+
+static int bad_message(uint64_t msglen, uint64_t ssize, uint64_t marks, uint64_t last)
+{
+    if (ssize < 9 || ssize > 14 || msglen == 0 || msglen > 15)
+        return 1;
+    uint64_t whole = (UINT64_C(2) << msglen) - 1;
+    if (marks == 0 || marks >= whole)
+        return 1;
+    if ((marks >> msglen & 1) == 0)
+        return last != 0;
+    return last < 8 || last > UINT64_C(8) << (ssize - 9) || last % 8 != 0;
+}
+
+static void row_19(void)
+{
+    static const uint64_t open[] = {0, 1, 2, FAR, UINT64_MAX};
+    static const uint64_t held[] = {0, 1, ROOM - 1, ROOM, ROOM + 1, FAR, FAR + 1, UINT64_MAX};
+    static const uint64_t msglen[] = {0, 1, 2, 15, 16, FAR + 1, UINT64_MAX};
+    static const uint64_t ssize[] = {0, 8, 9, 10, 14, 15, 16, 25, FAR + 9, UINT64_MAX};
+    static const uint64_t marks[] = {0, 1, 2, 3, 4, 5, 7, 8, 0x7fff, 0x8000, 0xfffe, 0xffff, 0x10000,
+                                     FAR + 1, UINT64_MAX};
+    static const uint64_t last[] = {0, 4, 7, 8, 9, 16, 24, 256, 264, FAR, FAR + 8, UINT64_MAX - 7};
+    fresh();
+    for (size_t n = 0; n < KAIVEROHM_STREAM_CONTEXTS; n++) {
+        uint64_t *c = state(WORDS) + 3 + 5 * n;
+        EACH(o, open) EACH(h, held) {
+            c[0] = open[o];
+            c[4] = held[h];
+            WANT(is_state() == !(open[o] != 0 && (held[h] == 0 || held[h] > ROOM)));
+        }
+        memset(c, 0, 40);
+    }
+    for (size_t n = 0; n < KAIVEROHM_MESSAGE_CONTEXTS; n++) {
+        uint64_t *c = state(WORDS) + 83 + 8 * n;
+        EACH(o, open) EACH(m, msglen) EACH(z, ssize) EACH(k, marks) EACH(l, last) {
+            c[0] = open[o];
+            c[4] = msglen[m];
+            c[5] = ssize[z];
+            c[6] = marks[k];
+            c[7] = last[l];
+            WANT(is_state() == !(open[o] != 0 && bad_message(c[4], c[5], c[6], c[7])));
+        }
+        memset(c, 0, 64);
+    }
+    /* A number of a context counts with all its 64 bits. */
+    for (size_t n = 0; n < KAIVEROHM_STREAM_CONTEXTS; n++)
+        for (size_t word = 1; word < 3; word++) {
+            uint64_t *c = state(WORDS) + 3 + 5 * n;
+            fresh();
+            const uint64_t open_one[] = {1, 9, 5, 7, MTU};
+            memcpy(c, open_one, sizeof open_one);
+            c[word] += FAR;
+            REFUSES(MADE("\x19\x01\x02\x00\x09\x05\x00", MTU), 8, 0, 0);
+            c[word] -= FAR;
+            WANT(read_it(MADE("\x19\x01\x02\x00\x09\x05\x00", MTU)).kind == KAIVEROHM_HELD);
+        }
+    for (size_t n = 0; n < KAIVEROHM_MESSAGE_CONTEXTS; n++)
+        for (size_t word = 1; word < 4; word++) {
+            uint64_t *c = state(WORDS) + 83 + 8 * n;
+            fresh();
+            const uint64_t open_one[] = {1, 9, 1, 2, 1, 9, 1, 0};
+            memcpy(c, open_one, sizeof open_one);
+            REFUSES(MADE("\x1b\x01\x02\x00\x09\x19\x60", 8), 24, 0, RESPONSE);
+            c[word] += FAR;
+            WANT(read_it(MADE("\x1b\x01\x02\x00\x09\x19\x60", 8)).kind == KAIVEROHM_HELD);
+        }
+}
+
+static void rows(void)
+{
+    /* Twice: with no context of the flow open, and with one. */
+    for (unsigned open = 0; open < 2; open++) {
+        int closes = open ? STATE : 0;
+        fresh();
+        if (open)
+            read_it(START("\x09"));
+        REFUSES(0, 1, 0, 0);
+        REFUSES(MADE("\x0f\x00\x00\x00", 0), 1, 0, 0);
+        REFUSES(MADE("\x0f\x00\x00\x00\x09", 0), 2, 0, 0);  /* 1, under 7 bytes, comes later */
+        REFUSES(MADE("\x2b\x00\x00\x00\x09", 0), 2, 0, 0);
+        REFUSES(MADE("\x1f\x01\x03\x00\x09", 0), 3, 0, 0);
+        REFUSES(MADE("\x15\x01\x02\x00\x09", 0), 4, 0, 0);
+        REFUSES(MADE("\x19\x01\x02\x00\x09\x05", 0), 1, 0, 0);
+        REFUSES(MADE("\x1b\x01\x02\x00\x09\x00", 0), 1, 0, 0);
+        REFUSES(MADE("\x19\x01\x02\x00\x09\x05\xc4", 1), 5, 0, 0); /* 1, under 9 bytes, comes later */
+        REFUSES(MADE("\x19\x01\x02\x00\x09\x05\xc0", 1), 1, 0, 0);
+        REFUSES(MADE("\x19\x01\x02\x00\x09\x05\x40", 1), 1, 0, 0);
+        REFUSES(MADE("\x19\x01\x02\x00\x09\x05\x00", 0), 6, open, closes);
+        fresh();
+        if (open)
+            read_it(START("\x09"));
+        REFUSES(MADE("\x19\x01\x02\x00\x09\x05\x80\x00\x07", 33), 6, open, closes);
+        fresh();
+        if (open)
+            read_it(START("\x09"));
+        REFUSES(MADE("\x19\x01\x02\x00\x09\x05\x42\x00\x07", 40), 6, open, closes);
+        fresh();
+        if (open)
+            read_it(START("\x09"));
+        REFUSES(MADE("\x19\x01\x02\x00\x09\x05\x02", 34), 7, open, closes);
+        fresh();
+        if (open)
+            read_it(START("\x09"));
+        REFUSES(MADE("\x19\x01\x02\x00\x09\x05\xc0\x00\x07", MOST - 9 - 3), 7, open, closes);
+    }
+    fresh();
+    REFUSES(MADE("\x19\x01\x02\x00\x09\x05\x00", MTU), 8, 0, 0);
+    REFUSES(MADE("\x19\x01\x02\x00\x09\x05\x40\x00\x07", MTU), 8, 0, 0);
+    /* 9 before 11: rooms of 100 take three segments of 32, not a fourth. */
+    read_it(START("\x09"));
+    for (int i = 0; i < 2; i++)
+        WANT(read_it(MADE("\x19\x01\x02\x00\x09\x05\x00", MTU)).kind == KAIVEROHM_HELD);
+    REFUSES(MADE("\x19\x01\x02\x00\x09\x05\x42\x00\x07", 6), 9, 1, STATE);
+    WANT(zeros(state(WORDS) + 3, 8 * (WORDS - 3)));
+    read_it(START("\x09"));
+    REFUSES(MADE("\x19\x01\x02\x00\x09\x05\x42\x00\x07", 6), 11, 1, STATE);
+    /* 10, while 16 others are open; a start on an open flow is held, and says dropped. */
+    for (unsigned i = 0; i < KAIVEROHM_STREAM_CONTEXTS; i++) {
+        size_t length = START("\x00");
+        packet[4] = (uint8_t)(0x10 + i);
+        WANT(read_it(length).kind == KAIVEROHM_HELD && (changed() | STREAMS) == (STATE | STREAMS));
+    }
+    REFUSES(START("\x09"), 10, 0, 0);
+    struct kaiverohm_report r = read_it(START("\x1f"));
+    WANT(r.kind == KAIVEROHM_HELD && r.dropped == 1);
+    /* A whole PDU: the pad byte stays out of the room. */
+    r = read_it(MADE("\x19\x01\x02\x00\x1f\x05\x43\x00\x21", 2));
+    WANT(r.kind == KAIVEROHM_DELIVERED && r.context == 15 && r.source == 0x1f && r.cos_or_letter == 5);
+    WANT(r.stream_or_mailbox == 7 && r.length == 33 && r.response == 0 && r.dropped == 0);
+    WANT(changed() == (STATE | STREAMS));
+    WANT(streams_end[-ROOM + 32] == 1 && streams_end[-ROOM + 33] == 0xe1);
+}
+
+static void messages(void)
+{
+    fresh();
+    REFUSES(MADE("\x1b\x01\x02\x00\x09\x18\x02", 7), 20, 0, RESPONSE);
+    WANT(memcmp(response_end - 7, "\x5d\x00\x09\x01\x02\x17\x02", 7) == 0);
+    memset(response_end - 7, 0, 7);
+    REFUSES(MADE("\x1b\x01\x02\x00\x09\x19\x02", 7), 21, 0, RESPONSE);
+    memset(response_end - 7, 0, 7);
+    REFUSES(MADE("\x1b\x01\x02\x00\x09\x0e\x02", MOST - 8), 21, 0, RESPONSE);
+    memset(response_end - 7, 0, 7);
+    REFUSES(MADE("\x1b\x01\x02\x00\x09\x19\x02", 8), 22, 0, RESPONSE);
+    /* a message of two segments: 23 before 24 */
+    struct kaiverohm_report r = read_it(MADE("\x1b\x01\x02\x00\x09\x19\x00", 8));
+    WANT(r.kind == KAIVEROHM_HELD && r.response == 7 && changed() == (STATE | MESSAGES | RESPONSE));
+    memset(response_end - 7, 0, 7);
+    REFUSES(MADE("\x1b\x01\x02\x00\x09\x29\x00", 8), 23, 0, RESPONSE);
+    memset(response_end - 7, 0, 7);
+    REFUSES(MADE("\x1b\x01\x02\x00\x09\x19\x00", 8), 24, 0, RESPONSE);
+    for (unsigned i = 1; i < KAIVEROHM_MESSAGE_CONTEXTS; i++) {
+        size_t length = MADE("\x1b\x01\x02\x00\x00\x19\x00", 8);
+        packet[4] = (uint8_t)(0x10 + i);
+        WANT(read_it(length).kind == KAIVEROHM_HELD);
+    }
+    memset(response_end - 7, 0, 7);
+    REFUSES(MADE("\xdb\x01\x02\x00\x0a\x09\x00", 8), 25, 0, RESPONSE);
+    WANT(memcmp(response_end - 7, "\xdd\x00\x0a\x01\x02\x13\x00", 7) == 0);
+    r = read_it(MADE("\x1b\x01\x02\x00\x17\x19\x01", 8));
+    WANT(r.kind == KAIVEROHM_MESSAGE && r.context == 7 && r.length == 16 && r.source == 0x17);
+}
+
+/* ---- bursts */
+
+static struct kaiverohm_burst burst(size_t responses, size_t words, const char *records, size_t length,
+                                    uint64_t pause)
+{
+    memset(response_end - 64, 0xe3, 64);
+    memset(reports_end - 8 * 32, 0xe4, 8 * 32);
+    memcpy(packet_end - length, records, length);
+    keep();
+    return kaiverohm_read_burst(state(WORDS), WORDS, streams_end - STREAM_MEMORY, STREAM_MEMORY,
+                                messages_end - KAIVEROHM_MESSAGE_MEMORY, KAIVEROHM_MESSAGE_MEMORY,
+                                response_end - responses, responses,
+                                (uint64_t *)(void *)(reports_end - 8 * words), words,
+                                packet_end - length, length, pause);
+}
+
+static void says(struct kaiverohm_burst b, unsigned stop, unsigned number, uint64_t count, uint64_t next,
+                 int line)
+{
+    want(b.stop == stop && b.number == number && b.count == count && b.next == next, "burst", line);
+}
+
+#define BURST(responses, words, records, pause, stop, number, count, next) \
+    says(burst(responses, words, records, sizeof records - 1, pause), stop, number, count, next, __LINE__)
+
+#define EMPTY "\x00"
+#define MESSAGE "\x0f\x1b\x01\x02\x00\x09\x09\x60""abcdefgh"
+
+static void bursts(void)
+{
+    fresh();
+    BURST(64, 27, "", 0, KAIVEROHM_BURST_END, 0, 0, 0);
+    BURST(64, 27, EMPTY EMPTY, 0, KAIVEROHM_BURST_END, 0, 2, 2);
+    /* no room for a single packet: full, and calling again with these helps nothing */
+    BURST(SLOT - 1, 27, EMPTY, 0, KAIVEROHM_BURST_FULL, 0, 0, 0);
+    WANT(changed() == 0);
+    BURST(64, REPORT - 1, EMPTY, 0, KAIVEROHM_BURST_FULL, 0, 0, 0);
+    BURST(64, 0, EMPTY, 0, KAIVEROHM_BURST_FULL, 0, 0, 0);
+    BURST(64, 0, "", 0, KAIVEROHM_BURST_END, 0, 0, 0);
+    BURST(64, 0, "\x05", 0, KAIVEROHM_BURST_BAD, 0, 0, 0);
+    /* room for one */
+    BURST(64, 2 * REPORT - 1, EMPTY EMPTY, 0, KAIVEROHM_BURST_FULL, 0, 1, 1);
+    BURST(2 * SLOT - 1, 27, EMPTY EMPTY, 0, KAIVEROHM_BURST_FULL, 0, 1, 1);
+    BURST(SLOT, REPORT, EMPTY, 0, KAIVEROHM_BURST_END, 0, 1, 1);
+    WANT(changed() == 0);
+    /* lengths */
+    BURST(64, 27, EMPTY "\x80", 0, KAIVEROHM_BURST_BAD, 0, 1, 1);
+    BURST(64, 27, EMPTY "\x81\x00""abc", 0, KAIVEROHM_BURST_BAD, 0, 1, 1);
+    BURST(64, 27, EMPTY "\x81\x81\x01", 0, KAIVEROHM_BURST_BAD, 0, 1, 1);
+    BURST(64, 27, EMPTY "\x02x", 0, KAIVEROHM_BURST_BAD, 0, 1, 1);
+    static char longest[2 + 16383 + 1];
+    memcpy(longest, "\xff\x7f", 2);
+    says(burst(64, 27, longest, 2 + 16383, 0), KAIVEROHM_BURST_END, 0, 1, 2 + 16383, __LINE__);
+    says(burst(64, 27, longest, 2 + 16382, 0), KAIVEROHM_BURST_BAD, 0, 0, 0, __LINE__);
+    memcpy(longest, "\x80\x01", 2);
+    says(burst(64, 27, longest, 2 + 128, 0), KAIVEROHM_BURST_END, 0, 1, 2 + 128, __LINE__);
+    /* pause is any number but 0; a delivery at the end is a delivery */
+    BURST(64, 27, MESSAGE MESSAGE EMPTY, 0, KAIVEROHM_BURST_END, 0, 3, 33);
+    BURST(64, 27, MESSAGE MESSAGE, 1, KAIVEROHM_BURST_DELIVERY, 0, 1, 16);
+    BURST(64, 27, MESSAGE MESSAGE, UINT64_C(1) << 63, KAIVEROHM_BURST_DELIVERY, 0, 1, 16);
+    BURST(64, 27, EMPTY MESSAGE, 256, KAIVEROHM_BURST_DELIVERY, 0, 2, 17);
+    /* what stays: all behind the last report and its response, the eighth byte, a slot without a response */
+    BURST(24, 27, EMPTY MESSAGE, 0, KAIVEROHM_BURST_END, 0, 2, 17);
+    const uint64_t *reports = (const uint64_t *)(const void *)(reports_end - 8 * 27);
+    WANT(reports[0] == KAIVEROHM_REFUSED && reports[1] == 1 && zeros(reports + 2, 56));
+    WANT(reports[9] == KAIVEROHM_MESSAGE && reports[12] == 7 && reports[14] == 9 && reports[17] == 8);
+    WANT(all(reports + 18, 72, 0xe4) && all(reports - 1, 8, 0xe4));
+    WANT(memcmp(response_end - 16, "\x5d\x00\x09\x01\x02\x10\x60", 7) == 0);
+    WANT(all(response_end - 25, 9, 0xe3) && all(response_end - 9, 9, 0xe3));
+    /* refused: 12 for the responses, 19 before it */
+    BURST(REPLY - 1, 27, MESSAGE, 0, KAIVEROHM_BURST_REFUSED, 12, 0, 0);
+    WANT(changed() == 0 && all(reports, 8 * 27, 0xe4));
+    state(WORDS)[2] = 0;
+    BURST(REPLY - 1, 27, MESSAGE, 0, KAIVEROHM_BURST_REFUSED, 19, 0, 0);
+    WANT(changed() == 0);
+    BURST(64, 27, "\x05", 0, KAIVEROHM_BURST_REFUSED, 19, 0, 0);
+    /* the other lengths, each one off */
+    for (int i = 0; i < 6; i++) {
+        int more = i % 2 ? 1 : -1;
+        size_t words = WORDS + (i / 2 == 0 ? (size_t)more : 0);
+        size_t streams = STREAM_MEMORY + (i / 2 == 1 ? (size_t)more : 0);
+        size_t memory = KAIVEROHM_MESSAGE_MEMORY + (i / 2 == 2 ? (size_t)more : 0);
+        fresh();
+        keep();
+        struct kaiverohm_burst b = kaiverohm_read_burst(
+            state(words), words, streams_end - streams, streams, messages_end - memory, memory,
+            response_end - SLOT, SLOT, (uint64_t *)(void *)(reports_end - 8 * REPORT), REPORT,
+            packet_end, 0, 0);
+        says(b, KAIVEROHM_BURST_REFUSED, 12, 0, 0, __LINE__);
+        WANT(changed() == 0);
+    }
+}
+
+/* ---- abandoning, rooms */
+
+static void abandons(void)
+{
+    static const uint64_t past[] = {0, UINT64_C(1) << 32, UINT64_C(1) << 63, UINT64_MAX};
+    for (int messages = 0; messages < 2; messages++) {
+        struct kaiverohm_answer (*abandon)(uint64_t *, size_t, uint64_t) =
+            messages ? kaiverohm_abandon_message : kaiverohm_abandon_stream;
+        uint64_t contexts = messages ? KAIVEROHM_MESSAGE_CONTEXTS : KAIVEROHM_STREAM_CONTEXTS;
+        size_t first = messages ? 83 : 3, width = messages ? 8 : 5;
+        for (uint64_t n = 0; n < contexts; n++) {
+            fresh();
+            uint64_t *c = state(WORDS) + first + width * n;
+            c[1] = 77; /* a free context, with a number in it */
+            keep();
+            struct kaiverohm_answer a = abandon(state(WORDS), WORDS, n);
+            WANT(a.kind == KAIVEROHM_WAS_FREE && a.number == 0 && changed() == 0);
+            read_it(messages ? MADE("\x1b\x01\x02\x00\x09\x19\x00", 8) : START("\x09"));
+            if (n > 0) {
+                memcpy(c, state(WORDS) + first, 8 * width);
+                c[0] = 7;
+            }
+            keep();
+            a = abandon(state(WORDS), WORDS, n);
+            WANT(a.kind == KAIVEROHM_CLOSED && a.number == 0 && zeros(c, 8 * width));
+            memcpy(c, kept.state + 8 + 8 * (size_t)(c - state(WORDS)), 8 * width);
+            WANT(changed() == 0);
+        }
+        fresh();
+        for (size_t i = 0; i < 4; i++) {
+            uint64_t n = past[i] | contexts;
+            keep();
+            struct kaiverohm_answer a = abandon(state(WORDS), WORDS, n);
+            WANT(a.kind == KAIVEROHM_REFUSED && a.number == 13 && changed() == 0);
+        }
+        state(WORDS)[1] = 33;
+        keep();
+        struct kaiverohm_answer a = abandon(state(WORDS), WORDS, 99);
+        WANT(a.kind == KAIVEROHM_REFUSED && a.number == 19 && changed() == 0);
+        for (size_t words = 0; words <= WORDS + 1; words += words ? 2 : WORDS - 1) {
+            a = abandon(state(words), words, 99);
+            WANT(a.kind == KAIVEROHM_REFUSED && a.number == 12 && changed() == 0);
+        }
+    }
+}
+
+static void place(struct kaiverohm_place p, uint64_t offset, uint64_t length, int line)
+{
+    want(p.offset == offset && p.length == length, "place", line);
+}
+
+#define STREAM_ROOM(words, size, n, l, offset, length) \
+    place(kaiverohm_stream_room(state(words), words, size, n, l), offset, length, __LINE__)
+#define MESSAGE_ROOM(words, size, n, l, offset, length) \
+    place(kaiverohm_message_room(state(words), words, size, n, l), offset, length, __LINE__)
+
+static void rooms(void)
+{
+    const uint64_t s = STREAM_MEMORY, m = KAIVEROHM_MESSAGE_MEMORY, big = UINT64_C(1) << 60;
+    fresh();
+    keep();
+    STREAM_ROOM(WORDS, s, 15, ROOM, 15 * ROOM, ROOM);
+    STREAM_ROOM(WORDS, s, 15, 0, 15 * ROOM, 0);
+    STREAM_ROOM(WORDS, s, 15, ROOM + 1, 0, 0);
+    STREAM_ROOM(WORDS, s, 16, 1, 0, 0);
+    STREAM_ROOM(WORDS, s - 1, 15, 1, 0, 0);
+    STREAM_ROOM(WORDS, s + 1, 15, 1, 0, 0);
+    STREAM_ROOM(WORDS, UINT64_MAX, 15, 1, 0, 0);
+    STREAM_ROOM(WORDS, s, big, 1, 0, 0);
+    STREAM_ROOM(WORDS, s, UINT64_MAX, UINT64_MAX, 0, 0);
+    STREAM_ROOM(WORDS, s, 1, big, 0, 0);
+    STREAM_ROOM(WORDS - 1, s, 1, 1, 0, 0);
+    STREAM_ROOM(WORDS + 1, s, 1, 1, 0, 0);
+    STREAM_ROOM(0, s, 1, 1, 0, 0);
+    MESSAGE_ROOM(WORDS, m, 7, 4096, 7 * 4096, 4096);
+    MESSAGE_ROOM(WORDS, m, 7, 4097, 0, 0);
+    MESSAGE_ROOM(WORDS, m, 8, 1, 0, 0);
+    MESSAGE_ROOM(WORDS, s, 1, 1, 0, 0);
+    MESSAGE_ROOM(WORDS, m + 1, 1, 1, 0, 0);
+    MESSAGE_ROOM(WORDS, m, UINT64_C(1) << 52, 1, 0, 0);
+    MESSAGE_ROOM(WORDS - 1, m, 1, 1, 0, 0);
+    WANT(changed() == 0);
+    state(WORDS)[1] = 0;
+    STREAM_ROOM(WORDS, s, 1, 1, 0, 0);
+    MESSAGE_ROOM(WORDS, m, 1, 1, 0, 0);
+}
+
+/* ---- the segment writer */
+
+static int writes(size_t out, uint64_t mtu, uint8_t priority, size_t pdu, uint64_t number)
+{
+    struct kaiverohm_heading h = {
+        .destination = 0xa1a2, .source = 0xb1b2, .stream = 0xc1c2, .cos = 0xd1, .priority = priority
+    };
+    memset(reports_end - 400, 0xe4, 400);
+    memset(packet_end - pdu, 0x11, pdu);
+    struct kaiverohm_answer a =
+        kaiverohm_write_segment(reports_end - out, out, h, mtu, packet_end - pdu, pdu, number);
+    size_t length = a.kind == KAIVEROHM_WRITTEN ? a.number : 0;
+    WANT(all(reports_end - 400, 400 - out, 0xe4));
+    WANT(all(reports_end - out + length, out - length, 0xe4));
+    if (a.kind == KAIVEROHM_WRITTEN)
+        return (int)length;
+    WANT(a.kind == KAIVEROHM_REFUSED && a.number != 0);
+    return -(int)a.number;
+}
+
+static void writer(void)
+{
+    int longest = 0;
+    for (uint64_t mtu = 32; mtu <= 256; mtu += mtu < 64 ? 4 : 64)
+        for (size_t pdu = 1; pdu < 3 * mtu; pdu += 1 + pdu % 7) {
+            uint64_t count = kaiverohm_segment_count(mtu, pdu);
+            WANT(count == (pdu + mtu - 1) / mtu);
+            for (uint64_t k = 0; k < count; k++) {
+                int length = writes(mtu + 9, mtu, 3, pdu, k);
+                WANT(length > 0 && length <= (int)mtu + 9);
+                WANT(writes((size_t)length, mtu, 0, pdu, k) == length);
+                WANT(writes((size_t)length - 1, mtu, 0, pdu, k) == -16);
+                longest = length > longest ? length : longest;
+            }
+            WANT(writes(0, mtu, 0, pdu, count) == -15);
+        }
+    WANT(longest == KAIVEROHM_LARGEST_PACKET);
+    WANT(writes(0, 33, 4, 0, 9) == -18);
+    WANT(writes(0, FAR + 32, 4, 0, 9) == -18);
+    WANT(writes(0, 32, 4, 0, 9) == -17);
+    WANT(writes(0, 32, 255, 0, 9) == -17);
+    WANT(writes(0, 32, 3, 0, 9) == -14);
+    WANT(writes(0, 32, 3, KAIVEROHM_LARGEST_PDU + 1, UINT64_MAX) == -14);
+    WANT(writes(0, 32, 3, KAIVEROHM_LARGEST_PDU, 2048) == -15);
+    WANT(writes(0, 32, 3, 40, FAR) == -15);
+    WANT(writes(0, 32, 3, 40, UINT64_MAX) == -15);
+    WANT(writes(0, 32, 3, 40, 0) == -16);
+    WANT(writes(265, 32, 3, KAIVEROHM_LARGEST_PDU, 2047) == 41);
+    WANT(memcmp(reports_end - 265, "\xd9\xa1\xa2\xb1\xb2\xd1\x40\x00\x00\x11", 10) == 0);
+    WANT(kaiverohm_segment_count(32, KAIVEROHM_LARGEST_PDU) == 2048);
+    WANT(kaiverohm_segment_count(32, KAIVEROHM_LARGEST_PDU + 1) == 0);
+    WANT(kaiverohm_segment_count(32, UINT64_MAX) == 0);
+    WANT(kaiverohm_segment_count(32, FAR + 1) == 0);
+    WANT(kaiverohm_segment_count(32, 0) == 0);
+    WANT(kaiverohm_segment_count(33, 40) == 0);
+    WANT(kaiverohm_segment_count(0, 40) == 0);
+    WANT(kaiverohm_segment_count(FAR + 32, 40) == 0);
+    WANT(kaiverohm_segment_count(UINT64_MAX - 3, 40) == 0);
+}
+
+/* ---- the stack: calls on one of their own, which is filled before */
+
+static uint8_t stack[32768];
+static ucontext_t outside, inside;
+
+static void calls(void)
+{
+    lent(WORDS, STREAM_MEMORY, KAIVEROHM_MESSAGE_MEMORY, REPLY, START("\x09"));
+    lent(WORDS, STREAM_MEMORY, KAIVEROHM_MESSAGE_MEMORY, REPLY, MADE("\x1b\x01\x02\x00\x09\x1a\x01", 16));
+    burst(64, 27, MESSAGE MESSAGE, sizeof MESSAGE MESSAGE - 1, 0);
+    kaiverohm_abandon_stream(state(WORDS), WORDS, 0);
+    kaiverohm_abandon_message(state(WORDS), WORDS, 0);
+    struct kaiverohm_heading h = {.destination = 1, .source = 2, .stream = 3, .cos = 4, .priority = 0};
+    kaiverohm_write_segment(reports_end - 64, 64, h, MTU, packet_end - 100, 100, 3);
+}
+
+static void stacks(void)
+{
+    fresh();
+    memset(stack, 0xa7, sizeof stack);
+    WANT(getcontext(&inside) == 0);
+    inside.uc_stack.ss_sp = stack;
+    inside.uc_stack.ss_size = sizeof stack;
+    inside.uc_link = &outside;
+    makecontext(&inside, calls, 0);
+    WANT(swapcontext(&outside, &inside) == 0);
+    size_t used = sizeof stack;
+    while (stack[sizeof stack - used] == 0xa7)
+        used--;
+    printf("edges: at most %zu bytes of stack\n", used);
+    WANT(used <= 2048);
+}
+
+int main(void)
+{
+    state_end = fenced(sizeof kept.state) + sizeof kept.state;
+    streams_end = fenced(sizeof kept.streams) + sizeof kept.streams;
+    messages_end = fenced(sizeof kept.messages) + sizeof kept.messages;
+    response_end = fenced(sizeof kept.response) + sizeof kept.response;
+    packet_end = fenced(MOST) + MOST;
+    reports_end = fenced(400) + 400;
+    setups();
+    lengths();
+    states();
+    row_19();
+    rows();
+    messages();
+    bursts();
+    abandons();
+    rooms();
+    writer();
+    stacks();
+    printf("edges: %u checks\n", checks);
+    return 0;
+}
