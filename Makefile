@@ -2,11 +2,13 @@
 #
 #     make            the archive and the example
 #     make test       the tests from C
-#     make install    archive, header and pkg-config file, below $(DESTDIR)$(PREFIX)
+#     make install    archive, header and pkg-config file, below $(DESTDIR)$(PREFIX), or in $(DESTDIR)$(LIBDIR) and $(DESTDIR)$(INCLUDEDIR)
 #     make uninstall  removes these three
 #     make clean      removes all that was built, the proofs too: the next make proves anew, which takes minutes
 PREFIX ?= /usr/local
-VERSION = 0.1
+LIBDIR ?= $(PREFIX)/lib
+INCLUDEDIR ?= $(PREFIX)/include
+VERSION = $(shell sed -n 's/^.define KAIVEROHM_VERSION "\(.*\)"/\1/p' include/kaiverohm.h)
 
 # Programs are for x86-64.
 ifeq ($(shell uname -m),x86_64)
@@ -36,14 +38,14 @@ test: $(archive)
 	tests/c/run
 
 install: $(archive)
-	install -d '$(DESTDIR)$(PREFIX)/lib/pkgconfig' '$(DESTDIR)$(PREFIX)/include'
-	install -m 644 $(archive) '$(DESTDIR)$(PREFIX)/lib/'
-	install -m 644 include/kaiverohm.h '$(DESTDIR)$(PREFIX)/include/'
-	sed -e 's|@PREFIX@|$(PREFIX)|' -e 's|@VERSION@|$(VERSION)|' kaiverohm.pc.in >target/kaiverohm.pc
-	install -m 644 target/kaiverohm.pc '$(DESTDIR)$(PREFIX)/lib/pkgconfig/'
+	install -d '$(DESTDIR)$(LIBDIR)/pkgconfig' '$(DESTDIR)$(INCLUDEDIR)'
+	install -m 644 $(archive) '$(DESTDIR)$(LIBDIR)/'
+	install -m 644 include/kaiverohm.h '$(DESTDIR)$(INCLUDEDIR)/'
+	sed -e 's|@PREFIX@|$(PREFIX)|' -e 's|@LIBDIR@|$(LIBDIR)|' -e 's|@INCLUDEDIR@|$(INCLUDEDIR)|' -e 's|@VERSION@|$(VERSION)|' kaiverohm.pc.in >target/kaiverohm.pc
+	install -m 644 target/kaiverohm.pc '$(DESTDIR)$(LIBDIR)/pkgconfig/'
 
 uninstall:
-	rm -f '$(DESTDIR)$(PREFIX)/lib/libkaiverohm.a' '$(DESTDIR)$(PREFIX)/include/kaiverohm.h' '$(DESTDIR)$(PREFIX)/lib/pkgconfig/kaiverohm.pc'
+	rm -f '$(DESTDIR)$(LIBDIR)/libkaiverohm.a' '$(DESTDIR)$(INCLUDEDIR)/kaiverohm.h' '$(DESTDIR)$(LIBDIR)/pkgconfig/kaiverohm.pc'
 
 clean:
 	rm -rf target

@@ -61,7 +61,7 @@ static inline struct twin_report refused_closing(struct twin *t, int found, unsi
 static inline int find_stream(const struct twin *t, uint64_t source, uint64_t cos)
 {
     for (int i = 0; i < 16; i++)
-        if (t->streams[i].live && t->streams[i].source == source && t->streams[i].cos == cos)
+        if (t->streams[i].source == source && t->streams[i].cos == cos && t->streams[i].live)
             return i;
     return 16;
 }
@@ -153,8 +153,8 @@ static inline struct twin_report read_message(struct twin *t, uint8_t *memory, u
     int n = 8;
     if (msglen > 0) {
         for (n = 0; n < 8; n++)
-            if (t->messages[n].live && t->messages[n].source == source && t->messages[n].letter == letter &&
-                t->messages[n].mbox == mbox)
+            if (t->messages[n].source == source && t->messages[n].letter == letter && t->messages[n].mbox == mbox &&
+                t->messages[n].live)
                 break;
     }
     struct twin_message m = {1, source, letter, mbox, msglen, ssize, 0, 0};

@@ -71,6 +71,8 @@
 extern "C" {
 #endif
 
+#define KAIVEROHM_VERSION "0.1"
+
 #define KAIVEROHM_STATE_WORDS 147      /* a state: 147 words of 8 bytes */
 #define KAIVEROHM_STREAM_CONTEXTS 16   /* stream memory: 16 rooms of R bytes */
 #define KAIVEROHM_MESSAGE_CONTEXTS 8   /* message memory: 8 rooms of 4,096 */

@@ -178,11 +178,13 @@ static int is_open_word(size_t i)
     return i >= 83 ? (i - 83) % 8 == 0 : i >= 3 && (i - 3) % 5 == 0;
 }
 
+/* Any number but 0 says that a context is open. The library writes 1 into a
+   context that it goes on with, the second program leaves what stood there. */
 static void same_words(const uint64_t *ours, struct second_endpoint *theirs, const char *call)
 {
     for (size_t i = 0; i < WORDS; i++) {
         uint64_t a = ours[i], b = *second_word(theirs, i);
-        if (is_open_word(i) ? (a != 0) != (b != 0) : a != b)
+        if (a != b && !(is_open_word(i) && a == 1 && b != 0))
             fail("%s: word %zu of the state is %llx and %llx", call, i, (unsigned long long)a,
                  (unsigned long long)b);
     }

@@ -128,14 +128,15 @@ pub fn put_message(state: &mut [usize], n: usize, c: MessageContext)
     state[at + 7] = c.last;
 }
 
+// The flow is asked first: it sets most contexts aside, open or not.
 fn is_of_flow(c: StreamContext, flow: Flow) -> bool
     ensures { λ r. ⌜ r ≡ isOfFlow flow c ⌝ }
 {
-    if c.live == 0 {
-        return false;
-    }
     let own = c.flow;
-    wire::same_flow(own, flow)
+    if wire::same_flow(own, flow) {
+        return c.live != 0;
+    }
+    false
 }
 
 // The flow's open context; 16: none.
@@ -172,16 +173,16 @@ pub fn free_stream(state: &[usize]) -> usize
 fn is_of_message(c: MessageContext, source: usize, letter: usize, mbox: usize) -> bool
     ensures { λ r. ⌜ r ≡ isOfMessage source letter mbox c ⌝ }
 {
-    if c.live == 0 {
-        return false;
-    }
     if c.source != source {
         return false;
     }
     if c.letter != letter {
         return false;
     }
-    c.mbox == mbox
+    if c.mbox != mbox {
+        return false;
+    }
+    c.live != 0
 }
 
 // The open context of the message; 8: none.
