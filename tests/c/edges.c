@@ -13,6 +13,7 @@
 #include <unistd.h>
 
 #include "kaiverohm.h"
+#include "want.h"
 
 enum {
     DEVICE = 0x0102, MTU = 32, ROOM = 100, MOST = 70000,
@@ -22,19 +23,6 @@ enum {
 
 /* A number whose low 32 bits are 0. */
 #define FAR (UINT64_C(1) << 32)
-
-static unsigned checks;
-
-#define WANT(test) want((test), #test, __LINE__)
-
-static void want(int holds, const char *test, int line)
-{
-    checks++;
-    if (!holds) {
-        fprintf(stderr, "edges.c:%d: not so: %s\n", line, test);
-        exit(1);
-    }
-}
 
 /* ---- buffers that end at a closed page */
 
@@ -326,14 +314,20 @@ static void row_19(void)
         }
 }
 
+/* A fresh endpoint, with a context of the flow open or not. */
+static void begin(unsigned open)
+{
+    fresh();
+    if (open)
+        read_it(START("\x09"));
+}
+
 static void rows(void)
 {
     /* Twice: with no context of the flow open, and with one. */
     for (unsigned open = 0; open < 2; open++) {
         int closes = open ? STATE : 0;
-        fresh();
-        if (open)
-            read_it(START("\x09"));
+        begin(open);
         REFUSES(0, 1, 0, 0);
         REFUSES(MADE("\x0f\x00\x00\x00", 0), 1, 0, 0);
         REFUSES(MADE("\x0f\x00\x00\x00\x09", 0), 2, 0, 0);  /* 1, under 7 bytes, comes later */
@@ -346,21 +340,13 @@ static void rows(void)
         REFUSES(MADE("\x19\x01\x02\x00\x09\x05\xc0", 1), 1, 0, 0);
         REFUSES(MADE("\x19\x01\x02\x00\x09\x05\x40", 1), 1, 0, 0);
         REFUSES(MADE("\x19\x01\x02\x00\x09\x05\x00", 0), 6, open, closes);
-        fresh();
-        if (open)
-            read_it(START("\x09"));
+        begin(open);
         REFUSES(MADE("\x19\x01\x02\x00\x09\x05\x80\x00\x07", 33), 6, open, closes);
-        fresh();
-        if (open)
-            read_it(START("\x09"));
+        begin(open);
         REFUSES(MADE("\x19\x01\x02\x00\x09\x05\x42\x00\x07", 40), 6, open, closes);
-        fresh();
-        if (open)
-            read_it(START("\x09"));
+        begin(open);
         REFUSES(MADE("\x19\x01\x02\x00\x09\x05\x02", 34), 7, open, closes);
-        fresh();
-        if (open)
-            read_it(START("\x09"));
+        begin(open);
         REFUSES(MADE("\x19\x01\x02\x00\x09\x05\xc0\x00\x07", MOST - 9 - 3), 7, open, closes);
     }
     fresh();

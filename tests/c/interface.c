@@ -6,6 +6,7 @@
 #include <string.h>
 
 #include "kaiverohm.h"
+#include "want.h"
 
 _Static_assert(sizeof(size_t) == 8, "a length is 8 bytes");
 
@@ -64,18 +65,6 @@ static uint64_t state[KAIVEROHM_STATE_WORDS];
 static uint8_t streams[KAIVEROHM_STREAM_CONTEXTS * ROOM];
 static uint8_t messages[KAIVEROHM_MESSAGE_MEMORY];
 static uint8_t response[KAIVEROHM_RESPONSE_BYTES];
-static unsigned checks;
-
-#define WANT(test) want((test), #test, __LINE__)
-
-static void want(int holds, const char *test, int line)
-{
-    checks++;
-    if (!holds) {
-        fprintf(stderr, "interface.c:%d: not so: %s\n", line, test);
-        exit(1);
-    }
-}
 
 static struct kaiverohm_report read_one(const uint8_t *packet, size_t length)
 {
