@@ -84,7 +84,7 @@ extern "C" {
 #define KAIVEROHM_REPORT_WORDS 9       /* a report in a burst: 9 words */
 #define KAIVEROHM_SLOT_BYTES 8         /* a response in a burst: 8 bytes */
 
-/* What a call says: crates/reports/specs/Reports.antt, kindOf. */
+/* What a call says: crates/c_reports/specs/Reports.antt, kindOf. */
 enum {
     KAIVEROHM_REFUSED = 0,    /* number: the refusal */
     KAIVEROHM_HELD = 1,       /* a segment is stored, more is to come */
@@ -96,7 +96,7 @@ enum {
     KAIVEROHM_WRITTEN = 7     /* number: the bytes of the packet written */
 };
 
-/* Why a burst stopped: crates/bursts/specs/Bursts.antt. */
+/* Why a burst stopped: crates/c_bursts/specs/Bursts.antt. */
 enum {
     KAIVEROHM_BURST_REFUSED = 0,  /* number: 19 or 12. Nothing was read */
     KAIVEROHM_BURST_END = 1,      /* all its packets were read */
@@ -186,7 +186,7 @@ struct kaiverohm_answer kaiverohm_setup(uint64_t *state, size_t state_words,
                        20 to 25: the response is written, ERROR, or RETRY for
                        25; all else stays.
    A response is a whole type 13 packet. It is the caller who sends it.
-   report.response says whether the response was written (crates/from_c/specs/
+   report.response says whether the response was written (crates/c_promises/specs/
    OfCalls.antt, ReportsReply). A delivered room keeps its bytes until its
    context is next used.
    Promise: crates/kaiverohm/specs/Exports.antt, ReadFromCPromise. */
@@ -228,7 +228,7 @@ struct kaiverohm_report kaiverohm_read(uint64_t *state, size_t state_words,
    Without pause a later packet of the same burst may use the room of a PDU or a
    message that was delivered, since its context is free again: then only the
    reports are good. So call with pause where the bytes are wanted.
-   Promise: crates/bursts/specs/Bursts.antt, BurstPromise. */
+   Promise: crates/c_bursts/specs/Bursts.antt, BurstPromise. */
 struct kaiverohm_burst kaiverohm_read_burst(uint64_t *state, size_t state_words,
                                             uint8_t *stream_memory, size_t stream_length,
                                             uint8_t *message_memory, size_t message_length,
@@ -260,7 +260,7 @@ struct kaiverohm_answer kaiverohm_abandon_message(uint64_t *state, size_t state_
    Answers the offset and l. Where n is past the last context, l is over the
    room, size is not what kaiverohm_read needs, or the state is one that is
    refused, offset and length are 0. The context need not be open.
-   Promises: crates/places/specs/Places.antt, StreamPlacePromise and
+   Promises: crates/c_places/specs/Places.antt, StreamPlacePromise and
    MessagePlacePromise. */
 struct kaiverohm_place kaiverohm_stream_room(const uint64_t *state, size_t state_words,
                                              uint64_t size, uint64_t n, uint64_t l);

@@ -56,7 +56,7 @@ int main(int count, char **words)
     save_bundle();
     save_vectors(responses(), "crates/outside_responses/stdin", "crates/outside_responses/stdout");
     save_vectors(segments(), "crates/outside_segments/stdin", "crates/outside_segments/stdout");
-    save_vectors(wheels(), "samples/wheels.log", "samples/wheels.txt");
-    save_vectors(paper(), "samples/paper.log", "samples/paper.txt");
+    save_vectors(wheels(), "logs/wheels.log", "logs/wheels.txt");
+    save_vectors(paper(), "logs/paper.log", "logs/paper.txt");
     return 0;
 }

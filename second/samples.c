@@ -27,7 +27,7 @@ struct vectors paper(void)
     struct buffer log = { 0 };
     append(&log, bytes, sizeof bytes);
     struct vectors made = with_output(log);
-    must_print("samples/paper", &made, "pdu 2 5 7 3, msg 2 1 2 8, end 2");
+    must_print("logs/paper", &made, "pdu 2 5 7 3, msg 2 1 2 8, end 2");
     return made;
 }
 
@@ -79,7 +79,7 @@ struct vectors wheels(void)
     three_parts(&log, 2, 3);
 
     struct vectors made = with_output(log);
-    must_print("samples/wheels", &made,
+    must_print("logs/wheels", &made,
                "held, held, held, held, held, held, held, held, held, held, "
                "pdu 21 1 1 100, pdu 23 1 21 100, msg 21 0 2 24, "
                "held, held dropped, held, held, held, held, refused 3, held, held, held, "

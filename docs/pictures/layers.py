@@ -13,11 +13,11 @@ ROOT = pathlib.Path(__file__).resolve().parents[2]
 # Rows from above. A crate: from which of twelve columns on, and over how many. Below it in its columns stands much of what it uses;
 # it uses nothing beside or above it.
 ROWS = [
-    {"samples": (0, 1.4), "outside_responses": (1.4, 2.2), "outside_segments": (3.6, 2.2), "racklog": (5.8, 1.4), "outside_logs": (7.2, 1.8), "from_c": (9.2, 2.8)},
-    {"kaiverohm": (0, 5.8), "logprint": (5.8, 3.2), "promises": (9.2, 2.8)},
-    {"bursts": (0, 2.4), "places": (2.4, 2.4), "printing": (4.8, 2), "logrun": (6.8, 2.2), "sending": (9.2, 1.4), "examples": (10.6, 1.4)},
-    {"endpoint": (0, 4.8), "segments": (4.8, 2), "logreader": (6.8, 2.2), "flows": (9.2, 2.8)},
-    {"reading": (0, 4.8), "reports": (4.8, 2), "records": (6.8, 1.1), "lines": (7.9, 1.1)},
+    {"tour": (0, 1.4), "outside_responses": (1.4, 2.2), "outside_segments": (3.6, 2.2), "racklog": (5.8, 1.4), "outside_logs": (7.2, 1.8), "c_promises": (9.2, 2.8)},
+    {"kaiverohm": (0, 5.8), "log_print": (5.8, 3.2), "promises": (9.2, 2.8)},
+    {"c_bursts": (0, 2.4), "c_places": (2.4, 2.4), "printing": (4.8, 2), "log_run": (6.8, 2.2), "sending": (9.2, 1.4), "paper_examples": (10.6, 1.4)},
+    {"endpoint": (0, 4.8), "segments": (4.8, 2), "log_reader": (6.8, 2.2), "flows": (9.2, 2.8)},
+    {"reading": (0, 4.8), "c_reports": (4.8, 2), "log_records": (6.8, 1.1), "log_lines": (7.9, 1.1)},
     {"streams": (0, 2.4), "messages": (2.4, 2.4)},
     {"stream_rooms": (0, 2.4), "message_rooms": (2.4, 2.4)},
     {"refusal19": (0, 4.8)},
@@ -27,9 +27,9 @@ ROWS = [
     {"lists": (0, 9), "answers": (9.2, 2.8)},
 ]
 HEADS = [(0, 4.8, "reading packets"), (4.8, 2, "writing segments"), (6.8, 2.2, "the log"), (9.2, 2.8, "theorems")]
-PUBLIC = {"endpoint", "segments", "records", "lines", "logrun", "logreader", "kaiverohm"}
-THEOREMS = {"promises", "from_c", "sending", "examples", "flows"}
-PROGRAMS = {"racklog", "samples", "outside_logs", "outside_responses", "outside_segments"}
+PUBLIC = {"endpoint", "segments", "log_records", "log_lines", "log_run", "log_reader", "kaiverohm"}
+THEOREMS = {"promises", "c_promises", "sending", "paper_examples", "flows"}
+PROGRAMS = {"racklog", "tour", "outside_logs", "outside_responses", "outside_segments"}
 
 WIDTH, ROW, TOP, LEFT, COLUMN = 900, 46, 48, 18, 72
 INK, SOFT, PANEL, EDGE = "#22272e", "#5c6670", "#fdfcf8", "#c9c6bb"

@@ -192,14 +192,14 @@ def records(log):
 
 def check_paper(layouts):
     """The paper's sample log and the response it gives, field by field as the paper writes them."""
-    stream, message = records((ROOT / "samples/paper.log").read_bytes())
+    stream, message = records((ROOT / "logs/paper.log").read_bytes())
     head = {"priority": 0, "tt": 1, "destination": 1, "source": 2}
     box_of = {"letter": 1, "mbox": 2, "msgseg": 0}
     count = compare(layouts["start"], stream,
                     head | {"type": 9, "cos": 5, "S": 1, "E": 1, "reserved": 0, "xh": 0, "O": 0, "P": 1, "streamID": 7},
-                    bytes.fromhex("AABBCC00"), "samples/paper.log")
+                    bytes.fromhex("AABBCC00"), "logs/paper.log")
     count += compare(layouts["message"], message, head | box_of | {"type": 11, "msglen": 0, "ssize": 9},
-                     bytes(range(0x11, 0x19)), "samples/paper.log")
+                     bytes(range(0x11, 0x19)), "logs/paper.log")
     count += compare(layouts["response"], bytes.fromhex("5D000200011060"),
                      box_of | {"priority": 1, "tt": 1, "type": 13, "destination": 2, "source": 1, "transaction": 1, "status": 0},
                      None, "the paper's response")

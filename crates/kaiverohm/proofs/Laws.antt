@@ -7,8 +7,8 @@ use Rattle.answers.specs.Answers.{said}
 use Rattle.reading.specs.Table.{Lent}
 use Rattle.reading.specs.Read as endpoint
 use Rattle.reading.specs.Read.{Left}
-use Rattle.reports.specs.declared.Report.{Report}
-use Rattle.reports.specs.Reports.{reportOf}
+use Rattle.c_reports.specs.declared.Report.{Report}
+use Rattle.c_reports.specs.Reports.{reportOf}
 use Rattle.kaiverohm.specs.Exports.{ReadFromCPromise}
 
 pub handed : (x : Lent) (r : Reading) (report : Report) (words streams messages response : List ℕ) → endpoint.ReadPromise x r words streams messages response

@@ -8,9 +8,9 @@ use Rattle.reading.specs.Read.{reading}
 use Rattle.endpoint.specs.Calls.{setup, abandonStream, abandonMessage}
 use Rattle.cutting.specs.declared.Heading as cut
 use Rattle.segments.specs.Writer.{writing}
-use Rattle.reports.specs.declared.Numbers.{Numbers}
-use Rattle.reports.specs.declared.Report.{Report}
-use Rattle.reports.specs.Reports.{numbersOf, reportOf}
+use Rattle.c_reports.specs.declared.Numbers.{Numbers}
+use Rattle.c_reports.specs.declared.Report.{Report}
+use Rattle.c_reports.specs.Reports.{numbersOf, reportOf}
 use Rattle.kaiverohm.specs.declared.Heading.{Heading}
 
 -- the promise of `kaiverohm_setup`
@@ -45,4 +45,4 @@ pub record WriteFromCPromise (out : List ℕ) (h : Heading) (mtu : ℕ) (pdu : L
   pub packet : after ≡ writing out (headingOf h) mtu pdu k .out
 
 -- The others hand on what their callees promise: `LengthPromise` (endpoint/specs/Calls.antt), `CountPromise` (segments/specs/Writer.antt),
--- `StreamPlacePromise` and `MessagePlacePromise` (places/specs/Places.antt), `BurstPromise` (bursts/specs/Bursts.antt).
+-- `StreamPlacePromise` and `MessagePlacePromise` (c_places/specs/Places.antt), `BurstPromise` (c_bursts/specs/Bursts.antt).

@@ -1,14 +1,14 @@
 // The endpoint for callers in C. Each function hands its arguments on and its answer back as numbers; none asks anything of its caller.
 // include/kaiverohm.h declares them.
-use bursts::Burst;
-use places::Place;
-use reports::Numbers;
-use reports::Report;
+use c_bursts::Burst;
+use c_places::Place;
+use c_reports::Numbers;
+use c_reports::Report;
 ghost use Rattle.reading.specs.Read.{lent};
 ghost use Rattle.endpoint.specs.Calls.{LengthPromise};
 ghost use Rattle.segments.specs.Writer.{CountPromise};
-ghost use Rattle.places.specs.Places.{StreamPlacePromise, MessagePlacePromise};
-ghost use Rattle.bursts.specs.Bursts.{run, BurstPromise};
+ghost use Rattle.c_places.specs.Places.{StreamPlacePromise, MessagePlacePromise};
+ghost use Rattle.c_bursts.specs.Bursts.{run, BurstPromise};
 ghost use Rattle.kaiverohm.specs.Exports.{SetupFromCPromise, ReadFromCPromise, AbandonStreamFromCPromise, AbandonMessageFromCPromise, WriteFromCPromise};
 
 // What the segment writer writes in the head of each packet.
@@ -39,7 +39,7 @@ pub extern "C" fn kaiverohm_setup(
 ) -> Numbers
     ensures { λ r. ⌜ SetupFromCPromise (now (state .entry)) device mtu room r (now (state .exit)) ⌝ }
 {
-    reports::of_setup(endpoint::setup(state, device, mtu, room))
+    c_reports::of_setup(endpoint::setup(state, device, mtu, room))
 }
 
 // Reads one packet.
@@ -54,7 +54,7 @@ pub extern "C" fn kaiverohm_read(
     ensures { λ r. ⌜ ReadFromCPromise (lent (now (state .entry)) (now («stream_memory» .entry)) (now («message_memory» .entry)) (now (response .entry)) (now (packet .entry))) r (now (state .exit)) (now («stream_memory» .exit)) (now («message_memory» .exit)) (now (response .exit)) ⌝ }
 {
     let reading = endpoint::read(state, stream_memory, message_memory, response, packet);
-    reports::reported(reading, packet)
+    c_reports::reported(reading, packet)
 }
 
 // Reads the packets of a burst.
@@ -70,7 +70,7 @@ pub extern "C" fn kaiverohm_read_burst(
 ) -> Burst
     ensures { λ r. ⌜ BurstPromise pause (run (now (state .entry)) (now («stream_memory» .entry)) (now («message_memory» .entry)) (now (responses .entry)) (now (reports .entry)) 0 0) (now (burst .entry)) r (now (state .exit)) (now («stream_memory» .exit)) (now («message_memory» .exit)) (now (responses .exit)) (now (reports .exit)) ⌝ }
 {
-    bursts::read_burst(
+    c_bursts::read_burst(
         state,
         stream_memory,
         message_memory,
@@ -86,7 +86,7 @@ pub extern "C" fn kaiverohm_read_burst(
 pub extern "C" fn kaiverohm_abandon_stream(state: &mut [usize], n: usize) -> Numbers
     ensures { λ r. ⌜ AbandonStreamFromCPromise (now (state .entry)) n r (now (state .exit)) ⌝ }
 {
-    reports::of_abandon(endpoint::abandon_stream(state, n))
+    c_reports::of_abandon(endpoint::abandon_stream(state, n))
 }
 
 // Gives the message of message context n up.
@@ -94,7 +94,7 @@ pub extern "C" fn kaiverohm_abandon_stream(state: &mut [usize], n: usize) -> Num
 pub extern "C" fn kaiverohm_abandon_message(state: &mut [usize], n: usize) -> Numbers
     ensures { λ r. ⌜ AbandonMessageFromCPromise (now (state .entry)) n r (now (state .exit)) ⌝ }
 {
-    reports::of_abandon(endpoint::abandon_message(state, n))
+    c_reports::of_abandon(endpoint::abandon_message(state, n))
 }
 
 // Where the first l bytes of stream context n's room lie, in a stream memory of that size.
@@ -102,7 +102,7 @@ pub extern "C" fn kaiverohm_abandon_message(state: &mut [usize], n: usize) -> Nu
 pub extern "C" fn kaiverohm_stream_room(state: &[usize], size: usize, n: usize, l: usize) -> Place
     ensures { λ r. ⌜ StreamPlacePromise (now (state .entry)) size n l r ⌝ }
 {
-    places::stream_place(state, size, n, l)
+    c_places::stream_place(state, size, n, l)
 }
 
 // Where the first l bytes of message context n's room lie, in a message memory of that size.
@@ -110,7 +110,7 @@ pub extern "C" fn kaiverohm_stream_room(state: &[usize], size: usize, n: usize, 
 pub extern "C" fn kaiverohm_message_room(state: &[usize], size: usize, n: usize, l: usize) -> Place
     ensures { λ r. ⌜ MessagePlacePromise (now (state .entry)) size n l r ⌝ }
 {
-    places::message_place(state, size, n, l)
+    c_places::message_place(state, size, n, l)
 }
 
 // How many segments a PDU makes.
@@ -139,5 +139,5 @@ pub extern "C" fn kaiverohm_write_segment(
         stream: heading.stream,
         priority: heading.priority,
     };
-    reports::of_writer(segments::write_segment(out, head, mtu, pdu, number))
+    c_reports::of_writer(segments::write_segment(out, head, mtu, pdu, number))
 }

@@ -10,7 +10,7 @@ fn print_one(log: &[u8]) {
     print_text(b"log ");
     print_number(log.len());
     print_text(b"\n");
-    logprint::print_log(log);
+    log_print::print_log(log);
 }
 
 // Prints the log whose length stands at that place, and answers the place behind it. A log that is cut is not printed.

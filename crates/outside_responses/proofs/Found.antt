@@ -8,12 +8,12 @@ use native.Mathlib.Omega.{arith}
 use lib.ListN.{length}
 use types.Run.{OneOf}
 use denote.Enum.Declared.{tagOf}
-use Rattle.records.proofs.Next.{the-type}
-use Rattle.records.specs.declared.Next.{Next}
-use Rattle.records.specs.declared.Next.the-variants.{Record, End, Bad}
-use Rattle.records.specs.Records.{nextRecord}
-use Rattle.records.proofs.Found.{inside}
-use Rattle.logreader.specs.Reader.{placeBehind}
+use Rattle.log_records.proofs.Next.{the-type}
+use Rattle.log_records.specs.declared.Next.{Next}
+use Rattle.log_records.specs.declared.Next.the-variants.{Record, End, Bad}
+use Rattle.log_records.specs.Records.{nextRecord}
+use Rattle.log_records.proofs.Found.{inside}
+use Rattle.log_reader.specs.Reader.{placeBehind}
 use Rattle.outside_responses.specs.Found.{LiesIn, isRecord}
 
 pub lies : (log : List ℕ) (x : Next) (from size next : ℕ) → x ≡ Record from size next → LiesIn log x → (from ≤ next) × (next ≤ length log)

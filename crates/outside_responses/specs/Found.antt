@@ -3,8 +3,8 @@ use Prim.Native.Nat.{ℕ, _≤_}
 use mathlib.Core.List.{List}
 use mathlib.Core.Bool.{Bool, true, false}
 use lib.ListN.{length}
-use Rattle.records.specs.declared.Next.{Next}
-use Rattle.records.specs.declared.Next.the-variants.{Record, End, Bad}
+use Rattle.log_records.specs.declared.Next.{Next}
+use Rattle.log_records.specs.declared.Next.the-variants.{Record, End, Bad}
 
 abbrev pub isRecord : Next → Bool
 isRecord (Record from size next) = true

@@ -2,7 +2,7 @@
 use libc::STDIN_FILENO;
 use printing::print_bytes;
 use printing::print_text;
-use records::Next;
+use log_records::Next;
 ghost use mathlib.Core.Path.{_≡_};
 ghost use Rattle.outside_responses.specs.Found.{LiesIn, isRecord};
 
@@ -26,7 +26,7 @@ fn print_packet(
     let mut response = [0u8; 7];
     let mut line = [0u8; 128];
     let reading = endpoint::read(state, stream_memory, message_memory, &mut response, packet);
-    let size = lines::write_line(&mut line, reading);
+    let size = log_lines::write_line(&mut line, reading);
     print_text(&line[..size]);
     print_response(&response);
 }
@@ -61,9 +61,9 @@ fn print_packets(
     message_memory: &mut [u8],
     log: &[u8],
 ) {
-    let mut reader = logreader::new(log);
+    let mut reader = log_reader::new(log);
     loop {
-        let found = logreader::next(&mut reader);
+        let found = log_reader::next(&mut reader);
         if !print_found(state, stream_memory, message_memory, log, found) {
             return;
         }

@@ -30,9 +30,9 @@ use Rattle.sending.specs.Mixture.{mixture}
 use Rattle.sending.proofs.Mixture.{under, are-bytes, mixture-is-fair}
 use Rattle.sending.proofs.Joint.{joint-delivered}
 use Rattle.sending.proofs.Untold.{joint-untold}
-use Rattle.examples.specs.Table.{firstPDU, secondPDU}
-use Rattle.examples.proofs.Computing.{computing}
-use Rattle.examples.proofs.Table.{examples-hold}
+use Rattle.paper_examples.specs.Table.{firstPDU, secondPDU}
+use Rattle.paper_examples.proofs.Computing.{computing}
+use Rattle.paper_examples.proofs.Table.{examples-hold}
 use Rattle.promises.proofs.Wider.{largest-holds, wider}
 use Rattle.promises.specs.Statements.{Fresh, WriterMakes, FieldsReadBack, Demand2, Demand3, Demand3AnyLoss, Demand3NotEmpty, FreshNotEmpty, Corollary3, FlowsDoNotDisturb, FlowsNotEmpty, Joint, JointNotEmpty, JointCannotBeTold, StarredExamples}
 

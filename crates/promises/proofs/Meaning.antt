@@ -1,7 +1,7 @@
 -- What the page cites to say what its words mean, each by its own proof.
 use Rattle.sending.proofs.Meaning.{in-order, whole-is-intact}
 use Rattle.sending.proofs.Measured.{length-is-measured}
-use Rattle.examples.proofs.Impostors.{read-meets, silent-breaks3, same-breaks2, count-mover-breaks2, count-mover-breaks3, inventor-breaks2, idle-writer-breaks2}
+use Rattle.paper_examples.proofs.Impostors.{read-meets, silent-breaks3, same-breaks2, count-mover-breaks2, count-mover-breaks3, inventor-breaks2, idle-writer-breaks2}
 use Rattle.promises.specs.Statements.{FlowsInOrder, WholeLostNothing, AnsweredLength, ImpostorsBreak}
 
 pub flows-in-order : FlowsInOrder

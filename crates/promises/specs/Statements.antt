@@ -33,8 +33,8 @@ use Rattle.sending.specs.Segment.{SegmentsReadBack}
 use Rattle.sending.specs.OfSendings.{ReadsBack, LengthIsMeasured, firstTurns}
 use Rattle.sending.specs.Meaning.{InOrder, WholeIsIntact}
 use Rattle.sending.specs.Mixture.{five, six, mixture, MixtureIsFair}
-use Rattle.examples.specs.Table.{firstPDU, secondPDU, ExamplesHold}
-use Rattle.examples.specs.Impostors.{ReadMeets, SilentBreaks3, SameBreaks2, CountMoverBreaks2, CountMoverBreaks3, InventorBreaks2, IdleWriterBreaks2}
+use Rattle.paper_examples.specs.Table.{firstPDU, secondPDU, ExamplesHold}
+use Rattle.paper_examples.specs.Impostors.{ReadMeets, SilentBreaks3, SameBreaks2, CountMoverBreaks2, CountMoverBreaks3, InventorBreaks2, IdleWriterBreaks2}
 use Rattle.sending.specs.Joint.{Pair, isJoint, jointPDU, pairPackets, JointUntold}
 use Rattle.answers.specs.declared.Reading.{Reading}
 use Rattle.answers.specs.declared.Begun.{Begun}
@@ -346,7 +346,7 @@ Demand3AnyLoss =
 abbrev pub Demand3NotEmpty : Type 0
 Demand3NotEmpty = MixtureIsFair
 
--- setup, and then a call for each packet that a sending leaves: they deliver exactly what is whole. Of calls from C and of bursts: from_c/specs/OfCalls.antt
+-- setup, and then a call for each packet that a sending leaves: they deliver exactly what is whole. Of calls from C and of bursts: c_promises/specs/OfCalls.antt
 abbrev pub Demand3OfCalls : Type 0
 Demand3OfCalls =
     (device mtu R : ℕ) (s : Sending) (words after streamMemory messageMemory response : List ℕ) (ds : List Delivery)

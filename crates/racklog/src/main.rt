@@ -5,5 +5,5 @@ fn main() {
     // one byte more than the longest log, so that a longer one shows
     let mut log = [0u8; 65537];
     let n = io::read_full(STDIN_FILENO, &mut log);
-    logprint::print_log(&log[..n]);
+    log_print::print_log(&log[..n]);
 }

@@ -1,6 +1,6 @@
 -- `outside_responses::print_packets` meets its contract: a walk of its MIR, by hand, with a loop over a reader in a local.
 -- The invariant: the local holds a reader of the log that was passed, and the three memories are owned, as long as they were. What is left of the log behind the reader's place falls at each turn.
--- In a turn the local is lent to `next` for the meet of a new lifetime and the log's, as in `logreader::place_after`; then the memories are lent again to `print_found`, for another new lifetime. Where no record was found the function returns.
+-- In a turn the local is lent to `next` for the meet of a new lifetime and the log's, as in `log_reader::place_after`; then the memories are lent again to `print_found`, for another new lifetime. Where no record was found the function returns.
 -- All that the proof knows of the three functions called is that each meets its contract.
 -- Assumes nothing.
 use mathlib.Core.Path.{_≡_, refl, ap, sym, subst, _∙_}
@@ -51,23 +51,23 @@ use denote.Triple.Table.{entered, cited}
 use denote.Triple.Walked.{says, Stays, stay-slice, stay-none-slice, walkOf, goes-slice, goes-none-slice, Walks, ends-at, walked, walk-meets}
 use denote.Exit.{yes}
 use denote.Triple.Clauses.{ensured, lasts}
-use Rattle.records.specs.Records.{nextRecord}
-use Rattle.records.specs.declared.Next.{Next}
-use Rattle.logreader.specs.Reader.{readerAt, foundBy, placeBehind, movedOn}
-use Rattle.logreader.specs.declared.LogReader.{LogReader}
-use Rattle.logreader.proofs.Calls.{New, to-new, answers}
-use Rattle.logreader.proofs.LogReader as T
-use Rattle.logreader.proofs.LogReader.Laws as T′
-use Rattle.records.proofs.Next as S
-use Rattle.records.proofs.Next.Laws as S′
-use Rattle.logreader.proofs.new as new
-use Rattle.logreader.proofs.new.Symbol as new-def
-use Rattle.logreader.proofs.new.Symbol.{name as #logreader·new}
-use Rattle.logreader.proofs.new.Met as new-thm
-use Rattle.logreader.proofs.next as next
-use Rattle.logreader.proofs.next.Symbol as next-def
-use Rattle.logreader.proofs.next.Symbol.{name as #logreader·next}
-use Rattle.logreader.proofs.next.Met as next-thm
+use Rattle.log_records.specs.Records.{nextRecord}
+use Rattle.log_records.specs.declared.Next.{Next}
+use Rattle.log_reader.specs.Reader.{readerAt, foundBy, placeBehind, movedOn}
+use Rattle.log_reader.specs.declared.LogReader.{LogReader}
+use Rattle.log_reader.proofs.Calls.{New, to-new, answers}
+use Rattle.log_reader.proofs.LogReader as T
+use Rattle.log_reader.proofs.LogReader.Laws as T′
+use Rattle.log_records.proofs.Next as S
+use Rattle.log_records.proofs.Next.Laws as S′
+use Rattle.log_reader.proofs.new as new
+use Rattle.log_reader.proofs.new.Symbol as new-def
+use Rattle.log_reader.proofs.new.Symbol.{name as #log-reader·new}
+use Rattle.log_reader.proofs.new.Met as new-thm
+use Rattle.log_reader.proofs.next as next
+use Rattle.log_reader.proofs.next.Symbol as next-def
+use Rattle.log_reader.proofs.next.Symbol.{name as #log-reader·next}
+use Rattle.log_reader.proofs.next.Met as next-thm
 use Rattle.outside_responses.specs.Found.{LiesIn, isRecord}
 use Rattle.outside_responses.proofs.Found.{found-lies, falls}
 use Rattle.outside_responses.proofs.Again.{LentAgain, lends-at, back-at}
@@ -272,7 +272,7 @@ module _ {M : Type 1} (𝓤 : URA M) (H : Heap 𝓤) (A : Atoms 𝓤) (W : Given
       ∷ ‵ (fat fullShare slice₂ l₂ 0 v₂) ∷ ‵ (fdies slice₂ l₂) ∷ ‵ (fat fullShare slice₁ l₁ 0 v₁) ∷ ‵ (fdies slice₁ l₁)
       ∷ ‵ (froom tyUnit l₀ 0) ∷ ‵ (fdies tyUnit l₀) ∷ []
 
-  module _ (𝓣 : Tables 𝓤 H) (fm : FmC 𝓤 H (W .laws) (𝓣 .C)) (known-new : Triple 𝓤 (𝓣 .C #logreader·new) (New 𝓤 H A mem-at run)) (known-next : Triple 𝓤 (𝓣 .C #logreader·next) (NextC 𝓤 H A mem-at run)) (known-found : Triple 𝓤 (𝓣 .C #outside_responses·print-found) (FoundC 𝓤 H A mem-at run)) where
+  module _ (𝓣 : Tables 𝓤 H) (fm : FmC 𝓤 H (W .laws) (𝓣 .C)) (known-new : Triple 𝓤 (𝓣 .C #log-reader·new) (New 𝓤 H A mem-at run)) (known-next : Triple 𝓤 (𝓣 .C #log-reader·next) (NextC 𝓤 H A mem-at run)) (known-found : Triple 𝓤 (𝓣 .C #outside_responses·print-found) (FoundC 𝓤 H A mem-at run)) where
     walk : Room usize (length xs₀) → Room u8 (length ys₀) → Room u8 (length zs₀) → Is (ShrSlice (named 3) κ u8) s (v ∷ [])
         → ent 𝓤 (onEntry 𝓤 H A print-packets.signature κs (q₁, (q₂, (q₃, (q, tt)))) a vals) (WpFn 𝓤 H (𝓣 .C) (𝓣 .Λ) code.function (v₁ ∷ v₂ ∷ v₃ ∷ v ∷ []) Post)
     unfolding afterTurn
@@ -378,7 +378,7 @@ module _ {M : Type 1} (𝓤 : URA M) (H : Heap 𝓤) (A : Atoms 𝓤) (W : Given
         )))))))))))))))))))
 
 module _ {M : Type 1} (𝓤 : URA M) (H : Heap 𝓤) (A : Atoms 𝓤) (W : Given 𝓤 H A) (mem-at : Memory → SProp 𝓤) (run : Routine → Fun 𝓤) where
-  print-packets-walks : (𝓣 : Tables 𝓤 H) → FmC 𝓤 H (W .laws) (𝓣 .C) → Triple 𝓤 (𝓣 .C #logreader·new) (New 𝓤 H A mem-at run) → Triple 𝓤 (𝓣 .C #logreader·next) (NextC 𝓤 H A mem-at run) → Triple 𝓤 (𝓣 .C #outside_responses·print-found) (FoundC 𝓤 H A mem-at run)
+  print-packets-walks : (𝓣 : Tables 𝓤 H) → FmC 𝓤 H (W .laws) (𝓣 .C) → Triple 𝓤 (𝓣 .C #log-reader·new) (New 𝓤 H A mem-at run) → Triple 𝓤 (𝓣 .C #log-reader·next) (NextC 𝓤 H A mem-at run) → Triple 𝓤 (𝓣 .C #outside_responses·print-found) (FoundC 𝓤 H A mem-at run)
       → Walks 𝓤 H A print-packets.ended stayed (WpFn 𝓤 H (𝓣 .C) (𝓣 .Λ) code.function) (print-packets.clauses 𝓤 H A mem-at run)
   print-packets-walks 𝓣 fm known-new known-next known-found = walked 𝓤 H A print-packets.ended stayed (print-packets.clauses 𝓤 H A mem-at run) (WpFn 𝓤 H (𝓣 .C) (𝓣 .Λ) code.function) (λ κs. (slice-vals, (slice-vals, (slice-vals, (slice-vals, tt)))))
       (λ κs. (mut-slice-tells (named 0) (κs .0) usize, (mut-slice-tells (named 1) (κs .1 .0) u8, (mut-slice-tells (named 2) (κs .1 .1 .0) u8, (shr-slice-tells (named 3) (κs .1 .1 .1 .0) u8, tt)))))
@@ -388,7 +388,7 @@ module _ {M : Type 1} (𝓤 : URA M) (H : Heap 𝓤) (A : Atoms 𝓤) (W : Given
       𝓣 fm known-new known-next known-found (are .0 .0 .1) (are .1 .0 .0 .1) (are .1 .1 .0 .0 .1) (are .1 .1 .1 .0)))
 
 print-packets-meets : {M : Type 1} (𝓤 : URA M) (H : Heap 𝓤) (A : Atoms 𝓤) (W : Given 𝓤 H A) (mem-at : Memory → SProp 𝓤) (run : Routine → Fun 𝓤) (𝓣 : Tables 𝓤 H)
-    → Triple 𝓤 (𝓣 .C #logreader·new) (New 𝓤 H A mem-at run) → Triple 𝓤 (𝓣 .C #logreader·next) (NextC 𝓤 H A mem-at run) → Triple 𝓤 (𝓣 .C #outside_responses·print-found) (FoundC 𝓤 H A mem-at run)
+    → Triple 𝓤 (𝓣 .C #log-reader·new) (New 𝓤 H A mem-at run) → Triple 𝓤 (𝓣 .C #log-reader·next) (NextC 𝓤 H A mem-at run) → Triple 𝓤 (𝓣 .C #outside_responses·print-found) (FoundC 𝓤 H A mem-at run)
     → Meets 𝓤 H A print-packets.signature (WpFn 𝓤 H (𝓣 .C) (𝓣 .Λ) code.function) (print-packets.spec 𝓤 H A mem-at run)
 print-packets-meets 𝓤 H A W mem-at run 𝓣 known-new known-next known-found =
     walk-meets 𝓤 H A print-packets.ended stayed W (goes-slice 𝓤 H A W 4 0 tt (plain (λ _. usize)), (goes-slice 𝓤 H A W 4 1 tt (plain (λ _. u8)), (goes-slice 𝓤 H A W 4 2 tt (plain (λ _. u8)), (goes-none-slice 𝓤 H A W 4 (3 ∷ []) tt (plain (λ _. u8)) yes, tt)))) (print-packets.clauses 𝓤 H A mem-at run)
@@ -400,6 +400,6 @@ print-packets-spec 𝓤 H 𝓜 𝓖 𝓡 =
     entered 𝓤 H (tripleOf 𝓤 H (𝓖 .A) print-packets.signature (print-packets.spec 𝓤 H (𝓖 .A) (𝓜 .mem) (𝓡 .run)))
     (tables 𝓤 H 𝓜 𝓡 code.env .C) (tables 𝓤 H 𝓜 𝓡 code.env .Λ) #outside_responses·print-packets code.function (code.unfolded 𝓤 H 𝓜 𝓡)
     (print-packets-meets 𝓤 H (𝓖 .A) (givenOf 𝓤 H 𝓜 𝓖) (𝓜 .mem) (𝓡 .run) (tablesOf 𝓤 H 𝓜 (tables 𝓤 H 𝓜 𝓡 code.env))
-    (cited 𝓤 H (New 𝓤 H (𝓖 .A) (𝓜 .mem) (𝓡 .run)) 𝓜 𝓡 code.env #logreader·new new-def.routine code.calls-logreader·new (new-thm.met 𝓤 H 𝓜 𝓖 𝓡))
-    (cited 𝓤 H (NextC 𝓤 H (𝓖 .A) (𝓜 .mem) (𝓡 .run)) 𝓜 𝓡 code.env #logreader·next next-def.routine code.calls-logreader·next (next-thm.met 𝓤 H 𝓜 𝓖 𝓡))
+    (cited 𝓤 H (New 𝓤 H (𝓖 .A) (𝓜 .mem) (𝓡 .run)) 𝓜 𝓡 code.env #log-reader·new new-def.routine code.calls-logreader·new (new-thm.met 𝓤 H 𝓜 𝓖 𝓡))
+    (cited 𝓤 H (NextC 𝓤 H (𝓖 .A) (𝓜 .mem) (𝓡 .run)) 𝓜 𝓡 code.env #log-reader·next next-def.routine code.calls-logreader·next (next-thm.met 𝓤 H 𝓜 𝓖 𝓡))
     (cited 𝓤 H (FoundC 𝓤 H (𝓖 .A) (𝓜 .mem) (𝓡 .run)) 𝓜 𝓡 code.env #outside_responses·print-found print-found-def.routine code.calls-outside-responses·print-found (print-found-thm.met 𝓤 H 𝓜 𝓖 𝓡)))

@@ -1,0 +1,245 @@
+// Many packets in one call: a burst in the log's record form. The state and the memories are tested once, then each packet is read
+// by what the one before left, and has a report and a response of its own.
+use log_records::Next;
+ghost use mathlib.Core.Path.{_≡_};
+ghost use Rattle.c_bursts.specs.Bursts.{run, pauseOf, refusedAll, answering, roomFor, BurstPromise};
+ghost use Rattle.reading.specs.Inside.{Fit};
+ghost use Rattle.c_bursts.specs.Inside.{Room, PacketPromise, TurnPromise, RunPromise};
+
+// The bytes of `responses` that each packet has for its own.
+pub const SLOT: usize = 8;
+
+// Why a burst stops: refused as a whole, at its end, at a bad record, without room for another report or response, or behind a delivery.
+pub const REFUSED: usize = 0;
+
+pub const END: usize = 1;
+
+pub const BAD: usize = 2;
+
+pub const FULL: usize = 3;
+
+pub const DELIVERY: usize = 4;
+
+// Why a burst stopped, the refusal's number, the packets read, and where the first unread record begins.
+#[repr(C)]
+pub struct Burst {
+    pub stop: usize,
+    pub number: usize,
+    pub count: usize,
+    pub next: usize,
+}
+
+// 0 where the burst goes on, else why it stops; the packets read so far, and where the next record begins.
+pub struct Turn {
+    pub stop: usize,
+    pub count: usize,
+    pub next: usize,
+}
+
+// Reads a packet, with its own slot for the response and its own words for the report. Answers the report's kind.
+fn read_packet(
+    state: &mut [usize],
+    stream_memory: &mut [u8],
+    message_memory: &mut [u8],
+    responses: &mut [u8],
+    reports: &mut [usize],
+    packet: &[u8],
+    count: usize,
+) -> usize
+    requires { ⌜ Fit (now state) (now «stream_memory») (now «message_memory») ⌝ }
+    requires { ⌜ Room (now responses) (now reports) count 1 ⌝ }
+    ensures { λ r. ⌜ PacketPromise (run (now (state .entry)) (now («stream_memory» .entry)) (now («message_memory» .entry)) (now (responses .entry)) (now (reports .entry)) count 0) (now (packet .entry)) r (now (state .exit)) (now («stream_memory» .exit)) (now («message_memory» .exit)) (now (responses .exit)) (now (reports .exit)) ⌝ }
+    ensures { λ r. ⌜ Fit (now (state .exit)) (now («stream_memory» .exit)) (now («message_memory» .exit)) ⌝ }
+{
+    let at = SLOT * count;
+    let end = at + SLOT;
+    let reading = reading::step(
+        state,
+        stream_memory,
+        message_memory,
+        &mut responses[at..end],
+        packet,
+    );
+    let report = c_reports::reported(reading, packet);
+    c_reports::put(reports, c_reports::WORDS * count, report);
+    report.kind
+}
+
+// Whether the burst stops behind a packet whose report has that kind.
+fn pausing(pause: usize, kind: usize) -> usize
+    ensures { λ r. ⌜ r ≡ pauseOf pause kind ⌝ }
+{
+    if pause == 0 {
+        return 0;
+    }
+    if kind == 2 {
+        return DELIVERY;
+    }
+    if kind == 3 {
+        return DELIVERY;
+    }
+    0
+}
+
+// One turn: the record at a place is read, where there is one and it has room. There is room for `room` packets more.
+fn turn_at(
+    state: &mut [usize],
+    stream_memory: &mut [u8],
+    message_memory: &mut [u8],
+    responses: &mut [u8],
+    reports: &mut [usize],
+    burst: &[u8],
+    pause: usize,
+    room: usize,
+    count: usize,
+    at: usize,
+) -> Turn
+    requires { ⌜ Fit (now state) (now «stream_memory») (now «message_memory») ⌝ }
+    requires { ⌜ Room (now responses) (now reports) count room ⌝ }
+    ensures { λ r. ⌜ TurnPromise pause room (now (burst .entry)) (run (now (state .entry)) (now («stream_memory» .entry)) (now («message_memory» .entry)) (now (responses .entry)) (now (reports .entry)) count at) r (now (state .exit)) (now («stream_memory» .exit)) (now («message_memory» .exit)) (now (responses .exit)) (now (reports .exit)) ⌝ }
+    ensures { λ r. ⌜ Fit (now (state .exit)) (now («stream_memory» .exit)) (now («message_memory» .exit)) ⌝ }
+{
+    match log_records::next_record(burst, at) {
+        Next::End => Turn {
+            stop: END,
+            count,
+            next: at,
+        },
+        Next::Bad => Turn {
+            stop: BAD,
+            count,
+            next: at,
+        },
+        Next::Record {
+            from,
+            size: _,
+            next,
+        } => {
+            if room == 0 {
+                return Turn {
+                    stop: FULL,
+                    count,
+                    next: at,
+                };
+            }
+            let kind = read_packet(
+                state,
+                stream_memory,
+                message_memory,
+                responses,
+                reports,
+                &burst[from..next],
+                count,
+            );
+            Turn {
+                stop: pausing(pause, kind),
+                count: count + 1,
+                next,
+            }
+        }
+    }
+}
+
+// Turn after turn, until one stops. There is room for `room` packets.
+fn run_over(
+    state: &mut [usize],
+    stream_memory: &mut [u8],
+    message_memory: &mut [u8],
+    responses: &mut [u8],
+    reports: &mut [usize],
+    burst: &[u8],
+    pause: usize,
+    room: usize,
+) -> Burst
+    requires { ⌜ Fit (now state) (now «stream_memory») (now «message_memory») ⌝ }
+    requires { ⌜ Room (now responses) (now reports) 0 room ⌝ }
+    ensures { λ r. ⌜ RunPromise pause room (now (burst .entry)) (run (now (state .entry)) (now («stream_memory» .entry)) (now («message_memory» .entry)) (now (responses .entry)) (now (reports .entry)) 0 0) r (now (state .exit)) (now («stream_memory» .exit)) (now («message_memory» .exit)) (now (responses .exit)) (now (reports .exit)) ⌝ }
+{
+    let mut left = room;
+    let mut count = 0;
+    let mut at = 0;
+    loop {
+        let t = turn_at(
+            state,
+            stream_memory,
+            message_memory,
+            responses,
+            reports,
+            burst,
+            pause,
+            left,
+            count,
+            at,
+        );
+        if t.stop != 0 {
+            return Burst {
+                stop: t.stop,
+                number: 0,
+                count: t.count,
+                next: t.next,
+            };
+        }
+        left -= 1;
+        count = t.count;
+        at = t.next;
+    }
+}
+
+// The packets that have room for a report and a response.
+fn room_for(report_words: usize, response_bytes: usize) -> usize
+    ensures { λ r. ⌜ r ≡ roomFor «report_words» «response_bytes» ⌝ }
+{
+    let a = report_words / c_reports::WORDS;
+    let b = response_bytes / SLOT;
+    if a < b {
+        return a;
+    }
+    b
+}
+
+// A burst that is refused as a whole.
+fn refused(number: usize) -> Burst
+    ensures { λ r. ⌜ r ≡ answering refusedAll number 0 0 ⌝ }
+{
+    Burst {
+        stop: REFUSED,
+        number,
+        count: 0,
+        next: 0,
+    }
+}
+
+// Reads the packets of a burst, until its end, a bad record, or the last one that has room for a report and a response;
+// where `pause` is not 0, until one delivers a PDU or a message.
+pub fn read_burst(
+    state: &mut [usize],
+    stream_memory: &mut [u8],
+    message_memory: &mut [u8],
+    responses: &mut [u8],
+    reports: &mut [usize],
+    burst: &[u8],
+    pause: usize,
+) -> Burst
+    ensures { λ r. ⌜ BurstPromise pause (run (now (state .entry)) (now («stream_memory» .entry)) (now («message_memory» .entry)) (now (responses .entry)) (now (reports .entry)) 0 0) (now (burst .entry)) r (now (state .exit)) (now («stream_memory» .exit)) (now («message_memory» .exit)) (now (responses .exit)) (now (reports .exit)) ⌝ }
+{
+    if state.len() != contexts::WORDS {
+        return refused(12);
+    }
+    if refusal19::named_by_19(state) {
+        return refused(19);
+    }
+    if reading::wrong_memory(state, stream_memory, message_memory, responses) {
+        return refused(12);
+    }
+    let room = room_for(reports.len(), responses.len());
+    run_over(
+        state,
+        stream_memory,
+        message_memory,
+        responses,
+        reports,
+        burst,
+        pause,
+        room,
+    )
+}

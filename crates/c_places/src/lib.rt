@@ -1,0 +1,68 @@
+// Rooms as places: an offset and a length in the caller's memory, for callers that keep their memory to themselves.
+ghost use mathlib.Core.Path.{_≡_};
+ghost use Prim.Native.Nat.{_≤_};
+ghost use Rattle.endpoint.specs.Calls.{part, roomPart};
+ghost use Rattle.c_places.specs.Places.{placeOf, StreamPlacePromise, MessagePlacePromise};
+
+// Where a part of a memory begins, and its bytes.
+#[repr(C)]
+pub struct Place {
+    pub offset: usize,
+    pub length: usize,
+}
+
+// No part: an empty one at the memory's beginning.
+fn nowhere() -> Place
+    ensures { λ r. ⌜ r ≡ placeOf (part 0 0) ⌝ }
+{
+    Place {
+        offset: 0,
+        length: 0,
+    }
+}
+
+// The first l bytes of room n of a memory of so many rooms and that size. Every caller knows the rooms to be small.
+fn room_at(rooms: usize, room: usize, size: usize, n: usize, l: usize) -> Place
+    requires { ⌜ (rooms ≤ 16) × (room ≤ 65536) ⌝ }
+    ensures { λ r. ⌜ r ≡ placeOf (roomPart rooms room size n l) ⌝ }
+{
+    if size != rooms * room {
+        return nowhere();
+    }
+    if rooms <= n {
+        return nowhere();
+    }
+    if room < l {
+        return nowhere();
+    }
+    Place {
+        offset: n * room,
+        length: l,
+    }
+}
+
+// The first l bytes of the room of stream context n, in a stream memory of that size.
+pub fn stream_place(state: &[usize], size: usize, n: usize, l: usize) -> Place
+    ensures { λ r. ⌜ StreamPlacePromise (now (state .entry)) size n l r ⌝ }
+{
+    if state.len() != contexts::WORDS {
+        return nowhere();
+    }
+    if refusal19::named_by_19(state) {
+        return nowhere();
+    }
+    room_at(16, contexts::room(state), size, n, l)
+}
+
+// The same of message context n.
+pub fn message_place(state: &[usize], size: usize, n: usize, l: usize) -> Place
+    ensures { λ r. ⌜ MessagePlacePromise (now (state .entry)) size n l r ⌝ }
+{
+    if state.len() != contexts::WORDS {
+        return nowhere();
+    }
+    if refusal19::named_by_19(state) {
+        return nowhere();
+    }
+    room_at(8, message_rooms::ROOM, size, n, l)
+}

@@ -1,0 +1,53 @@
+// What a log prints, on standard output: runs over the log, each written as it ends.
+use libc::STDOUT_FILENO;
+ghost use mathlib.Core.Path.{_≡_};
+ghost use Prim.Native.Nat.{_≤_};
+ghost use lib.ListN.{length};
+ghost use Rattle.log_run.specs.Output.{output};
+
+// Runs over a log from a fresh endpoint: device 1, MTU 32, R 2,048. Answers how many bytes they put. Every caller has tested the length.
+fn print_runs(log: &[u8]) -> usize
+    requires { ⌜ length (now log) ≤ 65536 ⌝ }
+    ensures { λ r. ⌜ r ≡ length (output (now (log .entry))) ⌝ }
+{
+    let mut state = [0usize; 147];
+    let mut streams = [0u8; 32768];
+    let mut messages = [0u8; 32768];
+    let mut response = [0u8; 7];
+    let mut out = [0u8; 65536];
+    endpoint::setup(&mut state, 1, 32, 2048);
+    let mut at = 0;
+    let mut count = 0;
+    let mut total = 0;
+    loop {
+        let ran = log_run::run(
+            &mut state,
+            &mut streams,
+            &mut messages,
+            &mut response,
+            log,
+            at,
+            count,
+            &mut out,
+        );
+        let used = ran.used;
+        io::write_all(STDOUT_FILENO, &out[..used]);
+        total += used;
+        if ran.over {
+            return total;
+        }
+        at = ran.at;
+        count = ran.count;
+    }
+}
+
+// Writes the log program's output for a log to standard output. Answers how many bytes that is.
+pub fn print_log(log: &[u8]) -> usize
+    ensures { λ r. ⌜ r ≡ length (output (now (log .entry))) ⌝ }
+{
+    if 65536 < log.len() {
+        io::write_all(STDOUT_FILENO, b"bad log\n");
+        return 8;
+    }
+    print_runs(log)
+}

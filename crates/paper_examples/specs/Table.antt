@@ -1,0 +1,91 @@
+-- The starred examples of document 01, in its order and with its numbers ('Examples to hold it to'). MTU 32.
+use Prim.Native.Nat.{ℕ, zero, suc}
+use mathlib.Core.List.{List, [], _∷_, _++_}
+use lib.ListN.{take, drop, replicate}
+use Rattle.answers.specs.Answers.{held, delivered, message, refused}
+use Rattle.cutting.specs.declared.Heading.{Heading}
+use Rattle.cutting.specs.Cutting.{packetOf}
+use Rattle.lists.specs.Each.{Each}
+use Rattle.paper_examples.specs.Example.{counting, cut, Fact, hasBytes, byte6, lengthField, delivers, deliversNot, response, lost, gets, getsDropped, Example, example, Holds}
+
+-- to device 1, cos 5, priority 0
+abbrev pub heading : (source stream : ℕ) → Heading
+heading source stream = record { destination = 1; source = source; cos = 5; stream = stream; priority = 0 }
+
+-- the packets of a PDU of L bytes 0, 1, 2, .. with streamID 7, from source 2
+abbrev pub cutPDU : ℕ → List (List ℕ)
+cutPDU L = cut (heading 2 7) 32 (counting 0 L)
+
+-- two PDUs of 40 bytes on that flow, whose bytes and streamIDs differ
+abbrev pub firstPDU : List ℕ
+firstPDU = counting 0 40
+
+abbrev pub secondPDU : List ℕ
+secondPDU = counting 100 40
+
+abbrev pub twoPDUs : List (List ℕ)
+twoPDUs = cut (heading 2 7) 32 firstPDU ++ cut (heading 2 8) 32 secondPDU
+
+-- the joint: the first's first 32 bytes and the second's last 8
+abbrev pub joint : List ℕ
+joint = take 32 firstPDU ++ drop 32 secondPDU
+
+-- the start and the end of a PDU of 40 bytes on the flow of a source
+abbrev pub start : (source : ℕ) → List ℕ
+start source = packetOf (heading source 7) 32 firstPDU 0
+
+abbrev pub end : (source : ℕ) → List ℕ
+end source = packetOf (heading source 7) 32 firstPDU 1
+
+-- starts on n flows: sources `from`, `from` + 1, ..
+abbrev pub starts : (from n : ℕ) → List (List ℕ)
+starts from zero = []
+starts from (suc n) = start from ∷ starts (suc from) n
+
+-- a message of two segments, ssize 64, from source 2: letter 1, mbox 2
+abbrev pub segment0 : List ℕ
+segment0 = 0x1B ∷ 0x00 ∷ 0x01 ∷ 0x00 ∷ 0x02 ∷ 0x1C ∷ 0x60 ∷ counting 0 64
+
+-- its last, of 8 bytes
+abbrev pub segment1 : List ℕ
+segment1 = 0x1B ∷ 0x00 ∷ 0x01 ∷ 0x00 ∷ 0x02 ∷ 0x1C ∷ 0x61 ∷ counting 64 8
+
+-- the response to each: its byte 5 has the status, byte 6 is the request's
+abbrev pub respondsDONE : (byte6 : ℕ) → Fact
+respondsDONE b = response (0x5D ∷ 0x00 ∷ 0x02 ∷ 0x00 ∷ 0x01 ∷ 0x10 ∷ b ∷ [])
+
+abbrev pub respondsERROR : (byte6 : ℕ) → Fact
+respondsERROR b = response (0x5D ∷ 0x00 ∷ 0x02 ∷ 0x00 ∷ 0x01 ∷ 0x17 ∷ b ∷ [])
+
+-- A row: the number, the packets that are sent, and for each what it gets. `delivered` has context, source, cos, streamID, length; `message` has
+-- context, source, letter, mailbox, length.
+abbrev pub examples : List Example
+examples =
+    -- L=32: one packet of 41 bytes.
+    example 1 (cutPDU 32) (gets (delivered 0 2 5 7 32) (hasBytes 41 ∷ []) ∷ [])
+    -- L=33: 41 bytes (byte 6 is 80), then 11 (byte 6 is 43, length 0021).
+    ∷ example 2 (cutPDU 33) (gets held (hasBytes 41 ∷ byte6 0x80 ∷ []) ∷ gets (delivered 0 2 5 7 33) (hasBytes 11 ∷ byte6 0x43 ∷ lengthField 0x0021 ∷ []) ∷ [])
+    -- L=64: the end has 41 bytes, byte 6 is 40, length 0040.
+    ∷ example 3 (cutPDU 64) (gets held [] ∷ gets (delivered 0 2 5 7 64) (hasBytes 41 ∷ byte6 0x40 ∷ lengthField 0x0040 ∷ []) ∷ [])
+    -- L=65: the continuation has 39 bytes, byte 6 is 00.
+    ∷ example 4 (cutPDU 65) (gets held [] ∷ gets held (hasBytes 39 ∷ byte6 0x00 ∷ []) ∷ gets (delivered 0 2 5 7 65) [] ∷ [])
+    -- L=96, middle lost: the end gets 11, dropped.
+    ∷ example 6 (cutPDU 96) (gets held [] ∷ lost ∷ getsDropped (refused 11) [] ∷ [])
+    -- L=96, start lost: 8, then 8.
+    ∷ example 7 (cutPDU 96) (lost ∷ gets (refused 8) [] ∷ gets (refused 8) [] ∷ [])
+    -- Two 40-byte PDUs, first end lost: second start is held, dropped; second PDU delivered.
+    ∷ example 8 twoPDUs (gets held [] ∷ lost ∷ getsDropped held [] ∷ gets (delivered 0 2 5 8 40) (delivers secondPDU ∷ []) ∷ [])
+    -- Two 40-byte PDUs on one flow, first end and second start lost: a 40-byte PDU that nobody sent is delivered. This is the joint.
+    ∷ example 9 twoPDUs (gets held [] ∷ lost ∷ lost ∷ gets (delivered 0 2 5 7 40) (delivers joint ∷ deliversNot firstPDU ∷ deliversNot secondPDU ∷ []) ∷ [])
+    -- Seventeen starts on seventeen flows: the last gets 10. After one delivery an eighteenth is held.
+    ∷ example 10 (starts 1 17 ++ (end 4 ∷ start 18 ∷ []))
+    (replicate 16 (gets held []) ++ (gets (refused 10) [] ∷ gets (delivered 3 4 5 7 40) (delivers firstPDU ∷ []) ∷ gets held [] ∷ []))
+    -- ssize 64, two segments, segment 1 with 8 bytes first: then segment 0 delivers 72 bytes.
+    ∷ example 11 (segment1 ∷ segment0 ∷ []) (gets held (respondsDONE 0x61 ∷ []) ∷ gets (message 0 2 1 2 72) (delivers (counting 0 72) ∷ respondsDONE 0x60 ∷ []) ∷ [])
+    -- A segment twice while open: 24, ERROR.
+    ∷ example 12 (segment1 ∷ segment1 ∷ []) (gets held (respondsDONE 0x61 ∷ []) ∷ gets (refused 24) (respondsERROR 0x61 ∷ []) ∷ [])
+    ∷ []
+
+-- every example comes out as the paper says
+abbrev pub ExamplesHold : Type 0
+ExamplesHold = Each Holds examples
