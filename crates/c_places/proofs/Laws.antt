@@ -33,7 +33,7 @@ module _ (words : List ℕ) where
     unfolding streamRoom
     stream-named e h = rw (named e h)
 
-    pub stream-there : length words ≡ stateWords → namedBy19 (stateOf words) ≡ false → roomPart 16 (stateOf words .room) size n l ≡ streamRoom words size n l
+    pub stream-there : length words ≡ stateWords → namedBy19 (stateOf words) ≡ false → roomPart 16 (stateOf words .setup .room) size n l ≡ streamRoom words size n l
     unfolding streamRoom
     stream-there e h = rw (there e h)
 

@@ -42,10 +42,10 @@ are-reads no-more = stop
 are-reads (one-more {b = b} {p = p} {ps = rest} {ds = later} r given words streams messages response g promise calls) =
     let x : Lent = lent (b .words) (b .streamMemory) (b .messageMemory) given p in
     let ih : Reads (record { words = words; streamMemory = streams; messageMemory = messages; response = response }) rest later = are-reads calls in
-    let same : deliveredBy (stateOf words .room) streams (said (answered-by x .answer)) ≡ reportDelivers (stateOf words .room) streams (wordsOfReport r) =
-    ap (deliveredBy (stateOf words .room) streams) (says-it x)
-    ∙ (sym (report-delivers (stateOf words .room) streams (reading x .says) (reading x .dropped) p)
-    ∙ ap (λ (y : Report). reportDelivers (stateOf words .room) streams (wordsOfReport y)) (sym (promise .report))) in
+    let same : deliveredBy (stateOf words .setup .room) streams (said (answered-by x .answer)) ≡ reportDelivers (stateOf words .setup .room) streams (wordsOfReport r) =
+    ap (deliveredBy (stateOf words .setup .room) streams) (says-it x)
+    ∙ (sym (report-delivers (stateOf words .setup .room) streams (reading x .says) (reading x .dropped) p)
+    ∙ ap (λ (y : Report). reportDelivers (stateOf words .setup .room) streams (wordsOfReport y)) (sym (promise .report))) in
     let kept : ReadPromise x (answered-by x) words streams messages response = rw (promise .state, promise .streams, promise .messages, promise .reply) (promised x) in
     rw (sym same) (call (answered-by x) given words streams messages response g kept ih)
 

@@ -12,7 +12,7 @@ use Rattle.lists.proofs.Written.{length-written, take-before, part-written}
 use Rattle.answers.specs.Answers.{Said, held, delivered, message, refused, ready, closed, free, wrote}
 use Rattle.answers.specs.Refusals.{none}
 use Rattle.answers.proofs.Exactly.{none-held}
-use Rattle.contexts.specs.State.{State, fresh}
+use Rattle.contexts.specs.State.{State, fresh, fixed}
 use Rattle.contexts.specs.Words.{stateOf}
 use Rattle.contexts.proofs.Words.{state-of}
 use Rattle.refusal19.proofs.Good.{neither}
@@ -54,7 +54,7 @@ names-row R memory closed dropped packet rest ds m e = e
 names-row R memory free dropped packet rest ds m e = e
 names-row R memory (wrote size) dropped packet rest ds m e = e
 
-pub measured : (x : Lent) → Measured (stateOf (reading x .words) .room) (reading x .streamMemory) (reading x .says)
+pub measured : (x : Lent) → Measured (stateOf (reading x .words) .setup .room) (reading x .streamMemory) (reading x .says)
 measured x context source cos stream size e =
     let b : Board = record { words = x .words; streamMemory = x .streamMemory; messageMemory = x .messageMemory; response = x .response } in
     ap (λ (R : ℕ). length (inRoom R (reading x .streamMemory) context size)) (room-kept x) ∙ length-is-measured b (x .packet) context source cos stream size e
@@ -105,9 +105,9 @@ module _ (r : Run) (p : List ℕ) (next : ℕ) (room : Room (r .responses) (r .r
 
   -- the call itself
   pub call-made : {ps : List (List ℕ)} {ds : List Delivery} → Reads (boardOf (behind r p next)) ps ds
-      → Reads (boardOf r) (p ∷ ps) (deliveredBy (stateOf (reading lentTo .words) .room) (reading lentTo .streamMemory) (reading lentTo .says) ++ ds)
+      → Reads (boardOf r) (p ∷ ps) (deliveredBy (stateOf (reading lentTo .words) .setup .room) (reading lentTo .streamMemory) (reading lentTo .says) ++ ds)
   call-made {ps = ps} {ds = ds} rest =
-      subst (λ (s : Said). Reads (boardOf r) (p ∷ ps) (deliveredBy (stateOf (reading lentTo .words) .room) (reading lentTo .streamMemory) s ++ ds)) (says-it lentTo)
+      subst (λ (s : Said). Reads (boardOf r) (p ∷ ps) (deliveredBy (stateOf (reading lentTo .words) .setup .room) (reading lentTo .streamMemory) s ++ ds)) (says-it lentTo)
       (call (answered-by lentTo) (slot (r .responses) (r .count)) (reading lentTo .words) (reading lentTo .streamMemory) (reading lentTo .messageMemory) (reading lentTo .response) (omega (arith, slot-length)) (promised lentTo) (other-buffer (reading lentTo .response) rest))
 
 chain : (end : ℕ) (packets : List (List ℕ)) (r : Run) → Room (r .responses) (r .reports) (r .count) (length packets) → Chain end r packets
@@ -130,7 +130,7 @@ chain end (p ∷ ps) r room =
     let behind-it : drop 9 (drop (9 * r .count) (allRead end (behind r p end) ps .reports)) ≡ drop (9 * (r .count + 1)) (allRead end (behind r p end) ps .reports) =
     drop-drop 9 (9 * r .count) (allRead end (behind r p end) ps .reports) ∙ ap (λ (k : ℕ). drop k (allRead end (behind r p end) ps .reports)) (sym place) in
     record {
-      ds = deliveredBy (stateOf (reading x .words) .room) (reading x .streamMemory) (reading x .says) ++ c .ds;
+      ds = deliveredBy (stateOf (reading x .words) .setup .room) (reading x .streamMemory) (reading x .says) ++ c .ds;
       reads = call-made r p end one (c .reads);
       count = omega (arith, c .count);
       next = c .next;
@@ -142,7 +142,7 @@ chain end (p ∷ ps) r room =
           ∙ earlier-kept r p end one));
       names =
           ap₂ (λ (a b : List ℕ). namesIn (a ∷ rows 9 (length ps) b)) row behind-it
-          ∙ names-row (stateOf (reading x .words) .room) (reading x .streamMemory) (reading x .says) (reading x .dropped) p
+          ∙ names-row (stateOf (reading x .words) .setup .room) (reading x .streamMemory) (reading x .says) (reading x .dropped) p
           (rows 9 (length ps) (drop (9 * (r .count + 1)) (allRead end (behind r p end) ps .reports))) (c .ds) (measured x) (c .names);
     }
 
@@ -171,7 +171,7 @@ burst-is-reads r burst packets answer words streams messages responses reports w
     )
 
 -- rows 19 and 12 passed: the memories have the sizes that 12 wants
-lends : (R : ℕ) (words streams messages responses : List ℕ) → stateOf words .room ≡ R → none (lentTable (lent words streams messages responses [])) → Lends R streams messages responses
+lends : (R : ℕ) (words streams messages responses : List ℕ) → stateOf words .setup .room ≡ R → none (lentTable (lent words streams messages responses [])) → Lends R streams messages responses
 unfolding lentTable table none
 lends R words streams messages responses e n =
     let w = neither (not (isState (lent words streams messages responses []))) (wrongMemory (lent words streams messages responses [])) (n .1 .0) in
@@ -181,7 +181,7 @@ lends R words streams messages responses e n =
 pub demand3-of-bursts : Demand3OfBursts
 demand3-of-bursts device mtu R s words after streams messages responses reports burst answer words′ streams′ messages′ responses′ reports′ set fair w promise =
     let m = made words device mtu R after set in
-    let R-is : stateOf after .room ≡ R = ap (λ (l : List ℕ). stateOf l .room) (m .state) ∙ ap (λ (t : State). t .room) (state-of (fresh device mtu R) refl refl) in
+    let R-is : stateOf after .setup .room ≡ R = ap (λ (l : List ℕ). stateOf l .setup .room) (m .state) ∙ ap (λ (t : State). t .setup .room) (state-of (fresh (fixed device mtu R)) refl refl) in
     let c = burst-is-reads (run after streams messages responses reports 0 0) burst (packets device mtu s) answer words′ streams′ messages′ responses′ reports′ w promise in
     let l = lends R after streams messages responses R-is (none-held (lentTable (lent after streams messages responses [])) (w .passed)) in
     subst (BurstReads (run after streams messages responses reports 0 0) burst (packets device mtu s) answer reports′)

@@ -35,7 +35,7 @@ use Rattle.c_promises.proofs.InBursts.{same-responses, same-reports, re
 -- what the call's last report delivers, where it stopped at a delivery
 abbrev lastDelivers : Finished → List Delivery
 lastDelivers f =
-    cond (eqb (f .answer .stop) atDelivery) (reportDelivers (stateOf (f .words) .room) (f .streamMemory) (take 9 (drop (9 * (f .answer .count - 1)) (f .reports)))) []
+    cond (eqb (f .answer .stop) atDelivery) (reportDelivers (stateOf (f .words) .setup .room) (f .streamMemory) (take 9 (drop (9 * (f .answer .count - 1)) (f .reports)))) []
 
 -- a burst that was read in part
 record Part (burst : List ℕ) (r : Run) (packets : List (List ℕ)) (f : Finished) : Type 0 where
@@ -153,11 +153,11 @@ module _ (pause : ℕ) (asked : pause ≡ 0 → ⊥) where
             last : r .count + 1 - 1 ≡ r .count
             last = omega arith
 
-            told : deliveredBy (stateOf (reading x .words) .room) (reading x .streamMemory) (reading x .says)
-                ≡ reportDelivers (stateOf (reading x .words) .room) (reading x .streamMemory) (take 9 (drop (9 * (r .count + 1 - 1)) (behind r p next .reports)))
+            told : deliveredBy (stateOf (reading x .words) .setup .room) (reading x .streamMemory) (reading x .says)
+                ≡ reportDelivers (stateOf (reading x .words) .setup .room) (reading x .streamMemory) (take 9 (drop (9 * (r .count + 1 - 1)) (behind r p next .reports)))
             told =
-                sym (report-delivers (stateOf (reading x .words) .room) (reading x .streamMemory) (reading x .says) (reading x .dropped) p)
-                ∙ ap (reportDelivers (stateOf (reading x .words) .room) (reading x .streamMemory))
+                sym (report-delivers (stateOf (reading x .words) .setup .room) (reading x .streamMemory) (reading x .says) (reading x .dropped) p)
+                ∙ ap (reportDelivers (stateOf (reading x .words) .setup .room) (reading x .streamMemory))
                 (sym (report-placed r p next one) ∙ ap (λ (n : ℕ). take 9 (drop (9 * n) (behind r p next .reports))) (sym last))
 
         -- it does not: the burst goes on behind it
@@ -172,7 +172,7 @@ module _ (pause : ℕ) (asked : pause ≡ 0 → ⊥) where
               none-left = part .none-left;
               reads = λ ds more.
                   subst (λ (l : List Delivery). Reads (boardOf r) (p ∷ qs) (l ++ (lastDelivers (ran pause room burst (behind r p next)) ++ ds)))
-                  (quiet (stateOf (reading x .words) .room) (reading x .streamMemory) (reading x .says) (reading x .dropped) p k) (call-made r p next one (part .reads ds more));
+                  (quiet (stateOf (reading x .words) .setup .room) (reading x .streamMemory) (reading x .says) (reading x .dropped) p k) (call-made r p next one (part .reads ds more));
             })
 
         more-room : Room (behind r p next .responses) (behind r p next .reports) (r .count + 1) room
@@ -233,7 +233,7 @@ are-reads (stated.paused {b = b} {burst = burst} {ds = ds} pause answer response
     let p : Part burst (run (b .words) (b .streamMemory) (b .messageMemory) responses reports 0 0) packets (finished answer words streams messages responses′ reports′) =
     promised-part pause asked burst packets (b .words) (b .streamMemory) (b .messageMemory) responses reports e short (finished answer words streams messages responses′ reports′) promise (λ z. omega (arith, z, halt)) in
     let last : lastDelivers (finished answer words streams messages responses′ reports′) ++ ds
-    ≡ reportDelivers (stateOf words .room) streams (take 9 (drop (9 * (answer .count - 1)) reports′)) ++ ds = rw halt in
+    ≡ reportDelivers (stateOf words .setup .room) streams (take 9 (drop (9 * (answer .count - 1)) reports′)) ++ ds = rw halt in
     subst (Reads b packets) last (other-buffer (b .response) (p .reads ds (are-reads more (p .rest) (p .unread) (p .short))))
 
 pub paused-bursts-are-reads : PausedBurstsAreReads

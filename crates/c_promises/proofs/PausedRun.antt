@@ -4,7 +4,7 @@ use mathlib.Core.List.{List, [], _++_}
 use Prim.Native.Nat.{ℕ, _-_, _*_}
 use native.Mathlib.Omega.{arith}
 use lib.ListN.{take, drop, replicate}
-use Rattle.contexts.specs.State.{fresh}
+use Rattle.contexts.specs.State.{fresh, fixed}
 use Rattle.contexts.specs.Words.{stateOf, wordsOf}
 use Rattle.paper_examples.proofs.Computing.{computing}
 use Rattle.log_records.specs.Records.{recordFrom, longRecord, nextRecord}
@@ -29,7 +29,7 @@ abbrev log : List ℕ
 log = writtenLog (packets 1 32 mixture)
 
 abbrev first : Finished
-first = again (wordsOf (fresh 1 32 64)) (replicate 1024 0) (replicate 32768 0) log
+first = again (wordsOf (fresh (fixed 1 32 64))) (replicate 1024 0) (replicate 32768 0) log
 
 abbrev log′ : List ℕ
 log′ = drop (first .answer .next) log
@@ -68,7 +68,7 @@ last-ends = refl
 
 -- what the last report of a call delivers
 abbrev gives : Finished → List Delivery
-gives f = reportDelivers (stateOf (f .words) .room) (f .streamMemory) (take 9 (drop (9 * (f .answer .count - 1)) (f .reports)))
+gives f = reportDelivers (stateOf (f .words) .setup .room) (f .streamMemory) (take 9 (drop (9 * (f .answer .count - 1)) (f .reports)))
 
 they-deliver : gives first ++ (gives second ++ (gives third ++ [])) ≡ whole 1 32 mixture
 unfolding in-bursts

@@ -11,7 +11,7 @@ use Rattle.answers.specs.declared.Begun.the-variants.{Ready}
 use Rattle.answers.specs.Refusals.{accept, verdict}
 use Rattle.wire.specs.declared.Flow.{Flow}
 use Rattle.responses.specs.Type13.{answered}
-use Rattle.contexts.specs.State.{fresh}
+use Rattle.contexts.specs.State.{fresh, fixed}
 use Rattle.contexts.specs.Words.{stateOf, wordsOf}
 use Rattle.reading.specs.Table.{Lent}
 use Rattle.reading.specs.Read.{lent, reading}
@@ -67,7 +67,7 @@ BurstIsCalls =
 -- these premises can be met: the packets of a sending with losses, mixed flows and messages between, a state as setup makes it, and room for seven
 pub record BurstNotEmpty : Type 0 where
   pub short : AllShort (packets 1 32 mixture)
-  pub whole-burst : WholeBurst (run (wordsOf (fresh 1 32 64)) (replicate 1024 0) (replicate 32768 0) (replicate 56 0) (replicate 63 0) 0 0) (writtenLog (packets 1 32 mixture)) (packets 1 32 mixture)
+  pub whole-burst : WholeBurst (run (wordsOf (fresh (fixed 1 32 64))) (replicate 1024 0) (replicate 32768 0) (replicate 56 0) (replicate 63 0) 0 0) (writtenLog (packets 1 32 mixture)) (packets 1 32 mixture)
 
 -- ---- Demand 3 from C: what a caller makes of the reports is exactly what is whole.
 
@@ -85,7 +85,7 @@ pub data ReadsFromC : Board → List (List ℕ) → List Delivery → Type 0 whe
       → 7 ≤ length given
       → ReadFromCPromise (lent (b .words) (b .streamMemory) (b .messageMemory) given p) r words streamMemory messageMemory response
       → ReadsFromC (record { words = words; streamMemory = streamMemory; messageMemory = messageMemory; response = response }) ps ds
-      → ReadsFromC b (p ∷ ps) (reportDelivers (stateOf words .room) streamMemory (wordsOfReport r) ++ ds)
+      → ReadsFromC b (p ∷ ps) (reportDelivers (stateOf words .setup .room) streamMemory (wordsOfReport r) ++ ds)
 
 abbrev pub CallsFromCAreReads : Type 0
 CallsFromCAreReads = (b : Board) (ps : List (List ℕ)) (ds : List Delivery) → ReadsFromC b ps ds → Reads b ps ds
@@ -159,7 +159,7 @@ pub data Bursts : Board → List ℕ → List Delivery → Type 0 where
       → BurstPromise pause (run (b .words) (b .streamMemory) (b .messageMemory) responses reports 0 0) burst answer words streamMemory messageMemory responses′ reports′
       → answer .stop ≡ atDelivery
       → Bursts (record { words = words; streamMemory = streamMemory; messageMemory = messageMemory; response = responses′ }) (drop (answer .next) burst) ds
-      → Bursts b burst (reportDelivers (stateOf words .room) streamMemory (take 9 (drop (9 * (answer .count - 1)) reports′)) ++ ds)
+      → Bursts b burst (reportDelivers (stateOf words .setup .room) streamMemory (take 9 (drop (9 * (answer .count - 1)) reports′)) ++ ds)
 
 -- such calls can be made, over the packets of that sending; and these deliver what is whole of it
 abbrev pub PausedBurstsNotEmpty : Type 0

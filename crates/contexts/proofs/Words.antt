@@ -169,7 +169,7 @@ state-of s a b =
     ∙ (ap (λ (n : ℕ). map messageFrom (rows 8 n rest)) (sym b)
     ∙ (ap (λ (l : List ℕ). map messageFrom (rows 8 (length (s .messages)) l)) (sym (append-nil rest))
     ∙ records-again 8 messageFrom wordsOfMessage (λ c. refl) (λ c. refl) (s .messages) [])) in
-    ap₂ (λ (x : List StreamContext) (y : List MessageContext). record { device = s .device; mtu = s .mtu; room = s .room; streams = x; messages = y }) streams messages
+    ap₂ (λ (x : List StreamContext) (y : List MessageContext). record { setup = s .setup; streams = x; messages = y }) streams messages
 
 pub length-words : (s : State) → length (s .streams) ≡ 16 → length (s .messages) ≡ 8 → length (wordsOf s) ≡ stateWords
 unfolding wordsOf

@@ -10,12 +10,19 @@ use Rattle.wire.specs.Type9.{sameFlow}
 use Rattle.contexts.specs.declared.StreamContext.{StreamContext}
 use Rattle.contexts.specs.declared.MessageContext.{MessageContext}
 
-pub record State : Type 0 where
+-- what setup fixed
+pub record Setup : Type 0 where
   -- our device ID
   pub device : ℕ
   pub mtu : ℕ
   -- R, the bytes of a stream context's room
   pub room : ℕ
+
+abbrev pub fixed : (device mtu room : ℕ) → Setup
+fixed device mtu room = record { device = device; mtu = mtu; room = room }
+
+pub record State : Type 0 where
+  pub setup : Setup
   -- 16 of them
   pub streams : List StreamContext
   -- 8 of them
@@ -29,11 +36,9 @@ abbrev pub closedMessage : MessageContext
 closedMessage = record { live = 0; source = 0; letter = 0; mbox = 0; msglen = 0; ssize = 0; marks = 0; last = 0 }
 
 -- as setup makes it
-abbrev pub fresh : ℕ → ℕ → ℕ → State
-fresh device mtu room = record {
-  device = device;
-  mtu = mtu;
-  room = room;
+abbrev pub fresh : Setup → State
+fresh setup = record {
+  setup = setup;
   streams = replicate 16 closedStream;
   messages = replicate 8 closedMessage;
 }
@@ -47,10 +52,10 @@ messageIn s n = getD (s .messages) n closedMessage
 
 -- the state with c as context n; as it was where n is past the last
 abbrev pub withStream : State → ℕ → StreamContext → State
-withStream s n c = record { device = s .device; mtu = s .mtu; room = s .room; streams = set (s .streams) n c; messages = s .messages }
+withStream s n c = record { setup = s .setup; streams = set (s .streams) n c; messages = s .messages }
 
 abbrev pub withMessage : State → ℕ → MessageContext → State
-withMessage s n c = record { device = s .device; mtu = s .mtu; room = s .room; streams = s .streams; messages = set (s .messages) n c }
+withMessage s n c = record { setup = s .setup; streams = s .streams; messages = set (s .messages) n c }
 
 -- free and open contexts: a live word other than 0 counts as open
 unfoldable pub isFreeStream : StreamContext → Bool

@@ -3,7 +3,7 @@ use Prim.Native.Nat.{ℕ}
 use mathlib.Core.List.{List, [], _∷_, _++_, map}
 use lib.ListN.{getD, drop}
 use Rattle.lists.specs.Rows.{rows, joined}
-use Rattle.contexts.specs.State.{State}
+use Rattle.contexts.specs.State.{State, fixed}
 use Rattle.contexts.specs.declared.StreamContext.{StreamContext}
 use Rattle.contexts.specs.declared.MessageContext.{MessageContext}
 
@@ -37,9 +37,7 @@ wordsOfMessage c = c .live ∷ c .source ∷ c .letter ∷ c .mbox ∷ c .msglen
 -- the state that the words are: every list of 147 words is one
 unfoldable pub stateOf : List ℕ → State
 stateOf w = record {
-  device = getD w 0 0;
-  mtu = getD w 1 0;
-  room = getD w 2 0;
+  setup = fixed (getD w 0 0) (getD w 1 0) (getD w 2 0);
   streams = map streamFrom (rows 5 16 (drop 3 w));
   messages = map messageFrom (rows 8 8 (drop 83 w));
 }
@@ -47,7 +45,7 @@ stateOf w = record {
 -- and back
 unfoldable pub wordsOf : State → List ℕ
 wordsOf s =
-    s .device
-    ∷ s .mtu
-    ∷ s .room
+    s .setup .device
+    ∷ s .setup .mtu
+    ∷ s .setup .room
     ∷ (joined (map wordsOfStream (s .streams)) ++ joined (map wordsOfMessage (s .messages)))

@@ -41,7 +41,7 @@ pub struct MessageContext {
 // Our device ID.
 pub fn device(state: &[usize]) -> usize
     requires { ⌜ length (now state) ≡ stateWords ⌝ }
-    ensures { λ r. ⌜ r ≡ stateOf (now (state .entry)) .device ⌝ }
+    ensures { λ r. ⌜ r ≡ stateOf (now (state .entry)) .setup .device ⌝ }
 {
     state[0]
 }
@@ -49,7 +49,7 @@ pub fn device(state: &[usize]) -> usize
 // The MTU.
 pub fn mtu(state: &[usize]) -> usize
     requires { ⌜ length (now state) ≡ stateWords ⌝ }
-    ensures { λ r. ⌜ r ≡ stateOf (now (state .entry)) .mtu ⌝ }
+    ensures { λ r. ⌜ r ≡ stateOf (now (state .entry)) .setup .mtu ⌝ }
 {
     state[1]
 }
@@ -57,7 +57,7 @@ pub fn mtu(state: &[usize]) -> usize
 // R, the bytes of a stream context's room.
 pub fn room(state: &[usize]) -> usize
     requires { ⌜ length (now state) ≡ stateWords ⌝ }
-    ensures { λ r. ⌜ r ≡ stateOf (now (state .entry)) .room ⌝ }
+    ensures { λ r. ⌜ r ≡ stateOf (now (state .entry)) .setup .room ⌝ }
 {
     state[2]
 }

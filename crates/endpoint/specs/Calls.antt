@@ -11,7 +11,7 @@ use Rattle.answers.specs.declared.Begun.{Begun}
 use Rattle.answers.specs.declared.Abandoned.{Abandoned}
 use Rattle.answers.specs.Refusals.{RowOf, Row, row, all, VerdictOf, Verdict, refuse, accept, verdict}
 use Rattle.sizes.specs.Sizes.{badMTU}
-use Rattle.contexts.specs.State.{State, fresh, streamIn, messageIn, withStream, withMessage, closedStream, closedMessage, isFreeStream, isFreeMessage}
+use Rattle.contexts.specs.State.{State, fresh, fixed, streamIn, messageIn, withStream, withMessage, closedStream, closedMessage, isFreeStream, isFreeMessage}
 use Rattle.contexts.specs.Words.{stateOf, wordsOf, stateWords}
 use Rattle.refusal19.specs.Refusal19.{badRoom, namedBy19}
 
@@ -43,7 +43,7 @@ setupLeaving words stateOfZeros = replicate stateWords 0
 
 abbrev pub setupBy : List ℕ → ℕ → ℕ → ℕ → VerdictOf SetupLeaves → Stands
 setupBy words device mtu room (refuse number leaves) = stands (refused number) (setupLeaving words leaves)
-setupBy words device mtu room accept = stands ready (wordsOf (fresh device mtu room))
+setupBy words device mtu room accept = stands ready (wordsOf (fresh (fixed device mtu room)))
 
 unfoldable pub setup : List ℕ → ℕ → ℕ → ℕ → Stands
 setup words device mtu room = setupBy words device mtu room (verdict (setupTable words mtu room))
@@ -96,7 +96,7 @@ unfoldable pub roomPart : ℕ → ℕ → ℕ → ℕ → ℕ → Part
 roomPart rooms room size n l = cond (not (eqb size (rooms * room)) || not (ltb n rooms) || ltb room l) (part 0 0) (part (n * room) l)
 
 unfoldable pub streamRoom : List ℕ → ℕ → ℕ → ℕ → Part
-streamRoom words size n l = cond (noState words) (part 0 0) (roomPart 16 (stateOf words .room) size n l)
+streamRoom words size n l = cond (noState words) (part 0 0) (roomPart 16 (stateOf words .setup .room) size n l)
 
 unfoldable pub messageRoom : List ℕ → ℕ → ℕ → ℕ → Part
 messageRoom words size n l = cond (noState words) (part 0 0) (roomPart 8 4096 size n l)

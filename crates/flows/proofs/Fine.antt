@@ -9,7 +9,7 @@ use lib.ListN.{length, replicate}
 use Rattle.lists.specs.First.{firstOf}
 use Rattle.wire.specs.declared.Flow.{Flow}
 use Rattle.sizes.specs.Sizes.{badMTU}
-use Rattle.contexts.specs.State.{State, fresh, streamIn, closedStream, isFreeStream, isOfFlow, flowContext}
+use Rattle.contexts.specs.State.{State, fresh, fixed, streamIn, closedStream, isFreeStream, isOfFlow, flowContext}
 use Rattle.contexts.specs.Words.{stateOf, wordsOf, stateWords}
 use Rattle.contexts.proofs.Words.{sixteen, state-of, length-words}
 use Rattle.refusal19.proofs.Kept.{fresh-good}
@@ -41,7 +41,7 @@ pub view-is : (b : Board) (k : Flow) → view b k ≡ seen (stateOn b .room) (st
 unfolding view seen seenAt flowContext
 view-is b k = refl
 
-pub view-of : (s : State) (memory : List ℕ) (k : Flow) → viewOf s memory k ≡ seen (s .room) (s .streams) memory k
+pub view-of : (s : State) (memory : List ℕ) (k : Flow) → viewOf s memory k ≡ seen (s .setup .room) (s .streams) memory k
 unfolding seen seenAt flowContext
 view-of s memory k = refl
 
@@ -80,22 +80,22 @@ fresh-at (ℕ.suc n) ℕ.zero = refl
 fresh-at (ℕ.suc n) (ℕ.suc i) = fresh-at n i
 
 module _ (device mtu room : ℕ) (streamMemory messageMemory response : List ℕ) where
-  back : stateOf (wordsOf (fresh device mtu room)) ≡ fresh device mtu room
-  back = state-of (fresh device mtu room) refl refl
+  back : stateOf (wordsOf (fresh (fixed device mtu room))) ≡ fresh (fixed device mtu room)
+  back = state-of (fresh (fixed device mtu room)) refl refl
 
   -- no context is a flow's
-  fresh-none : {A : Type 0} (i : ℕ) (k : Flow) → isOfFlow k (streamIn (stateOf (wordsOf (fresh device mtu room))) i) ≡ true → A
+  fresh-none : {A : Type 0} (i : ℕ) (k : Flow) → isOfFlow k (streamIn (stateOf (wordsOf (fresh (fixed device mtu room)))) i) ≡ true → A
   fresh-none i k e =
       free-of-none k closedStream closed-free (ap (isOfFlow k) (sym (ap (λ (s : State). streamIn s i) back ∙ fresh-at 16 i)) ∙ e)
 
   pub fresh-fine : (flows : List Flow) → Lends room streamMemory messageMemory response → badMTU mtu ≡ false → badRoom mtu room ≡ false
       → Fine device mtu room flows (freshBoard device mtu room streamMemory messageMemory response)
   fresh-fine flows lends m r = record {
-    whole = length-words (fresh device mtu room) refl refl;
+    whole = length-words (fresh (fixed device mtu room)) refl refl;
     good = ap namedBy19 back ∙ fresh-good device mtu room m r;
-    same-device = ap (λ (s : State). s .device) back;
-    same-mtu = ap (λ (s : State). s .mtu) back;
-    same-room = ap (λ (s : State). s .room) back;
+    same-device = ap (λ (s : State). s .setup .device) back;
+    same-mtu = ap (λ (s : State). s .setup .mtu) back;
+    same-room = ap (λ (s : State). s .setup .room) back;
     lends = lends;
     once = λ i j k e d. fresh-none i k e;
     inside = λ i k e. fresh-none i k e;

@@ -69,16 +69,16 @@ module _ (device mtu room : ℕ) (flows : List Flow) (b : Board) (p : List ℕ) 
     leaves : read b p ≡ ofStream (lentOn b p) j
     leaves = read-is (Stream g) e
 
-    sim : Sim flows s (b .streamMemory) g j (flowStep (s .mtu) (s .room) (view b (g .flow)) g (streamRoom.dataOf p g))
+    sim : Sim flows s (b .streamMemory) g j (flowStep (s .setup .mtu) (s .setup .room) (view b (g .flow)) g (streamRoom.dataOf p g))
     sim =
-        subst (λ (v : Option PDU). Sim flows s (b .streamMemory) g j (flowStep (s .mtu) (s .room) v g (streamRoom.dataOf p g))) (sym (view-is b (g .flow)))
+        subst (λ (v : Option PDU). Sim flows s (b .streamMemory) g j (flowStep (s .setup .mtu) (s .setup .room) v g (streamRoom.dataOf p g))) (sym (view-is b (g .flow)))
         (sim-stepped flows s (b .streamMemory) p g (sound-on f) member (data-length p g (stream-parsed p device g e .1)) few (f .good))
 
     back : stateOf (wordsOf (j .state)) ≡ j .state
     back = state-of (j .state) (sim .leaves .sound .size) (ap length (sim .same-messages) ∙ eight (b .words))
 
     -- a flow's view of what is left
-    view-left : (k : Flow) → view (boardLeft (ofStream (lentOn b p) j)) k ≡ seen (s .room) (j .state .streams) (j .memory) k
+    view-left : (k : Flow) → view (boardLeft (ofStream (lentOn b p) j)) k ≡ seen (s .setup .room) (j .state .streams) (j .memory) k
     unfolding view
     view-left k =
         ap (λ (t : State). viewOf t (j .memory) k) back ∙ (view-of (j .state) (j .memory) k ∙ ap (λ (n : ℕ). seen n (j .state .streams) (j .memory) k) (sim .same-room))
@@ -90,13 +90,13 @@ module _ (device mtu room : ℕ) (flows : List Flow) (b : Board) (p : List ℕ) 
         (sim .leaves .sound .rooms ∙ sym (rooms-on f)) refl refl (contexts Once (sim .leaves .sound .once)) (contexts (Inside flows) (sim .leaves .sound .inside))
 
     -- by the state's own MTU and R
-    own-flow : OwnFlow (Fine device mtu room flows) (s .mtu) (s .room) b p g
+    own-flow : OwnFlow (Fine device mtu room flows) (s .setup .mtu) (s .setup .room) b p g
     own-flow = record {
       ok = subst (λ (y : Left). Fine device mtu room flows (boardLeft y)) (sym leaves) left-fine;
       own = ap (λ (y : Left). view (boardLeft y) (g .flow)) leaves ∙ (view-left (g .flow) ∙ sim .leaves .own-is);
       others = λ k ne. ap (λ (y : Left). view (boardLeft y) k) leaves ∙ (view-left k ∙ (sim .leaves .others k (same-false k (g .flow) ne) ∙ sym (view-is b k)));
       tells =
-          subst (λ (y : Left). Tells (s .room) (y .streamMemory) (g .flow) (y .says) (flowStep (s .mtu) (s .room) (view b (g .flow)) g (streamRoom.dataOf p g) .told)) (sym leaves) (sim .tells);
+          subst (λ (y : Left). Tells (s .setup .room) (y .streamMemory) (g .flow) (y .says) (flowStep (s .setup .mtu) (s .setup .room) (view b (g .flow)) g (streamRoom.dataOf p g) .told)) (sym leaves) (sim .tells);
       drops = ap (λ (y : Left). y .dropped) leaves ∙ sim .drops;
     }
 

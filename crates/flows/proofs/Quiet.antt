@@ -28,7 +28,7 @@ use Rattle.flows.specs.Board.{deliveredBy}
 
 -- no stream context changes, no PDU is delivered, and the memories keep their sizes
 pub record Quiet (s : State) (memory response : List ℕ) (j : MessageJoined) : Type 0 where
-  pub same-room : j .state .room ≡ s .room
+  pub same-room : j .state .setup .room ≡ s .setup .room
   pub same-streams : j .state .streams ≡ s .streams
   pub messages : length (j .state .messages) ≡ length (s .messages)
   pub boxes : length (j .memory) ≡ length memory

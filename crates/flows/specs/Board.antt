@@ -8,7 +8,7 @@ use lib.ListN.{length, take, drop, replicate}
 use lib.Dec.{ltb}
 use Rattle.answers.specs.Answers as answers
 use Rattle.wire.specs.declared.Flow.{Flow}
-use Rattle.contexts.specs.State.{State, fresh, streamIn, flowContext}
+use Rattle.contexts.specs.State.{State, fresh, fixed, streamIn, flowContext}
 use Rattle.contexts.specs.Words.{stateOf, wordsOf}
 use Rattle.reading.specs.Read.{Left, lent, reading}
 use Rattle.flows.specs.OneFlow.{PDU, pdu}
@@ -32,7 +32,7 @@ after b packet = boardLeft (read b packet)
 
 -- R, which setup fixed
 abbrev pub room : Board → ℕ
-room b = stateOf (b .words) .room
+room b = stateOf (b .words) .setup .room
 
 -- the first n bytes of room i of a stream memory
 abbrev pub inRoom : ℕ → List ℕ → ℕ → ℕ → List ℕ
@@ -67,7 +67,7 @@ pub record Lends (room : ℕ) (streamMemory messageMemory response : List ℕ) :
 -- a board that was just set up
 abbrev pub freshBoard : ℕ → ℕ → ℕ → List ℕ → List ℕ → List ℕ → Board
 freshBoard device mtu room streamMemory messageMemory response = record {
-  words = wordsOf (fresh device mtu room);
+  words = wordsOf (fresh (fixed device mtu room));
   streamMemory = streamMemory;
   messageMemory = messageMemory;
   response = response;
@@ -81,7 +81,7 @@ paperBoard = freshBoard 1 32 2048 (replicate 32768 0) (replicate 32768 0) (repli
 abbrev pub viewOf : State → List ℕ → Flow → Option PDU
 viewOf s memory flow =
     cond (ltb (flowContext s flow) 16)
-    (some (pdu (streamIn s (flowContext s flow) .stream) (inRoom (s .room) memory (flowContext s flow) (streamIn s (flowContext s flow) .held))))
+    (some (pdu (streamIn s (flowContext s flow) .stream) (inRoom (s .setup .room) memory (flowContext s flow) (streamIn s (flowContext s flow) .held))))
     none
 
 unfoldable pub view : Board → Flow → Option PDU

@@ -8,7 +8,7 @@ use borrow.Author.Tests.{lt-ltb}
 use Rattle.answers.specs.declared.Begun.{Begun}
 use Rattle.answers.specs.Refusals.{verdict}
 use Rattle.sizes.specs.Sizes.{badMTU}
-use Rattle.contexts.specs.State.{fresh}
+use Rattle.contexts.specs.State.{fresh, fixed}
 use Rattle.contexts.specs.Words.{wordsOf}
 use Rattle.refusal19.specs.Refusal19.{badRoom}
 use Rattle.endpoint.specs.Calls.{Stands, setup, setupTable, SetupPromise}
@@ -18,7 +18,7 @@ use Rattle.log_run.specs.Printing.{board}
 use Rattle.log_run.proofs.Pieces.{short-log}
 use Rattle.log_run.proofs.Runs.{still}
 
-set-up : (words : List ℕ) (r : Begun) → SetupPromise (replicate 147 0) 1 32 2048 r words → words ≡ wordsOf (fresh 1 32 2048)
+set-up : (words : List ℕ) (r : Begun) → SetupPromise (replicate 147 0) 1 32 2048 r words → words ≡ wordsOf (fresh (fixed 1 32 2048))
 unfolding setup setupTable verdict badMTU badRoom
 set-up words r p = ap (λ (x : Stands). x .words) p
 

@@ -13,7 +13,7 @@ use Rattle.sizes.specs.Sizes.{badMTU}
 use Rattle.refusal19.specs.Refusal19.{badRoom}
 use Rattle.refusal19.proofs.Good.{good}
 use Rattle.refusal19.proofs.Kept.{fresh-good}
-use Rattle.contexts.specs.State.{fresh}
+use Rattle.contexts.specs.State.{fresh, fixed}
 use Rattle.contexts.specs.Words.{stateOf, wordsOf}
 use Rattle.reading.specs.Table.{Lent}
 use Rattle.reading.specs.Read.{Left, left, lent, butResponse, reading}
@@ -41,8 +41,8 @@ calls-deliver (call {b = b} {p = p} {ps = ps} {ds = ds} r given words streams me
     let ih : ds ≡ deliveries (record { words = words; streamMemory = streams; messageMemory = messages; response = onward }) ps = calls-deliver rest onward (omega (arith, response-length x h, h)) in
     let same : left (said (r .answer)) (r .dropped) words streams messages [] ≡ butResponse (reading x) =
     ap butResponse promise ∙ response-decides-nothing (b .words) (b .streamMemory) (b .messageMemory) given own p g h in
-    ap (λ (l : List Delivery). deliveredBy (stateOf words .room) streams (said (r .answer)) ++ l) ih
-    ∙ ap (λ (y : Left). deliveredBy (stateOf (y .words) .room) (y .streamMemory) (y .says) ++ deliveries (record { words = y .words; streamMemory = y .streamMemory; messageMemory = y .messageMemory; response = onward }) ps) same
+    ap (λ (l : List Delivery). deliveredBy (stateOf words .setup .room) streams (said (r .answer)) ++ l) ih
+    ∙ ap (λ (y : Left). deliveredBy (stateOf (y .words) .setup .room) (y .streamMemory) (y .says) ++ deliveries (record { words = y .words; streamMemory = y .streamMemory; messageMemory = y .messageMemory; response = onward }) ps) same
 
 -- a call for each packet, with a response buffer of 7
 calls-made : (ps : List (List ℕ)) (b : Board) → (ds : List Delivery) × Reads b ps ds
@@ -58,7 +58,7 @@ calls-not-empty = record { sets-up = refl; reads = λ b ps. calls-made ps b }
 
 -- setup that says ready has made a fresh state, of an MTU and an R that are allowed
 pub record Made (words : List ℕ) (device mtu R : ℕ) (after : List ℕ) : Type 0 where
-  pub state : after ≡ wordsOf (fresh device mtu R)
+  pub state : after ≡ wordsOf (fresh (fixed device mtu R))
   pub MTU : badMTU mtu ≡ false
   pub holds-MTU : mtu ≤ R
   pub most : R ≤ 65536
@@ -67,11 +67,11 @@ pub made : (words : List ℕ) (device mtu R : ℕ) (after : List ℕ) → SetupP
 unfolding setup
 made words device mtu R after p = go (verdict (setupTable words mtu R)) refl p
   where
-    all : none (setupTable words mtu R) → after ≡ wordsOf (fresh device mtu R) → Made words device mtu R after
+    all : none (setupTable words mtu R) → after ≡ wordsOf (fresh (fixed device mtu R)) → Made words device mtu R after
     all n e =
         let m : badMTU mtu ≡ false = unfold setupTable none in (n .1 .0) in
         let r : badRoom mtu R ≡ false = unfold setupTable none in (n .1 .1 .0) in
-        let g = good (fresh device mtu R) (fresh-good device mtu R m r) in
+        let g = good (fresh (fixed device mtu R)) (fresh-good device mtu R m r) in
         record { state = e; MTU = m; holds-MTU = g .holds; most = g .room }
 
     go : (v : VerdictOf SetupLeaves) → verdict (setupTable words mtu R) ≡ v → stands ready after ≡ setupBy words device mtu R v → Made words device mtu R after

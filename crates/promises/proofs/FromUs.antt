@@ -35,16 +35,16 @@ past-quiet (r ∷ earlier) later q = go (r .holds) refl (past-quiet earlier late
 
 module _ (x : Lent) where
   -- row 3 is the fifth
-  addressed : none (take 5 (table x)) → destination (x .packet) ≡ stateIn x .device
+  addressed : none (take 5 (table x)) → destination (x .packet) ≡ stateIn x .setup .device
   unfolding none table
-  addressed n = eqb-true (destination (x .packet)) (stateIn x .device) (not-false _ (n .1 .1 .1 .1 .0))
+  addressed n = eqb-true (destination (x .packet)) (stateIn x .setup .device) (not-false _ (n .1 .1 .1 .1 .0))
 
   -- the first five write nothing; so a verdict that writes has passed them
-  written-for-us : (number status : ℕ) (leaves : Leaves) → verdict (table x) ≡ refuse number leaves → writes leaves ≡ option.some status → destination (x .packet) ≡ stateIn x .device
+  written-for-us : (number status : ℕ) (leaves : Leaves) → verdict (table x) ≡ refuse number leaves → writes leaves ≡ option.some status → destination (x .packet) ≡ stateIn x .setup .device
   unfolding table
   written-for-us number status leaves e w = go (past-quiet (take 5 (table x)) (drop 5 (table x)) (refl and refl and refl and refl and refl and tt))
     where
-      go : ((n : ℕ) × (verdict (table x) ≡ refuse n all)) ⊎ none (take 5 (table x)) → destination (x .packet) ≡ stateIn x .device
+      go : ((n : ℕ) × (verdict (table x) ≡ refuse n all)) ⊎ none (take 5 (table x)) → destination (x .packet) ≡ stateIn x .setup .device
       go (inl q) =
           let same : refuse number leaves ≡ refuse (q .0) all = sym e ∙ q .1 in
           let l : leaves ≡ all = cc in
@@ -54,7 +54,7 @@ module _ (x : Lent) where
   -- what is responded to is of type 11 and addressed to us
   record Right : Type 0 where
     type : is11 x ≡ true
-    for-us : destination (x .packet) ≡ stateIn x .device
+    for-us : destination (x .packet) ≡ stateIn x .setup .device
 
   first-five : none (table x) → none (take 5 (table x))
   unfolding none table

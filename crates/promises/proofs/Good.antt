@@ -8,7 +8,7 @@ use lib.ListN.{length-set}
 use Rattle.answers.specs.Refusals.{Verdict, VerdictOf, refuse, accept, verdict, none}
 use Rattle.answers.specs.Answers.{ready, refused}
 use Rattle.answers.proofs.Exactly.{none-held}
-use Rattle.contexts.specs.State.{State, fresh, withStream, withMessage, closedStream, closedMessage}
+use Rattle.contexts.specs.State.{State, fresh, fixed, withStream, withMessage, closedStream, closedMessage}
 use Rattle.contexts.specs.Words.{stateOf, wordsOf}
 use Rattle.refusal19.specs.Refusal19.{namedBy19}
 use Rattle.contexts.proofs.Words.{state-of, length-words}
@@ -22,10 +22,10 @@ pub read-good : ReadGood
 read-good x g bytes = stays-good x (g .whole) (g .good) (bytes 5)
 
 -- ---- setup
-good-words : (device mtu room : ℕ) → namedBy19 (fresh device mtu room) ≡ false → GoodWords (wordsOf (fresh device mtu room))
-good-words device mtu room g = record { whole = length-words (fresh device mtu room) refl refl; good = ap namedBy19 (state-of (fresh device mtu room) refl refl) ∙ g }
+good-words : (device mtu room : ℕ) → namedBy19 (fresh (fixed device mtu room)) ≡ false → GoodWords (wordsOf (fresh (fixed device mtu room)))
+good-words device mtu room g = record { whole = length-words (fresh (fixed device mtu room)) refl refl; good = ap namedBy19 (state-of (fresh (fixed device mtu room)) refl refl) ∙ g }
 
-passed : (words : List ℕ) (device mtu room : ℕ) → none (setupTable words mtu room) → GoodWords (wordsOf (fresh device mtu room))
+passed : (words : List ℕ) (device mtu room : ℕ) → none (setupTable words mtu room) → GoodWords (wordsOf (fresh (fixed device mtu room)))
 unfolding none setupTable
 passed words device mtu room n = good-words device mtu room (fresh-good device mtu room (n .1 .0) (n .1 .1 .0))
 
@@ -51,7 +51,7 @@ unfolding abandonStream
 abandon-stream-good words n g =
     by-verdict words _ _ (verdict (abandonTable words 16 n)) g
     (settled words (withStream (stateOf words) n closedStream) (record { device = refl; mtu = refl; room = refl; streams = simp length-set; messages = refl })
-    (stream-kept (stateOf words) n closedStream (g .good) (closed-stream (stateOf words .room))))
+    (stream-kept (stateOf words) n closedStream (g .good) (closed-stream (stateOf words .setup .room))))
 
 pub abandon-message-good : AbandonMessageGood
 unfolding abandonMessage

@@ -24,12 +24,12 @@ abbrev byRows : Lent → Verdict → Parsed
 byRows x v = byVerdict (cond (is9 x) (Stream (segmentIn x)) (Message (messageSegmentIn x))) v
 
 module _ (x : Lent) where
-  by-rows : parsed (stateIn x .device) (x .packet) ≡ byRows x (verdict (packetRows x))
+  by-rows : parsed (stateIn x .setup .device) (x .packet) ≡ byRows x (verdict (packetRows x))
   unfolding table verdict parsed parsedByType parsedStream parsedFielded
   by-rows =
       by-test (under 5 x) (λ a. rw a)
       (λ a. by-test (eqb (tt (x .packet)) 1)
-      (λ b. by-test (eqb (destination (x .packet)) (stateIn x .device))
+      (λ b. by-test (eqb (destination (x .packet)) (stateIn x .setup .device))
       (λ d. by-test (is9 x)
       (λ n. by-test (under 7 x) (λ u. rw (a, b, d, n, u))
       (λ u. by-test (xh (x .packet)) (λ h. rw (a, b, d, n, u, h))

@@ -44,7 +44,7 @@ use Rattle.answers.specs.declared.Written.{Written}
 use Rattle.answers.specs.declared.Written.the-variants.{Length}
 use Rattle.answers.specs.Answers.{Said, held, delivered, message, refused, ready, closed, free, wrote, said}
 use Rattle.answers.specs.Refusals.{RowOf, Row, Decides, none}
-use Rattle.contexts.specs.State.{fresh, streamIn, messageIn, withStream, withMessage, closedStream, closedMessage, isFreeStream, isFreeMessage}
+use Rattle.contexts.specs.State.{fresh, fixed, streamIn, messageIn, withStream, withMessage, closedStream, closedMessage, isFreeStream, isFreeMessage}
 use Rattle.contexts.specs.Words.{stateOf, wordsOf}
 use Rattle.reading.specs.Table.{Lent, stateIn, segmentIn, messageSegmentIn, is9, is11, table}
 use Rattle.reading.specs.Read.{ReadPromise, butResponse, reading, leaving, accepting, lent}
@@ -84,7 +84,7 @@ SetupRowLeaves =
 
 -- where no row's test holds: ready, with a state of that device, MTU and R in which every context is free
 abbrev pub SetupAcceptedLeaves : Type 0
-SetupAcceptedLeaves = (words : List ℕ) (device mtu room : ℕ) → none (setupTable words mtu room) → setup words device mtu room ≡ stands ready (wordsOf (fresh device mtu room))
+SetupAcceptedLeaves = (words : List ℕ) (device mtu room : ℕ) → none (setupTable words mtu room) → setup words device mtu room ≡ stands ready (wordsOf (fresh (fixed device mtu room)))
 
 abbrev pub AbandonStreamExactly : Type 0
 AbandonStreamExactly = (words : List ℕ) (n number : ℕ) → (abandonStream words n .says ≡ refused number) ↔ ((r : Row) × Decides (abandonTable words 16 n) r × (r .number ≡ number))
@@ -128,11 +128,11 @@ abbrev pub packetRows : Lent → List Row
 packetRows x = take 7 (drop 2 (table x))
 
 abbrev pub ParsedRefusedExactly : Type 0
-ParsedRefusedExactly = (x : Lent) (number : ℕ) → (parsed (stateIn x .device) (x .packet) ≡ Refused number) ↔ ((r : Row) × Decides (packetRows x) r × (r .number ≡ number))
+ParsedRefusedExactly = (x : Lent) (number : ℕ) → (parsed (stateIn x .setup .device) (x .packet) ≡ Refused number) ↔ ((r : Row) × Decides (packetRows x) r × (r .number ≡ number))
 
 -- else it is the packet's fields: of type 9, else of type 11, since row 4 has passed
 abbrev pub ParsedAccepted : Type 0
-ParsedAccepted = (x : Lent) → none (packetRows x) → parsed (stateIn x .device) (x .packet) ≡ cond (is9 x) (Stream (segmentIn x)) (Message (messageSegmentIn x))
+ParsedAccepted = (x : Lent) → none (packetRows x) → parsed (stateIn x .setup .device) (x .packet) ≡ cond (is9 x) (Stream (segmentIn x)) (Message (messageSegmentIn x))
 
 -- ---- Responses: ERROR and RETRY are written in the first 7 response bytes; an accepted segment writes DONE; nothing else writes there
 
@@ -168,8 +168,8 @@ ResponsesExactly = (x : Lent) → reading x .response ≡ responseLeft x (status
 -- what is responded to is a message packet addressed to us, and the response has our own device ID as source
 pub record Responds (x : Lent) : Type 0 where
   pub to-message : packetType (x .packet) ≡ 11
-  pub for-us : destination (x .packet) ≡ stateIn x .device
-  pub own-source : source (reading x .response) ≡ stateIn x .device
+  pub for-us : destination (x .packet) ≡ stateIn x .setup .device
+  pub own-source : source (reading x .response) ≡ stateIn x .setup .device
 
 abbrev pub ResponsesFromUs : Type 0
 ResponsesFromUs = (x : Lent) (status : ℕ) → statusOf x (reading x .says) ≡ option.some status → Responds x
@@ -301,11 +301,11 @@ pub data Reads : Board → List (List ℕ) → List Delivery → Type 0 where
       → 7 ≤ length given
       → ReadPromise (lent (b .words) (b .streamMemory) (b .messageMemory) given p) r words streamMemory messageMemory response
       → Reads (record { words = words; streamMemory = streamMemory; messageMemory = messageMemory; response = response }) ps ds
-      → Reads b (p ∷ ps) (deliveredBy (stateOf words .room) streamMemory (said (r .answer)) ++ ds)
+      → Reads b (p ∷ ps) (deliveredBy (stateOf words .setup .room) streamMemory (said (r .answer)) ++ ds)
 
 -- these calls can be made: setup says ready, and then there are calls for any packets
 pub record CallsNotEmpty : Type 0 where
-  pub sets-up : SetupPromise (replicate 147 0) 1 32 64 Ready (wordsOf (fresh 1 32 64))
+  pub sets-up : SetupPromise (replicate 147 0) 1 32 64 Ready (wordsOf (fresh (fixed 1 32 64)))
   pub reads : (b : Board) (ps : List (List ℕ)) → (ds : List Delivery) × Reads b ps ds
 
 -- `write_segment` for n segments of a PDU from number k on, each with any output buffer, each outcome a length that its

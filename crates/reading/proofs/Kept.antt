@@ -8,7 +8,7 @@ use lib.ListN.{length, getD, length-set}
 use Rattle.answers.specs.Refusals.{Leaves, all, flowClosed, allERROR, allRETRY, Verdict, refuse, accept, verdict, none}
 use Rattle.answers.proofs.Exactly.{none-held}
 use Rattle.wire.specs.Type11.{messageOf, isSingle}
-use Rattle.contexts.specs.State.{State, freeMessage}
+use Rattle.contexts.specs.State.{Setup, State, freeMessage}
 use Rattle.contexts.specs.Words.{stateOf, wordsOf, stateWords}
 use Rattle.refusal19.specs.Refusal19.{namedBy19}
 use Rattle.contexts.proofs.Words.{sixteen, eight, state-of, length-words}
@@ -26,9 +26,7 @@ use Rattle.reading.proofs.Cases.{by-test}
 
 -- the words of a state with as many contexts
 pub record Same (s t : State) : Type 0 where
-  pub device : t .device ≡ s .device
-  pub mtu : t .mtu ≡ s .mtu
-  pub room : t .room ≡ s .room
+  pub setup : t .setup ≡ s .setup
   pub streams : length (t .streams) ≡ length (s .streams)
   pub messages : length (t .messages) ≡ length (s .messages)
 
@@ -38,30 +36,28 @@ settled w t e g =
     record {
       whole = length-words t (e .streams ∙ sixteen w) (e .messages ∙ eight w);
       good = ap namedBy19 back ∙ g;
-      device = ap (λ (s : State). s .device) back ∙ e .device;
-      mtu = ap (λ (s : State). s .mtu) back ∙ e .mtu;
-      room = ap (λ (s : State). s .room) back ∙ e .room;
+      setup = ap (λ (s : State). s .setup) back ∙ e .setup;
     }
 
 pub unchanged : (w : List ℕ) → length w ≡ stateWords → namedBy19 (stateOf w) ≡ false → StillGood (stateOf w) w
-unchanged w l g = record { whole = l; good = g; device = refl; mtu = refl; room = refl }
+unchanged w l g = record { whole = l; good = g; setup = refl }
 
 module _ (x : Lent) where
   closing-same : (number : ℕ) → Same (stateIn x) (stream.refusedClosing (stateIn x) (x .streamMemory) (segmentIn x) number .state)
   unfolding stream.refusedClosing
-  closing-same number = record { device = refl; mtu = refl; room = refl; streams = simp length-set; messages = refl }
+  closing-same number = record { setup = refl; streams = simp length-set; messages = refl }
 
   stream-same : Same (stateIn x) (stream.accepted (stateIn x) (x .streamMemory) (x .packet) (segmentIn x) .state)
   unfolding stream.accepted streamRoom.placed
-  stream-same = record { device = refl; mtu = refl; room = refl; streams = simp length-set; messages = refl }
+  stream-same = record { setup = refl; streams = simp length-set; messages = refl }
 
   placed-same : (n marks last : ℕ) → Same (stateIn x) (messageRoom.messagePlaced (stateIn x) (x .messageMemory) (x .response) (x .packet) (messageSegmentIn x) n marks last .state)
   unfolding messageRoom.messagePlaced
-  placed-same n marks last = record { device = refl; mtu = refl; room = refl; streams = refl; messages = simp length-set }
+  placed-same n marks last = record { setup = refl; streams = refl; messages = simp length-set }
 
   alone-same : (n : ℕ) → Same (stateIn x) (message.deliveredAtOnce (stateIn x) (x .messageMemory) (x .response) (x .packet) (messageSegmentIn x) n .state)
   unfolding message.deliveredAtOnce
-  alone-same n = record { device = refl; mtu = refl; room = refl; streams = refl; messages = simp length-set }
+  alone-same n = record { setup = refl; streams = refl; messages = simp length-set }
 
   message-same : Same (stateIn x) (message.messageAccepted (stateIn x) (x .messageMemory) (x .response) (x .packet) (messageSegmentIn x) .state)
   unfolding message.messageAccepted
@@ -72,14 +68,14 @@ module _ (x : Lent) where
       (λ o. rw (t, o) (placed-same (freeMessage (stateIn x)) 0 0)))
 
   -- R stays, whatever the words
-  same-R : (t : State) → Same (stateIn x) t → stateOf (wordsOf t) .room ≡ stateIn x .room
-  same-R t e = ap (λ (s : State). s .room) (state-of t (e .streams ∙ sixteen (x .words)) (e .messages ∙ eight (x .words))) ∙ e .room
+  same-R : (t : State) → Same (stateIn x) t → stateOf (wordsOf t) .setup .room ≡ stateIn x .setup .room
+  same-R t e = ap (λ (s : State). s .setup .room) (state-of t (e .streams ∙ sixteen (x .words)) (e .messages ∙ eight (x .words))) ∙ ap (λ (f : Setup). f .room) (e .setup)
 
-  pub room-kept : stateOf (reading x .words) .room ≡ stateIn x .room
+  pub room-kept : stateOf (reading x .words) .setup .room ≡ stateIn x .setup .room
   unfolding reading
   room-kept = by-verdict (verdict (table x))
     where
-      by-verdict : (v : Verdict) → stateOf (outcome x v .words) .room ≡ stateIn x .room
+      by-verdict : (v : Verdict) → stateOf (outcome x v .words) .setup .room ≡ stateIn x .setup .room
       by-verdict (refuse number all) = refl
       by-verdict (refuse number flowClosed) = same-R _ (closing-same number)
       by-verdict (refuse number allERROR) = refl

@@ -35,14 +35,14 @@ message-left x says words memory response j z e =
     ap (λ (w : List ℕ). left says false w (x .streamMemory) memory response) (sym (words-of words z)) ∙ ap (ofMessage x) e
 
 -- row 12 passed
-pub sizes-right : (s : State) (streams messages response : List ℕ) → length streams ≡ 16 * s .room → length messages ≡ 32768 → 7 ≤ length response → wrongSizes s streams messages response ≡ false
+pub sizes-right : (s : State) (streams messages response : List ℕ) → length streams ≡ 16 * s .setup .room → length messages ≡ 32768 → 7 ≤ length response → wrongSizes s streams messages response ≡ false
 unfolding wrongSizes
-sizes-right s streams messages response a b d = rw (eq-eqb (length streams) (16 * s .room) a, eq-eqb (length messages) 32768 b, le-ltb (length response) 7 d)
+sizes-right s streams messages response a b d = rw (eq-eqb (length streams) (16 * s .setup .room) a, eq-eqb (length messages) 32768 b, le-ltb (length response) 7 d)
 
 pub sizes-fit : (s : State) (streams messages response : List ℕ) → wrongSizes s streams messages response ≡ false
-    → (length streams ≡ 16 * s .room) × (length messages ≡ 32768) × (7 ≤ length response)
+    → (length streams ≡ 16 * s .setup .room) × (length messages ≡ 32768) × (7 ≤ length response)
 unfolding wrongSizes
 sizes-fit s streams messages response e =
-    let a = neither (not (eqb (length streams) (16 * s .room)) || not (eqb (length messages) 32768)) (ltb (length response) 7) e in
-    let b = neither (not (eqb (length streams) (16 * s .room))) (not (eqb (length messages) 32768)) (a .0) in
-    (eqb-true (length streams) (16 * s .room) (not-false _ (b .0)), eqb-true (length messages) 32768 (not-false _ (b .1)), ltb-false (length response) 7 (a .1))
+    let a = neither (not (eqb (length streams) (16 * s .setup .room)) || not (eqb (length messages) 32768)) (ltb (length response) 7) e in
+    let b = neither (not (eqb (length streams) (16 * s .setup .room))) (not (eqb (length messages) 32768)) (a .0) in
+    (eqb-true (length streams) (16 * s .setup .room) (not-false _ (b .0)), eqb-true (length messages) 32768 (not-false _ (b .1)), ltb-false (length response) 7 (a .1))

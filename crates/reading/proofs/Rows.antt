@@ -53,7 +53,7 @@ abbrev packeted : Lent → Left
 packeted x =
     cond (under 5 x) (leaving x 1 all)
     (cond (not (eqb (tt (x .packet)) 1)) (leaving x 2 all)
-    (cond (not (eqb (destination (x .packet)) (stateIn x .device))) (leaving x 3 all)
+    (cond (not (eqb (destination (x .packet)) (stateIn x .setup .device))) (leaving x 3 all)
     (cond (not (is9 x || is11 x)) (leaving x 4 all)
     (cond (under 7 x) (leaving x 1 all)
     (typed x)))))
@@ -77,12 +77,12 @@ module _ (x : Lent) (whole : length (x .words) ≡ stateWords) (fine : namedBy19
   message-typed : is9 x ≡ false → is11 x ≡ true → typed x ≡ byParsed x (Message (messageSegmentIn x))
   message-typed n e = rw (n, e) (sym (message-rows x whole))
 
-  pub packet-rows : packeted x ≡ byParsed x (parsed (stateIn x .device) (x .packet))
+  pub packet-rows : packeted x ≡ byParsed x (parsed (stateIn x .setup .device) (x .packet))
   unfolding parsed parsedByType
   packet-rows =
       by-test (under 5 x) (λ a. rw a)
       (λ a. by-test (eqb (tt (x .packet)) 1)
-      (λ b. by-test (eqb (destination (x .packet)) (stateIn x .device))
+      (λ b. by-test (eqb (destination (x .packet)) (stateIn x .setup .device))
       (λ d. by-test (is9 x)
       (λ n. by-test (under 7 x) (λ u. rw (a, b, d, n, u)) (λ u. rw (a, b, d, n, u) (rw n at (stream-typed n))))
       (λ n. by-test (is11 x)
@@ -102,7 +102,7 @@ by-steps x =
     (λ l. rw l)
 
 -- what remains once rows 19 and 12 have passed
-pub by-packet : (x : Lent) → length (x .words) ≡ stateWords → namedBy19 (stateIn x) ≡ false → wrongMemory x ≡ false → reading x ≡ byParsed x (parsed (stateIn x .device) (x .packet))
+pub by-packet : (x : Lent) → length (x .words) ≡ stateWords → namedBy19 (stateIn x) ≡ false → wrongMemory x ≡ false → reading x ≡ byParsed x (parsed (stateIn x .setup .device) (x .packet))
 unfolding readStep
 by-packet x l h m = by-steps x ∙ rw (eq-eqb (length (x .words)) stateWords l, h, m)
 

@@ -55,9 +55,9 @@ module _ (x : Lent) (whole : length (x .words) ≡ stateWords) (fine : namedBy19
   unfolding passesRoom missized
   start-fits t e =
       let g = good (stateIn x) fine in
-      let small : dataLength (segmentIn x) ≤ stateIn x .mtu = size-le (segmentIn x .ends) _ _ e in
+      let small : dataLength (segmentIn x) ≤ stateIn x .setup .mtu = size-le (segmentIn x .ends) _ _ e in
       let alone : total (stateIn x) (segmentIn x) ≡ 0 + dataLength (segmentIn x) = rw t in
-      le-ltb (stateIn x .room) (total (stateIn x) (segmentIn x)) (omega (arith, alone, small, g .holds))
+      le-ltb (stateIn x .setup .room) (total (stateIn x) (segmentIn x)) (omega (arith, alone, small, g .holds))
 
   begins : segmentIn x .begins ≡ true → missized (stateIn x) (segmentIn x) ≡ false → ofStream x (begun (stateIn x) (x .streamMemory) (x .packet) (segmentIn x)) ≡ later
   unfolding begun

@@ -12,10 +12,8 @@ pub record GoodWords (words : List ℕ) : Type 0 where
   pub whole : length words ≡ stateWords
   pub good : namedBy19 (stateOf words) ≡ false
 
--- still a good state, with the device, MTU and R of the state before
+-- still a good state, with what setup fixed as it was
 pub record StillGood (before : State) (words : List ℕ) : Type 0 where
   pub whole : length words ≡ stateWords
   pub good : namedBy19 (stateOf words) ≡ false
-  pub device : stateOf words .device ≡ before .device
-  pub mtu : stateOf words .mtu ≡ before .mtu
-  pub room : stateOf words .room ≡ before .room
+  pub setup : stateOf words .setup ≡ before .setup

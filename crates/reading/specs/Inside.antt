@@ -18,7 +18,7 @@ pub record Refusal (number : ℕ) (r : Reading) : Type 0 where
 pub record Fit (words streams messages : List ℕ) : Type 0 where
   pub whole : length words ≡ stateWords
   pub good : namedBy19 (stateOf words) ≡ false
-  pub rooms : length streams ≡ 16 * stateOf words .room
+  pub rooms : length streams ≡ 16 * stateOf words .setup .room
   pub boxes : length messages ≡ 32768
 
 -- and a response buffer that 12 allows: what reading one packet may rely on

@@ -21,5 +21,5 @@ readStep x =
     cond (isState x)
     (cond (namedBy19 (stateIn x)) (leaving x 19 all)
     (cond (wrongMemory x) (leaving x 12 all)
-    (byParsed x (parsed (stateIn x .device) (x .packet)))))
+    (byParsed x (parsed (stateIn x .setup .device) (x .packet)))))
     (leaving x 12 all)

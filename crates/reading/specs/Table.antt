@@ -52,7 +52,7 @@ isState x = eqb (length (x .words)) stateWords
 
 -- 12: a stream memory that is not 16 R bytes long, a message memory that is not 32,768, or a response buffer under 7
 unfoldable pub wrongSizes : State → List ℕ → List ℕ → List ℕ → Bool
-wrongSizes s streamMemory messageMemory response = not (eqb (length streamMemory) (16 * s .room)) || not (eqb (length messageMemory) 32768) || ltb (length response) 7
+wrongSizes s streamMemory messageMemory response = not (eqb (length streamMemory) (16 * s .setup .room)) || not (eqb (length messageMemory) 32768) || ltb (length response) 7
 
 abbrev pub wrongMemory : Lent → Bool
 wrongMemory x = wrongSizes (stateIn x) (x .streamMemory) (x .messageMemory) (x .response)
@@ -68,7 +68,7 @@ table x =
     -- tt not 01
     ∷ row 2 (not (eqb (tt (x .packet)) 0b01)) all
     -- destination not ours
-    ∷ row 3 (not (eqb (destination (x .packet)) (stateIn x .device))) all
+    ∷ row 3 (not (eqb (destination (x .packet)) (stateIn x .setup .device))) all
     -- type not 9 or 11
     ∷ row 4 (not (is9 x || is11 x)) all
     -- under 7 bytes

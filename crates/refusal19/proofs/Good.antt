@@ -81,27 +81,27 @@ message-holds c e h =
 
 -- ---- the whole state
 pub record Good (s : State) : Type 0 where
-  pub least : 32 ≤ s .mtu
-  pub most : s .mtu ≤ 256
-  pub holds : s .mtu ≤ s .room
-  pub room : s .room ≤ 65536
-  pub streams : (i : ℕ) → i < length (s .streams) → badStream (s .room) (streamIn s i) ≡ false
+  pub least : 32 ≤ s .setup .mtu
+  pub most : s .setup .mtu ≤ 256
+  pub holds : s .setup .mtu ≤ s .setup .room
+  pub room : s .setup .room ≤ 65536
+  pub streams : (i : ℕ) → i < length (s .streams) → badStream (s .setup .room) (streamIn s i) ≡ false
   pub messages : (i : ℕ) → i < length (s .messages) → badMessage (messageIn s i) ≡ false
 
 pub good : (s : State) → namedBy19 s ≡ false → Good s
 unfolding namedBy19
 good s e =
-    let a = neither (badMTU (s .mtu) || badRoom (s .mtu) (s .room) || any (badStream (s .room)) (s .streams)) (any badMessage (s .messages)) e in
-    let b = neither (badMTU (s .mtu) || badRoom (s .mtu) (s .room)) (any (badStream (s .room)) (s .streams)) (a .0) in
-    let d = neither (badMTU (s .mtu)) (badRoom (s .mtu) (s .room)) (b .0) in
-    let m = mtu-fits (s .mtu) (d .0) in
-    let r = room-fits (s .mtu) (s .room) (d .1) in
+    let a = neither (badMTU (s .setup .mtu) || badRoom (s .setup .mtu) (s .setup .room) || any (badStream (s .setup .room)) (s .streams)) (any badMessage (s .messages)) e in
+    let b = neither (badMTU (s .setup .mtu) || badRoom (s .setup .mtu) (s .setup .room)) (any (badStream (s .setup .room)) (s .streams)) (a .0) in
+    let d = neither (badMTU (s .setup .mtu)) (badRoom (s .setup .mtu) (s .setup .room)) (b .0) in
+    let m = mtu-fits (s .setup .mtu) (d .0) in
+    let r = room-fits (s .setup .mtu) (s .setup .room) (d .1) in
     record {
       least = m .0;
       most = m .1;
       holds = r .0;
       room = r .1;
-      streams = none-passes (badStream (s .room)) (s .streams) closedStream (b .1);
+      streams = none-passes (badStream (s .setup .room)) (s .streams) closedStream (b .1);
       messages = none-passes badMessage (s .messages) closedMessage (a .1);
     }
 
@@ -114,8 +114,8 @@ found-open s flow h =
     not-true (isFreeStream (streamIn s (firstOf (isOfFlow flow) (s .streams)))) (o .0)
 
 pub found-holds : (s : State) (flow : Flow) → Good s → flowContext s flow < length (s .streams)
-    → (0 < streamIn s (flowContext s flow) .held) × (streamIn s (flowContext s flow) .held ≤ s .room)
-found-holds s flow g h = stream-holds (s .room) (streamIn s (flowContext s flow)) (g .streams (flowContext s flow) h) (found-open s flow h)
+    → (0 < streamIn s (flowContext s flow) .held) × (streamIn s (flowContext s flow) .held ≤ s .setup .room)
+found-holds s flow g h = stream-holds (s .setup .room) (streamIn s (flowContext s flow)) (g .streams (flowContext s flow) h) (found-open s flow h)
 
 pub message-open : (s : State) (source letter mbox : ℕ) → messageContext s source letter mbox < length (s .messages) → isFreeMessage (messageIn s (messageContext s source letter mbox)) ≡ false
 unfolding messageContext isOfMessage

@@ -13,7 +13,7 @@ use Rattle.lists.proofs.First.{none-passes, all-fail}
 use Rattle.sizes.specs.Sizes.{badMTU, bytesOf}
 use Rattle.contexts.specs.declared.StreamContext.{StreamContext}
 use Rattle.contexts.specs.declared.MessageContext.{MessageContext}
-use Rattle.contexts.specs.State.{State, fresh, withStream, withMessage, closedStream, closedMessage, isFreeStream, isFreeMessage}
+use Rattle.contexts.specs.State.{State, fresh, fixed, withStream, withMessage, closedStream, closedMessage, isFreeStream, isFreeMessage}
 use Rattle.contexts.specs.Marks.{allMarked}
 use Rattle.refusal19.specs.Refusal19.{badRoom, badStream, badLast, badMarks, badMessage, namedBy19}
 use Rattle.refusal19.proofs.Good.{neither}
@@ -51,20 +51,20 @@ kept-message c a b d e f g h =
     (and-false (not (isFreeMessage c)))
 
 -- ---- put into a state
-pub stream-kept : (s : State) (n : ℕ) (c : StreamContext) → namedBy19 s ≡ false → badStream (s .room) c ≡ false → namedBy19 (withStream s n c) ≡ false
+pub stream-kept : (s : State) (n : ℕ) (c : StreamContext) → namedBy19 s ≡ false → badStream (s .setup .room) c ≡ false → namedBy19 (withStream s n c) ≡ false
 unfolding namedBy19
 stream-kept s n c e f =
-    let a = neither (badMTU (s .mtu) || badRoom (s .mtu) (s .room) || any (badStream (s .room)) (s .streams)) (any badMessage (s .messages)) e in
-    let b = neither (badMTU (s .mtu) || badRoom (s .mtu) (s .room)) (any (badStream (s .room)) (s .streams)) (a .0) in
-    rw (b .0, a .1, none-put (badStream (s .room)) closedStream (s .streams) n c (b .1) f)
+    let a = neither (badMTU (s .setup .mtu) || badRoom (s .setup .mtu) (s .setup .room) || any (badStream (s .setup .room)) (s .streams)) (any badMessage (s .messages)) e in
+    let b = neither (badMTU (s .setup .mtu) || badRoom (s .setup .mtu) (s .setup .room)) (any (badStream (s .setup .room)) (s .streams)) (a .0) in
+    rw (b .0, a .1, none-put (badStream (s .setup .room)) closedStream (s .streams) n c (b .1) f)
 
 pub message-kept : (s : State) (n : ℕ) (c : MessageContext) → namedBy19 s ≡ false → badMessage c ≡ false → namedBy19 (withMessage s n c) ≡ false
 unfolding namedBy19
 message-kept s n c e f =
-    let a = neither (badMTU (s .mtu) || badRoom (s .mtu) (s .room) || any (badStream (s .room)) (s .streams)) (any badMessage (s .messages)) e in
+    let a = neither (badMTU (s .setup .mtu) || badRoom (s .setup .mtu) (s .setup .room) || any (badStream (s .setup .room)) (s .streams)) (any badMessage (s .messages)) e in
     rw (a .0, none-put badMessage closedMessage (s .messages) n c (a .1) f)
 
 -- a state as setup makes it is good
-pub fresh-good : (device mtu room : ℕ) → badMTU mtu ≡ false → badRoom mtu room ≡ false → namedBy19 (fresh device mtu room) ≡ false
+pub fresh-good : (device mtu room : ℕ) → badMTU mtu ≡ false → badRoom mtu room ≡ false → namedBy19 (fresh (fixed device mtu room)) ≡ false
 unfolding namedBy19 any firstOf badStream badMessage isFreeStream isFreeMessage
 fresh-good device mtu room m r = rw (m, r)

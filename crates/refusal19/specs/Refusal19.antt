@@ -31,4 +31,4 @@ badMessage c = not (isFreeMessage c) && (eqb (bytesOf (c .ssize)) 0 || eqb (c .m
 
 -- a state that 19 names
 unfoldable pub namedBy19 : State → Bool
-namedBy19 s = badMTU (s .mtu) || badRoom (s .mtu) (s .room) || any (badStream (s .room)) (s .streams) || any badMessage (s .messages)
+namedBy19 s = badMTU (s .setup .mtu) || badRoom (s .setup .mtu) (s .setup .room) || any (badStream (s .setup .room)) (s .streams) || any badMessage (s .messages)

@@ -83,13 +83,13 @@ length-written-ge memory bytes at h = simp (length-append, length-take, length-d
 
 -- what rows 8 to 10 and 12 leave
 record Placeable (s : State) (memory : List ℕ) (g : Segment) : Type 0 where
-  size : length memory ≡ 16 * s .room
+  size : length memory ≡ 16 * s .setup .room
   context : stream.contextFor s g < 16
-  fits : total s g ≤ s .room
+  fits : total s g ≤ s .setup .room
 
 measured-stream : (s : State) (memory p : List ℕ) (g : Segment) → Placeable s memory g → (context source cos st size : ℕ)
     → stream.accepted s memory p g .says ≡ answers.delivered context source cos st size
-    → length (inRoom (s .room) (stream.accepted s memory p g .memory) context size) ≡ size
+    → length (inRoom (s .setup .room) (stream.accepted s memory p g .memory) context size) ≡ size
 unfolding stream.accepted placing.placed
 measured-stream s memory p g ok context source cos st size = go (g .ends)
   where
@@ -97,20 +97,20 @@ measured-stream s memory p g ok context source cos st size = go (g .ends)
     n = stream.contextFor s g
 
     stored : List ℕ
-    stored = written memory (n * s .room + heldBefore s g) (placing.dataOf p g)
+    stored = written memory (n * s .setup .room + heldBefore s g) (placing.dataOf p g)
 
-    inside : (size : ℕ) → size ≡ total s g → length (inRoom (s .room) stored n size) ≡ size
+    inside : (size : ℕ) → size ≡ total s g → length (inRoom (s .setup .room) stored n size) ≡ size
     inside size e =
-        let below : n * s .room + s .room ≤ 16 * s .room = omega (arith, mul-le-mul-right (s .room) (ok .context)) in
-        let long : length memory ≤ length stored = length-written-ge memory (placing.dataOf p g) (n * s .room + heldBefore s g) (omega (arith, ok .fits, ok .size)) in
-        length-inside stored (n * s .room) size (omega (arith, ok .fits, ok .size))
+        let below : n * s .setup .room + s .setup .room ≤ 16 * s .setup .room = omega (arith, mul-le-mul-right (s .setup .room) (ok .context)) in
+        let long : length memory ≤ length stored = length-written-ge memory (placing.dataOf p g) (n * s .setup .room + heldBefore s g) (omega (arith, ok .fits, ok .size)) in
+        length-inside stored (n * s .setup .room) size (omega (arith, ok .fits, ok .size))
 
     go : (t : Bool) → cond t (answers.delivered n (g .flow .source) (g .flow .cos) (stream.streamID s g) (total s g)) answers.held ≡ answers.delivered context source cos st size
-        → length (inRoom (s .room) stored context size) ≡ size
+        → length (inRoom (s .setup .room) stored context size) ≡ size
     go true e =
         let c : n ≡ context = cc in
         let z : total s g ≡ size = cc in
-        subst (λ (j : ℕ). length (inRoom (s .room) stored j size) ≡ size) c (inside size (sym z))
+        subst (λ (j : ℕ). length (inRoom (s .setup .room) stored j size) ≡ size) c (inside size (sym z))
     go false e = absurd (held-none context source cos st size e)
 
 -- ---- The rows
@@ -124,11 +124,11 @@ of-9 : (nine b : Bool) → nine ≡ true → (nine && b) ≡ false → b ≡ fal
 of-9 true b e h = h
 of-9 false b e h = absurd (false≢true e)
 
-right-size : (s : State) (streams messages response : List ℕ) → wrongSizes s streams messages response ≡ false → length streams ≡ 16 * s .room
+right-size : (s : State) (streams messages response : List ℕ) → wrongSizes s streams messages response ≡ false → length streams ≡ 16 * s .setup .room
 unfolding wrongSizes
 right-size s streams messages response e =
-    let rooms = or-false (not (eqb (length streams) (16 * s .room))) _ (or-false (not (eqb (length streams) (16 * s .room)) || not (eqb (length messages) 32768)) _ e .0) .0 in
-    eqb-true (length streams) (16 * s .room) (not-false (eqb (length streams) (16 * s .room)) rooms)
+    let rooms = or-false (not (eqb (length streams) (16 * s .setup .room))) _ (or-false (not (eqb (length streams) (16 * s .setup .room)) || not (eqb (length messages) 32768)) _ e .0) .0 in
+    eqb-true (length streams) (16 * s .setup .room) (not-false (eqb (length streams) (16 * s .setup .room)) rooms)
 
 below-16 : (s : State) (g : Segment) → notOpen s g ≡ false → noneFree s g ≡ false → stream.contextFor s g < 16
 unfolding notOpen noneFree
@@ -150,20 +150,20 @@ length-is-measured b p context source cos st size = by-verdict (verdict (table x
     placeable nine rows = unfold none table in record {
       size = right-size (stateIn x) (b .streamMemory) (b .messageMemory) (b .response) (or-false (not (isState x)) (wrongMemory x) (rows .1 .0) .1);
       context = below-16 (stateIn x) (segmentIn x) (of-9 (is9 x) _ nine (rows .1 .1 .1 .1 .1 .1 .1 .1 .1 .1 .1 .0)) (of-9 (is9 x) _ nine (rows .1 .1 .1 .1 .1 .1 .1 .1 .1 .1 .1 .1 .1 .0));
-      fits = unfold passesRoom in (ltb-false (stateIn x .room) (total (stateIn x) (segmentIn x)) (of-9 (is9 x) _ nine (rows .1 .1 .1 .1 .1 .1 .1 .1 .1 .1 .1 .1 .0)));
+      fits = unfold passesRoom in (ltb-false (stateIn x .setup .room) (total (stateIn x) (segmentIn x)) (of-9 (is9 x) _ nine (rows .1 .1 .1 .1 .1 .1 .1 .1 .1 .1 .1 .1 .0)));
     }
 
     by-type : (t : Bool) → is9 x ≡ t → none (table x)
         → (cond t
         (ofStream x (stream.accepted (stateIn x) (b .streamMemory) p (segmentIn x)))
         (ofMessage x (message.messageAccepted (stateIn x) (b .messageMemory) (b .response) p (messageSegmentIn x)))) .says ≡ answers.delivered context source cos st size
-        → length (inRoom (stateIn x .room) ((cond t
+        → length (inRoom (stateIn x .setup .room) ((cond t
         (ofStream x (stream.accepted (stateIn x) (b .streamMemory) p (segmentIn x)))
         (ofMessage x (message.messageAccepted (stateIn x) (b .messageMemory) (b .response) p (messageSegmentIn x)))) .streamMemory) context size) ≡ size
     by-type true nine rows e = measured-stream (stateIn x) (b .streamMemory) p (segmentIn x) (placeable nine rows) context source cos st size e
     by-type false nine rows e = absurd (messages-none (stateIn x) (b .messageMemory) (b .response) p (messageSegmentIn x) context source cos st size e)
 
     by-verdict : (v : Verdict) → verdict (table x) ≡ v → outcome x v .says ≡ answers.delivered context source cos st size
-        → length (inRoom (stateIn x .room) (outcome x v .streamMemory) context size) ≡ size
+        → length (inRoom (stateIn x .setup .room) (outcome x v .streamMemory) context size) ≡ size
     by-verdict (refuse number leaves) e d = absurd (leaving-none x number leaves context source cos st size d)
     by-verdict accept e d = by-type (is9 x) refl (none-held (table x) e) d

@@ -23,25 +23,25 @@ use Rattle.flows.specs.ByFlow.{OwnFlow, NoFlow, ByFlow}
 use Rattle.sending.specs.OfSendings.{Begins}
 
 -- words tell the R of their state
-words-room : (s : State) → stateOf (wordsOf s) .room ≡ s .room
+words-room : (s : State) → stateOf (wordsOf s) .setup .room ≡ s .setup .room
 unfolding stateOf wordsOf
 words-room s = refl
 
-refused-room : (x : Lent) (number : ℕ) (leaves : Leaves) → stateOf (leaving x number leaves .words) .room ≡ stateIn x .room
+refused-room : (x : Lent) (number : ℕ) (leaves : Leaves) → stateOf (leaving x number leaves .words) .setup .room ≡ stateIn x .setup .room
 unfolding stream.refusedClosing
 refused-room x number all = refl
 refused-room x number flowClosed = words-room (stream.refusedClosing (stateIn x) (x .streamMemory) (segmentIn x) number .state)
 refused-room x number allERROR = refl
 refused-room x number allRETRY = refl
 
-message-room : (s : State) (memory response p : List ℕ) (m : MessageSegment) → message.messageAccepted s memory response p m .state .room ≡ s .room
+message-room : (s : State) (memory response p : List ℕ) (m : MessageSegment) → message.messageAccepted s memory response p m .state .setup .room ≡ s .setup .room
 unfolding message.messageAccepted message.deliveredAtOnce boxes.messagePlaced
 message-room s memory response p m = go (isSingle m) (messageOpen s m)
   where
     go : (a b : Bool)
         → cond a (message.deliveredAtOnce s memory response p m (freeMessage s)) (cond b
         (boxes.messagePlaced s memory response p m (found s m) (messageIn s (found s m) .marks) (messageIn s (found s m) .last))
-        (boxes.messagePlaced s memory response p m (freeMessage s) 0 0)) .state .room ≡ s .room
+        (boxes.messagePlaced s memory response p m (freeMessage s) 0 0)) .state .setup .room ≡ s .setup .room
     go true b = refl
     go false true = refl
     go false false = refl
@@ -49,7 +49,7 @@ message-room s memory response p m = go (isSingle m) (messageOpen s m)
 accepted-room : (x : Lent) (t : Bool)
     → stateOf (cond t
     (ofStream x (stream.accepted (stateIn x) (x .streamMemory) (x .packet) (segmentIn x)))
-    (ofMessage x (message.messageAccepted (stateIn x) (x .messageMemory) (x .response) (x .packet) (messageSegmentIn x))) .words) .room ≡ stateIn x .room
+    (ofMessage x (message.messageAccepted (stateIn x) (x .messageMemory) (x .response) (x .packet) (messageSegmentIn x))) .words) .room ≡ stateIn x .setup .room
 unfolding stream.accepted placing.placed
 accepted-room x true = words-room (stream.accepted (stateIn x) (x .streamMemory) (x .packet) (segmentIn x) .state)
 accepted-room x false =
@@ -63,7 +63,7 @@ room-stays b p = go (verdict (table x))
     x : Lent
     x = lent (b .words) (b .streamMemory) (b .messageMemory) (b .response) p
 
-    go : (v : Verdict) → stateOf (outcome x v .words) .room ≡ stateIn x .room
+    go : (v : Verdict) → stateOf (outcome x v .words) .setup .room ≡ stateIn x .setup .room
     go (refuse number leaves) = refused-room x number leaves
     go accept = accepted-room x (is9 x)
 

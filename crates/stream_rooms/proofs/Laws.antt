@@ -22,14 +22,14 @@ room-ends n base count room a b = omega (arith, suc-mul n room, mul-le-mul-right
 -- past the last context nothing is put
 pub put-nowhere : (s : State) (n : ℕ) → length (s .streams) ≡ 16 → 16 ≤ n → s ≡ withStream s n closedStream
 put-nowhere s n z h =
-    ap (λ (l : List StreamContext). record { device = s .device; mtu = s .mtu; room = s .room; streams = l; messages = s .messages })
+    ap (λ (l : List StreamContext). record { setup = s .setup; streams = l; messages = s .messages })
     (sym (set-out (s .streams) n closedStream (omega arith)))
 
 -- the store and the context make the placing
 pub placing : (s : State) (memory after p : List ℕ) (g : Segment) (n base stream count : ℕ) (gave : Bool) (says : Said) (dropped : Bool) (state : State)
     → Fits s g n base count
     → Kept s n g stream (base + count) gave says dropped state
-    → after ≡ written memory (n * s .room + base) (take (g .from + count - g .from) (drop (g .from) p))
+    → after ≡ written memory (n * s .setup .room + base) (take (g .from + count - g .from) (drop (g .from) p))
     → joining says dropped state after ≡ placed s memory p g n base stream gave
 unfolding placed
 placing s memory after p g n base stream count gave says dropped state f k m =

@@ -17,7 +17,7 @@ use Rattle.stream_rooms.specs.Placing.{answerAt, contextAt}
 pub record Ready (words memory packet : List ℕ) (g : Segment) : Type 0 where
   pub whole : length words ≡ stateWords
   pub good : namedBy19 (stateOf words) ≡ false
-  pub size : length memory ≡ 16 * stateOf words .room
+  pub size : length memory ≡ 16 * stateOf words .setup .room
   pub inside : g .from + g .raw ≡ length packet
 
 -- a refusal that closed context `found`, where that is one
@@ -37,4 +37,4 @@ pub record Fits (s : State) (g : Segment) (n base count : ℕ) : Type 0 where
   pub context : n < 16
   pub size : count ≡ dataLength g
   pub within : count ≤ g .raw
-  pub behind : base + count ≤ s .room
+  pub behind : base + count ≤ s .setup .room

@@ -37,4 +37,4 @@ placed s memory p g n base stream dropped =
     joining (answerAt g n stream (base + dataLength g))
     dropped
     (withStream s n (contextAt g stream (base + dataLength g)))
-    (written memory (n * s .room + base) (dataOf p g))
+    (written memory (n * s .setup .room + base) (dataOf p g))

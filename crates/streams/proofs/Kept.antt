@@ -36,12 +36,12 @@ module _ (s : State) (memory p : List ℕ) (g : Segment) (fine : namedBy19 s ≡
   accepted-kept a b =
       stream-kept s (contextFor s g) _ fine
       (go (g .ends) (record { live = 1; flow = g .flow; stream = streamID s g; held = total s g })
-      (held-stream (s .room) (record { live = 1; flow = g .flow; stream = streamID s g; held = total s g }) (omega (arith, data-there g a)) (ltb-false (s .room) (total s g) b)))
+      (held-stream (s .setup .room) (record { live = 1; flow = g .flow; stream = streamID s g; held = total s g }) (omega (arith, data-there g a)) (ltb-false (s .setup .room) (total s g) b)))
     where
-      go : (b : Bool) (c : StreamContext) → badStream (s .room) c ≡ false → badStream (s .room) (cond b closedStream c) ≡ false
-      go true c h = closed-stream (s .room)
+      go : (b : Bool) (c : StreamContext) → badStream (s .setup .room) c ≡ false → badStream (s .setup .room) (cond b closedStream c) ≡ false
+      go true c h = closed-stream (s .setup .room)
       go false c h = h
 
   pub closing-kept : (number : ℕ) → namedBy19 (refusedClosing s memory g number .state) ≡ false
   unfolding refusedClosing
-  closing-kept number = stream-kept s _ closedStream fine (closed-stream (s .room))
+  closing-kept number = stream-kept s _ closedStream fine (closed-stream (s .setup .room))

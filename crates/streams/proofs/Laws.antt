@@ -70,7 +70,7 @@ module _ (s : State) (g : Segment) (t : g .begins ≡ false) {found count : ℕ}
     total-is : total s g ≡ c .held + count
     total-is = ap (λ (b : Bool). cond b 0 (streamIn s (foundFor s g) .held) + dataLength g) t ∙ rw (← q .flow, ← e, ← q .size)
 
-    passes : {room : ℕ} → room ≡ s .room → passesRoom s g ≡ ltb room (c .held + count)
+    passes : {room : ℕ} → room ≡ s .setup .room → passesRoom s g ≡ ltb room (c .held + count)
     unfolding passesRoom
     passes r = ap₂ ltb (sym r) total-is
 
@@ -79,7 +79,7 @@ module _ (s : State) (g : Segment) (t : g .begins ≡ false) {found count : ℕ}
     differs = ap₂ (λ (b : Bool) (n : ℕ). not b && wrongLength g n) t total-is
 
 -- ---- row 7 by what the code has: the bytes of data and the MTU
-module _ (s : State) (g : Segment) {count mtu : ℕ} (z : count ≡ dataLength g) (m : mtu ≡ s .mtu) where
+module _ (s : State) (g : Segment) {count mtu : ℕ} (z : count ≡ dataLength g) (m : mtu ≡ s .setup .mtu) where
   sizes : {b : Bool} → wrongSize (g .ends) count mtu ≡ b → missized s g ≡ b
   unfolding missized
   sizes e = rw (← z, ← m) e
@@ -109,7 +109,7 @@ module _ (s : State) (memory p : List ℕ) (g : Segment) where
     unfolding continued notOpen refusedStaying
     go-closed o = rw (t, ← q .flow, le-ltb found 16 o)
 
-    module _ (o : found < 16) {c : StreamContext} {room : ℕ} (e : c ≡ streamIn s found) (r : room ≡ s .room) where
+    module _ (o : found < 16) {c : StreamContext} {room : ℕ} (e : c ≡ streamIn s found) (r : room ≡ s .setup .room) where
       pub go-passes : {says : Said} {dropped : Bool} {state : State} → room < c .held + count → Closing s found 9 says dropped state → joining says dropped state memory ≡ continued s memory p g
       unfolding continued
       go-passes h k = closing s memory g (q .flow) k ∙ rw (open-flow s g t q o, passes s g t q e r, lt-ltb room (c .held + count) h)
@@ -130,7 +130,7 @@ module _ (s : State) (memory p : List ℕ) (g : Segment) where
     unfolding stepped
     step-malformed d k = closing s memory g f k ∙ rw d
 
-  module _ (d : malformed g ≡ false) {count mtu : ℕ} (z : count ≡ dataLength g) (m : mtu ≡ s .mtu) where
+  module _ (d : malformed g ≡ false) {count mtu : ℕ} (z : count ≡ dataLength g) (m : mtu ≡ s .setup .mtu) where
     pub step-missized : {found : ℕ} {says : Said} {dropped : Bool} {state : State} → found ≡ foundFor s g → wrongSize (g .ends) count mtu ≡ true → Closing s found 7 says dropped state
         → joining says dropped state memory ≡ stepped s memory p g
     unfolding stepped

@@ -12,7 +12,7 @@ pub record Passed (s : State) (g : Segment) (found count : ℕ) : Type 0 where
   pub flow : found ≡ foundFor s g
   pub size : count ≡ dataLength g
   pub within : count ≤ g .raw
-  pub small : count ≤ s .mtu
+  pub small : count ≤ s .setup .mtu
 
 pub record BeginsPDU (s : State) (g : Segment) (found count : ℕ) : Type 0 where
   pub passed : Passed s g found count

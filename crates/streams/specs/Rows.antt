@@ -23,7 +23,7 @@ total s g = heldBefore s g + dataLength g
 
 -- 7: start or continuation not MTU data bytes (pad not counted); end or single over MTU
 unfoldable pub missized : State → Segment → Bool
-missized s g = wrongSize (g .ends) (dataLength g) (s .mtu)
+missized s g = wrongSize (g .ends) (dataLength g) (s .setup .mtu)
 
 -- 8: continuation or end, flow not open
 unfoldable pub notOpen : State → Segment → Bool
@@ -31,7 +31,7 @@ notOpen s g = not (g .begins) && not (flowOpen s g)
 
 -- 9: total would pass R
 unfoldable pub passesRoom : State → Segment → Bool
-passesRoom s g = ltb (s .room) (total s g)
+passesRoom s g = ltb (s .setup .room) (total s g)
 
 -- 10: start or single, flow not open, no context free
 unfoldable pub noneFree : State → Segment → Bool

@@ -28,7 +28,7 @@ add-total c =
     let q = s .pre .1 .passed in
     let k = good st (s .pre .0 .good) in
     let o : foundFor st g < length (st .streams) = rw (← q .flow, sixteen (s .args .state .now)) (c .before .before .before .if1 .left) in
-    let h : c .before .stream-at .result .held ≤ st .room = rw (c .before .stream-at .ensures, q .flow) (found-holds st (g .flow) k o .1) in
+    let h : c .before .stream-at .result .held ≤ st .setup .room = rw (c .before .stream-at .ensures, q .flow) (found-holds st (g .flow) k o .1) in
     omega (arith, h, k .room, q .small, k .most)
 
 room-requires : tie.Need-room-requires
