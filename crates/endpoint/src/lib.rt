@@ -5,7 +5,9 @@ use answers::Reading;
 ghost use mathlib.Core.Path.{_≡_};
 ghost use Prim.Native.Nat.{_≤_};
 ghost use lib.ListN.{length};
-ghost use Rattle.reading.specs.Read.{lent, ReadPromise};
+ghost use Rattle.reading.specs.Desk.{desk};
+ghost use Rattle.reading.specs.Table.{lent};
+ghost use Rattle.reading.specs.Read.{ReadPromise};
 ghost use Rattle.endpoint.specs.Calls.{SetupPromise, AbandonStreamPromise, AbandonMessagePromise, LengthPromise, StreamRoomPromise, MessageRoomPromise, noState, roomPart, IsPart};
 
 // The words that a state needs.
@@ -42,7 +44,7 @@ pub fn read(
     response: &mut [u8],
     packet: &[u8],
 ) -> Reading
-    ensures { λ r. ⌜ ReadPromise (lent (now (state .entry)) (now («stream_memory» .entry)) (now («message_memory» .entry)) (now (response .entry)) (now (packet .entry))) r (now (state .exit)) (now («stream_memory» .exit)) (now («message_memory» .exit)) (now (response .exit)) ⌝ }
+    ensures { λ r. ⌜ ReadPromise (lent (desk (now (state .entry)) (now («stream_memory» .entry)) (now («message_memory» .entry)) (now (response .entry))) (now (packet .entry))) r (desk (now (state .exit)) (now («stream_memory» .exit)) (now («message_memory» .exit)) (now (response .exit))) ⌝ }
 {
     if state.len() != contexts::WORDS {
         return reading::refused(12);

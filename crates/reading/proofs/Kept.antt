@@ -43,23 +43,23 @@ pub unchanged : (w : List ℕ) → length w ≡ stateWords → namedBy19 (stateO
 unchanged w l g = record { whole = l; good = g; setup = refl }
 
 module _ (x : Lent) where
-  closing-same : (number : ℕ) → Same (stateIn x) (stream.refusedClosing (stateIn x) (x .streamMemory) (segmentIn x) number .state)
+  closing-same : (number : ℕ) → Same (stateIn x) (stream.refusedClosing (stateIn x) (x .desk .streamMemory) (segmentIn x) number .state)
   unfolding stream.refusedClosing
   closing-same number = record { setup = refl; streams = simp length-set; messages = refl }
 
-  stream-same : Same (stateIn x) (stream.accepted (stateIn x) (x .streamMemory) (x .packet) (segmentIn x) .state)
+  stream-same : Same (stateIn x) (stream.accepted (stateIn x) (x .desk .streamMemory) (x .packet) (segmentIn x) .state)
   unfolding stream.accepted streamRoom.placed
   stream-same = record { setup = refl; streams = simp length-set; messages = refl }
 
-  placed-same : (n marks last : ℕ) → Same (stateIn x) (messageRoom.messagePlaced (stateIn x) (x .messageMemory) (x .response) (x .packet) (messageSegmentIn x) n marks last .state)
+  placed-same : (n marks last : ℕ) → Same (stateIn x) (messageRoom.messagePlaced (stateIn x) (x .desk .messageMemory) (x .desk .response) (x .packet) (messageSegmentIn x) n marks last .state)
   unfolding messageRoom.messagePlaced
   placed-same n marks last = record { setup = refl; streams = refl; messages = simp length-set }
 
-  alone-same : (n : ℕ) → Same (stateIn x) (message.deliveredAtOnce (stateIn x) (x .messageMemory) (x .response) (x .packet) (messageSegmentIn x) n .state)
+  alone-same : (n : ℕ) → Same (stateIn x) (message.deliveredAtOnce (stateIn x) (x .desk .messageMemory) (x .desk .response) (x .packet) (messageSegmentIn x) n .state)
   unfolding message.deliveredAtOnce
   alone-same n = record { setup = refl; streams = refl; messages = simp length-set }
 
-  message-same : Same (stateIn x) (message.messageAccepted (stateIn x) (x .messageMemory) (x .response) (x .packet) (messageSegmentIn x) .state)
+  message-same : Same (stateIn x) (message.messageAccepted (stateIn x) (x .desk .messageMemory) (x .desk .response) (x .packet) (messageSegmentIn x) .state)
   unfolding message.messageAccepted
   message-same =
       by-test (isSingle (messageSegmentIn x)) (λ t. rw t (alone-same (freeMessage (stateIn x))))
@@ -69,13 +69,13 @@ module _ (x : Lent) where
 
   -- R stays, whatever the words
   same-R : (t : State) → Same (stateIn x) t → stateOf (wordsOf t) .setup .room ≡ stateIn x .setup .room
-  same-R t e = ap (λ (s : State). s .setup .room) (state-of t (e .streams ∙ sixteen (x .words)) (e .messages ∙ eight (x .words))) ∙ ap (λ (f : Setup). f .room) (e .setup)
+  same-R t e = ap (λ (s : State). s .setup .room) (state-of t (e .streams ∙ sixteen (x .desk .words)) (e .messages ∙ eight (x .desk .words))) ∙ ap (λ (f : Setup). f .room) (e .setup)
 
-  pub room-kept : stateOf (reading x .words) .setup .room ≡ stateIn x .setup .room
+  pub room-kept : stateOf (reading x .desk .words) .setup .room ≡ stateIn x .setup .room
   unfolding reading
   room-kept = by-verdict (verdict (table x))
     where
-      by-verdict : (v : Verdict) → stateOf (outcome x v .words) .setup .room ≡ stateIn x .setup .room
+      by-verdict : (v : Verdict) → stateOf (outcome x v .desk .words) .setup .room ≡ stateIn x .setup .room
       by-verdict (refuse number all) = refl
       by-verdict (refuse number flowClosed) = same-R _ (closing-same number)
       by-verdict (refuse number allERROR) = refl
@@ -101,36 +101,36 @@ module _ (x : Lent) where
   of-type true b t e = e
   of-type false b t e = absurd (false≢true t)
 
-  module _ (whole : length (x .words) ≡ stateWords) (fine : namedBy19 (stateIn x) ≡ false) (small : getD (x .packet) 5 0 < 256) where
-    stream-settled : Passed → is9 x ≡ true → StillGood (stateIn x) (wordsOf (stream.accepted (stateIn x) (x .streamMemory) (x .packet) (segmentIn x) .state))
+  module _ (whole : length (x .desk .words) ≡ stateWords) (fine : namedBy19 (stateIn x) ≡ false) (small : getD (x .packet) 5 0 < 256) where
+    stream-settled : Passed → is9 x ≡ true → StillGood (stateIn x) (wordsOf (stream.accepted (stateIn x) (x .desk .streamMemory) (x .packet) (segmentIn x) .state))
     unfolding none table
     stream-settled n t =
-        settled (x .words) _ stream-same
-        (streams.accepted-kept (stateIn x) (x .streamMemory) (x .packet) (segmentIn x) fine (of-type (is9 x) _ t (n .1 .1 .1 .1 .1 .1 .1 .1 .1 .0)) (of-type (is9 x) _ t (n .1 .1 .1 .1 .1 .1 .1 .1 .1 .1 .1 .1 .0)))
+        settled (x .desk .words) _ stream-same
+        (streams.accepted-kept (stateIn x) (x .desk .streamMemory) (x .packet) (segmentIn x) fine (of-type (is9 x) _ t (n .1 .1 .1 .1 .1 .1 .1 .1 .1 .0)) (of-type (is9 x) _ t (n .1 .1 .1 .1 .1 .1 .1 .1 .1 .1 .1 .1 .0)))
 
     few : messageSegmentIn x .msglen < 16
     unfolding messageOf
     few = omega (arith, small)
 
-    message-settled : Passed → is9 x ≡ false → StillGood (stateIn x) (wordsOf (message.messageAccepted (stateIn x) (x .messageMemory) (x .response) (x .packet) (messageSegmentIn x) .state))
+    message-settled : Passed → is9 x ≡ false → StillGood (stateIn x) (wordsOf (message.messageAccepted (stateIn x) (x .desk .messageMemory) (x .desk .response) (x .packet) (messageSegmentIn x) .state))
     unfolding none table
     message-settled n f =
         let t : is11 x ≡ true = other-type n f in
-        settled (x .words) _ message-same
-        (messages.accepted-kept (stateIn x) (x .messageMemory) (x .response) (x .packet) (messageSegmentIn x) fine (eight (x .words)) few (of-type (is11 x) _ t (n .1 .1 .1 .1 .1 .1 .1 .1 .1 .1 .1 .1 .1 .1 .1 .0))
+        settled (x .desk .words) _ message-same
+        (messages.accepted-kept (stateIn x) (x .desk .messageMemory) (x .desk .response) (x .packet) (messageSegmentIn x) fine (eight (x .desk .words)) few (of-type (is11 x) _ t (n .1 .1 .1 .1 .1 .1 .1 .1 .1 .1 .1 .1 .1 .1 .1 .0))
         (of-type (is11 x) _ t (n .1 .1 .1 .1 .1 .1 .1 .1 .1 .1 .1 .1 .1 .1 .1 .1 .0)) (of-type (is11 x) _ t (n .1 .1 .1 .1 .1 .1 .1 .1 .1 .1 .1 .1 .1 .1 .1 .1 .1 .0)) (of-type (is11 x) _ t (n .1 .1 .1 .1 .1 .1 .1 .1 .1 .1 .1 .1 .1 .1 .1 .1 .1 .1 .0)) (of-type (is11 x) _ t (n .1 .1 .1 .1 .1 .1 .1 .1 .1 .1 .1 .1 .1 .1 .1 .1 .1 .1 .1 .0)))
 
-    pub stays-good : StillGood (stateIn x) (reading x .words)
+    pub stays-good : StillGood (stateIn x) (reading x .desk .words)
     unfolding reading
     stays-good = by-verdict (verdict (table x)) refl
       where
-        by-leaves : (number : ℕ) (leaves : Leaves) → StillGood (stateIn x) (leaving x number leaves .words)
-        by-leaves number all = unchanged (x .words) whole fine
-        by-leaves number flowClosed = settled (x .words) _ (closing-same number) (streams.closing-kept (stateIn x) (x .streamMemory) (x .packet) (segmentIn x) fine number)
-        by-leaves number allERROR = unchanged (x .words) whole fine
-        by-leaves number allRETRY = unchanged (x .words) whole fine
+        by-leaves : (number : ℕ) (leaves : Leaves) → StillGood (stateIn x) (leaving x number leaves .desk .words)
+        by-leaves number all = unchanged (x .desk .words) whole fine
+        by-leaves number flowClosed = settled (x .desk .words) _ (closing-same number) (streams.closing-kept (stateIn x) (x .desk .streamMemory) (x .packet) (segmentIn x) fine number)
+        by-leaves number allERROR = unchanged (x .desk .words) whole fine
+        by-leaves number allRETRY = unchanged (x .desk .words) whole fine
 
-        by-verdict : (v : Verdict) → verdict (table x) ≡ v → StillGood (stateIn x) (outcome x v .words)
+        by-verdict : (v : Verdict) → verdict (table x) ≡ v → StillGood (stateIn x) (outcome x v .desk .words)
         by-verdict (refuse number leaves) e = by-leaves number leaves
         by-verdict accept e =
             by-test (is9 x)

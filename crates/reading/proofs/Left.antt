@@ -9,40 +9,39 @@ use borrow.Author.Tests.{eq-eqb, le-ltb, eqb-true, ltb-false, not-false}
 use Rattle.answers.specs.Answers.{Said}
 use Rattle.answers.specs.declared.Reading.{Reading}
 use Rattle.answers.specs.Refusals.{all}
-use Rattle.contexts.specs.State.{State}
 use Rattle.contexts.specs.Words.{stateOf, stateWords}
 use Rattle.contexts.proofs.Words.{words-of}
 use Rattle.refusal19.proofs.Good.{neither}
 use Rattle.stream_rooms.specs.Placing as streamRoom
 use Rattle.message_rooms.specs.Placing as messageRoom
+use Rattle.reading.specs.Desk.{Desk, stateOn, withStreams, withMessages}
 use Rattle.reading.specs.Table.{Lent, wrongSizes}
 use Rattle.reading.specs.Read.{left, leaving, ofStream, ofMessage, reading, ReadPromise}
 use Rattle.reading.specs.Inside.{Refusal}
 
 -- a refusal that changes nothing
-pub refusing : (x : Lent) (number : ℕ) (r : Reading) → Refusal number r → leaving x number all ≡ reading x → ReadPromise x r (x .words) (x .streamMemory) (x .messageMemory) (x .response)
+pub refusing : (x : Lent) (number : ℕ) (r : Reading) → Refusal number r → leaving x number all ≡ reading x → ReadPromise x r (x .desk)
 refusing x number r f e = rw (f .answer, f .drop) e
 
 -- what a step leaves in the words
 pub stream-left : (x : Lent) (says : Said) (dropped : Bool) (words memory : List ℕ) (j : streamRoom.Joined) → length words ≡ stateWords
-    → streamRoom.joining says dropped (stateOf words) memory ≡ j → left says dropped words memory (x .messageMemory) (x .response) ≡ ofStream x j
+    → streamRoom.joining says dropped (stateOf words) memory ≡ j → left says dropped (withStreams (x .desk) words memory) ≡ ofStream x j
 stream-left x says dropped words memory j z e =
-    ap (λ (w : List ℕ). left says dropped w memory (x .messageMemory) (x .response)) (sym (words-of words z)) ∙ ap (ofStream x) e
+    ap (λ (w : List ℕ). left says dropped (withStreams (x .desk) w memory)) (sym (words-of words z)) ∙ ap (ofStream x) e
 
 pub message-left : (x : Lent) (says : Said) (words memory response : List ℕ) (j : messageRoom.MessageJoined) → length words ≡ stateWords
-    → messageRoom.messageJoining says (stateOf words) memory response ≡ j → left says false words (x .streamMemory) memory response ≡ ofMessage x j
+    → messageRoom.messageJoining says (stateOf words) memory response ≡ j → left says false (withMessages (x .desk) words memory response) ≡ ofMessage x j
 message-left x says words memory response j z e =
-    ap (λ (w : List ℕ). left says false w (x .streamMemory) memory response) (sym (words-of words z)) ∙ ap (ofMessage x) e
+    ap (λ (w : List ℕ). left says false (withMessages (x .desk) w memory response)) (sym (words-of words z)) ∙ ap (ofMessage x) e
 
 -- row 12 passed
-pub sizes-right : (s : State) (streams messages response : List ℕ) → length streams ≡ 16 * s .setup .room → length messages ≡ 32768 → 7 ≤ length response → wrongSizes s streams messages response ≡ false
+pub sizes-right : (d : Desk) → length (d .streamMemory) ≡ 16 * stateOn d .setup .room → length (d .messageMemory) ≡ 32768 → 7 ≤ length (d .response) → wrongSizes d ≡ false
 unfolding wrongSizes
-sizes-right s streams messages response a b d = rw (eq-eqb (length streams) (16 * s .setup .room) a, eq-eqb (length messages) 32768 b, le-ltb (length response) 7 d)
+sizes-right d a b e = rw (eq-eqb (length (d .streamMemory)) _ a, eq-eqb (length (d .messageMemory)) _ b, le-ltb (length (d .response)) _ e)
 
-pub sizes-fit : (s : State) (streams messages response : List ℕ) → wrongSizes s streams messages response ≡ false
-    → (length streams ≡ 16 * s .setup .room) × (length messages ≡ 32768) × (7 ≤ length response)
+pub sizes-fit : (d : Desk) → wrongSizes d ≡ false → (length (d .streamMemory) ≡ 16 * stateOn d .setup .room) × (length (d .messageMemory) ≡ 32768) × (7 ≤ length (d .response))
 unfolding wrongSizes
-sizes-fit s streams messages response e =
-    let a = neither (not (eqb (length streams) (16 * s .setup .room)) || not (eqb (length messages) 32768)) (ltb (length response) 7) e in
-    let b = neither (not (eqb (length streams) (16 * s .setup .room))) (not (eqb (length messages) 32768)) (a .0) in
-    (eqb-true (length streams) (16 * s .setup .room) (not-false _ (b .0)), eqb-true (length messages) 32768 (not-false _ (b .1)), ltb-false (length response) 7 (a .1))
+sizes-fit d e =
+    let a = neither (not (eqb (length (d .streamMemory)) (16 * stateOn d .setup .room)) || not (eqb (length (d .messageMemory)) 32768)) (ltb (length (d .response)) 7) e in
+    let b = neither (not (eqb (length (d .streamMemory)) (16 * stateOn d .setup .room))) (not (eqb (length (d .messageMemory)) 32768)) (a .0) in
+    (eqb-true (length (d .streamMemory)) _ (not-false _ (b .0)), eqb-true (length (d .messageMemory)) _ (not-false _ (b .1)), ltb-false (length (d .response)) _ (a .1))

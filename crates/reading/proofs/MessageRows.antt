@@ -15,14 +15,14 @@ use Rattle.reading.specs.Read.{Left, leaving, ofMessage}
 use Rattle.reading.proofs.Cases.{by-test, choose-message}
 use Rattle.rules.specs.Messages.{reservedSize, badLength, pastLast, judged}
 
-module _ (x : Lent) (whole : length (x .words) ≡ stateWords) where
-  errs : (number : ℕ) → ofMessage x (refusedWith (stateIn x) (x .messageMemory) (x .response) (x .packet) number ERROR) ≡ leaving x number allERROR
+module _ (x : Lent) (whole : length (x .desk .words) ≡ stateWords) where
+  errs : (number : ℕ) → ofMessage x (refusedWith (stateIn x) (x .desk .messageMemory) (x .desk .response) (x .packet) number ERROR) ≡ leaving x number allERROR
   unfolding refusedWith
-  errs number = rw (words-of (x .words) whole)
+  errs number = rw (words-of (x .desk .words) whole)
 
-  retries : (number : ℕ) → ofMessage x (refusedWith (stateIn x) (x .messageMemory) (x .response) (x .packet) number RETRY) ≡ leaving x number allRETRY
+  retries : (number : ℕ) → ofMessage x (refusedWith (stateIn x) (x .desk .messageMemory) (x .desk .response) (x .packet) number RETRY) ≡ leaving x number allRETRY
   unfolding refusedWith
-  retries number = rw (words-of (x .words) whole)
+  retries number = rw (words-of (x .desk .words) whole)
 
   -- rows 23 to 25
   abbrev later : Left
@@ -30,14 +30,14 @@ module _ (x : Lent) (whole : length (x .words) ≡ stateWords) where
       cond (otherMessage (stateIn x) (messageSegmentIn x)) (leaving x 23 allERROR)
       (cond (alreadyMarked (stateIn x) (messageSegmentIn x)) (leaving x 24 allERROR)
       (cond (neededNoneFree (stateIn x) (messageSegmentIn x)) (leaving x 25 allRETRY)
-      (ofMessage x (messageAccepted (stateIn x) (x .messageMemory) (x .response) (x .packet) (messageSegmentIn x)))))
+      (ofMessage x (messageAccepted (stateIn x) (x .desk .messageMemory) (x .desk .response) (x .packet) (messageSegmentIn x)))))
 
-  joins : ofMessage x (matched (stateIn x) (x .messageMemory) (x .response) (x .packet) (messageSegmentIn x)) ≡ later
+  joins : ofMessage x (matched (stateIn x) (x .desk .messageMemory) (x .desk .response) (x .packet) (messageSegmentIn x)) ≡ later
   unfolding matched
   joins = simp (choose-message, errs 23, errs 24, retries 25)
 
   -- rows 20 to 25
-  pub message-rows : ofMessage x (messageStepped (stateIn x) (x .messageMemory) (x .response) (x .packet) (messageSegmentIn x))
+  pub message-rows : ofMessage x (messageStepped (stateIn x) (x .desk .messageMemory) (x .desk .response) (x .packet) (messageSegmentIn x))
       ≡ cond (reservedSize (messageSegmentIn x)) (leaving x 20 allERROR) (cond (badLength (messageSegmentIn x)) (leaving x 21 allERROR) (cond (pastLast (messageSegmentIn x)) (leaving x 22 allERROR) later))
   unfolding messageStepped judged
   message-rows =

@@ -13,16 +13,17 @@ use Rattle.contexts.specs.State.{freeMessage}
 use Rattle.message_rooms.specs.Placing as messageRoom
 use Rattle.messages.specs.Joining as message
 use Rattle.messages.specs.Rows.{messageOpen, messageFound}
-use Rattle.reading.specs.Table.{Lent, stateIn, messageSegmentIn, is9, wrongSizes, table}
-use Rattle.reading.specs.Read.{lent, butResponse, ofMessage, reading, outcome, leaving}
+use Rattle.reading.specs.Desk.{desk}
+use Rattle.reading.specs.Table.{Lent, lent, stateIn, messageSegmentIn, is9, wrongSizes, table}
+use Rattle.reading.specs.Read.{butResponse, ofMessage, reading, outcome, leaving}
 use Rattle.reading.proofs.Cases.{by-test}
 
 module _ (words streams messages response response′ packet : List ℕ) where
   abbrev x : Lent
-  x = lent words streams messages response packet
+  x = lent (desk words streams messages response) packet
 
   abbrev y : Lent
-  y = lent words streams messages response′ packet
+  y = lent (desk words streams messages response′) packet
 
   -- what is placed is answered and stored alike
   placed-alike : (n marks last : ℕ)
@@ -66,26 +67,26 @@ pub length-answered : (response p : List ℕ) (status : ℕ) → 7 ≤ length re
 unfolding answered responseTo
 length-answered response p status h = length-written response (responseTo p status) 0 (omega arith)
 
-module _ (x : Lent) (h : 7 ≤ length (x .response)) where
-  placed-length : (n marks last : ℕ) → length (messageRoom.messagePlaced (stateIn x) (x .messageMemory) (x .response) (x .packet) (messageSegmentIn x) n marks last .response) ≡ length (x .response)
+module _ (x : Lent) (h : 7 ≤ length (x .desk .response)) where
+  placed-length : (n marks last : ℕ) → length (messageRoom.messagePlaced (stateIn x) (x .desk .messageMemory) (x .desk .response) (x .packet) (messageSegmentIn x) n marks last .response) ≡ length (x .desk .response)
   unfolding messageRoom.messagePlaced
-  placed-length n marks last = length-answered (x .response) (x .packet) DONE h
+  placed-length n marks last = length-answered (x .desk .response) (x .packet) DONE h
 
-  message-length : length (message.messageAccepted (stateIn x) (x .messageMemory) (x .response) (x .packet) (messageSegmentIn x) .response) ≡ length (x .response)
+  message-length : length (message.messageAccepted (stateIn x) (x .desk .messageMemory) (x .desk .response) (x .packet) (messageSegmentIn x) .response) ≡ length (x .desk .response)
   unfolding message.messageAccepted message.deliveredAtOnce
   message-length =
-      by-test (isSingle (messageSegmentIn x)) (λ t. rw t (length-answered (x .response) (x .packet) DONE h))
+      by-test (isSingle (messageSegmentIn x)) (λ t. rw t (length-answered (x .desk .response) (x .packet) DONE h))
       (λ t. by-test (messageOpen (stateIn x) (messageSegmentIn x))
       (λ o. rw (t, o) (placed-length (messageFound (stateIn x) (messageSegmentIn x)) _ _))
       (λ o. rw (t, o) (placed-length (freeMessage (stateIn x)) 0 0)))
 
-  left-length : (v : Verdict) → length (outcome x v .response) ≡ length (x .response)
+  left-length : (v : Verdict) → length (outcome x v .desk .response) ≡ length (x .desk .response)
   left-length (refuse number all) = refl
   left-length (refuse number flowClosed) = refl
-  left-length (refuse number allERROR) = length-answered (x .response) (x .packet) ERROR h
-  left-length (refuse number allRETRY) = length-answered (x .response) (x .packet) RETRY h
+  left-length (refuse number allERROR) = length-answered (x .desk .response) (x .packet) ERROR h
+  left-length (refuse number allRETRY) = length-answered (x .desk .response) (x .packet) RETRY h
   left-length accept = by-test (is9 x) (λ t. rw t) (λ t. rw t message-length)
 
-  pub response-length : length (reading x .response) ≡ length (x .response)
+  pub response-length : length (reading x .desk .response) ≡ length (x .desk .response)
   unfolding reading
   response-length = left-length (verdict (table x))

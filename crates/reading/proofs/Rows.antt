@@ -16,7 +16,7 @@ use Rattle.rules.specs.Segments.{malformed}
 use Rattle.rules.specs.Messages.{reservedSize, badLength, pastLast}
 use Rattle.streams.specs.Rows as stream
 use Rattle.messages.specs.Rows as message
-use Rattle.reading.specs.Table.{Lent, stateIn, segmentIn, messageSegmentIn, under, is9, is11, isState, wrongMemory, table}
+use Rattle.reading.specs.Table.{Lent, stateIn, segmentIn, messageSegmentIn, under, is9, is11, isState, wrongSizes, table}
 use Rattle.reading.specs.Read.{Left, leaving, accepting, reading}
 use Rattle.reading.specs.Step.{byParsed, readStep}
 use Rattle.reading.proofs.Cases.{by-test, by-row, by-end}
@@ -58,11 +58,11 @@ packeted x =
     (cond (under 7 x) (leaving x 1 all)
     (typed x)))))
 
-flat : (x : Lent) → reading x ≡ cond (isState x && namedBy19 (stateIn x)) (leaving x 19 all) (cond (not (isState x) || wrongMemory x) (leaving x 12 all) (packeted x))
+flat : (x : Lent) → reading x ≡ cond (isState x && namedBy19 (stateIn x)) (leaving x 19 all) (cond (not (isState x) || wrongSizes (x .desk)) (leaving x 12 all) (packeted x))
 unfolding reading table
 flat x = simp (by-row, by-end)
 
-module _ (x : Lent) (whole : length (x .words) ≡ stateWords) (fine : namedBy19 (stateIn x) ≡ false) where
+module _ (x : Lent) (whole : length (x .desk .words) ≡ stateWords) (fine : namedBy19 (stateIn x) ≡ false) where
   stream-typed : is9 x ≡ true → typed x ≡ byParsed x (parsedStream (x .packet))
   unfolding parsedStream parsedFielded
   stream-typed n =
@@ -98,23 +98,23 @@ by-steps x =
     flat x
     ∙ by-test (isState x)
     (λ l. by-test (namedBy19 (stateIn x)) (λ h. rw (l, h))
-    (λ h. by-test (wrongMemory x) (λ m. rw (l, h, m)) (λ m. rw (l, h, m) (packet-rows x (eqb-true (length (x .words)) stateWords l) h))))
+    (λ h. by-test (wrongSizes (x .desk)) (λ m. rw (l, h, m)) (λ m. rw (l, h, m) (packet-rows x (eqb-true (length (x .desk .words)) stateWords l) h))))
     (λ l. rw l)
 
 -- what remains once rows 19 and 12 have passed
-pub by-packet : (x : Lent) → length (x .words) ≡ stateWords → namedBy19 (stateIn x) ≡ false → wrongMemory x ≡ false → reading x ≡ byParsed x (parsed (stateIn x .setup .device) (x .packet))
+pub by-packet : (x : Lent) → length (x .desk .words) ≡ stateWords → namedBy19 (stateIn x) ≡ false → wrongSizes (x .desk) ≡ false → reading x ≡ byParsed x (parsed (stateIn x .setup .device) (x .packet))
 unfolding readStep
-by-packet x l h m = by-steps x ∙ rw (eq-eqb (length (x .words)) stateWords l, h, m)
+by-packet x l h m = by-steps x ∙ rw (eq-eqb (length (x .desk .words)) stateWords l, h, m)
 
 -- rows 19 and 12 themselves
-pub no-words : (x : Lent) → (length (x .words) ≡ stateWords → ⊥) → leaving x 12 all ≡ reading x
+pub no-words : (x : Lent) → (length (x .desk .words) ≡ stateWords → ⊥) → leaving x 12 all ≡ reading x
 unfolding readStep
-no-words x l = sym (by-steps x ∙ rw (ne-eqb (length (x .words)) stateWords l))
+no-words x l = sym (by-steps x ∙ rw (ne-eqb (length (x .desk .words)) stateWords l))
 
-pub named : (x : Lent) → length (x .words) ≡ stateWords → namedBy19 (stateIn x) ≡ true → leaving x 19 all ≡ reading x
+pub named : (x : Lent) → length (x .desk .words) ≡ stateWords → namedBy19 (stateIn x) ≡ true → leaving x 19 all ≡ reading x
 unfolding readStep
-named x l h = sym (by-steps x ∙ rw (eq-eqb (length (x .words)) stateWords l, h))
+named x l h = sym (by-steps x ∙ rw (eq-eqb (length (x .desk .words)) stateWords l, h))
 
-pub missized : (x : Lent) → length (x .words) ≡ stateWords → namedBy19 (stateIn x) ≡ false → wrongMemory x ≡ true → leaving x 12 all ≡ reading x
+pub missized : (x : Lent) → length (x .desk .words) ≡ stateWords → namedBy19 (stateIn x) ≡ false → wrongSizes (x .desk) ≡ true → leaving x 12 all ≡ reading x
 unfolding readStep
-missized x l h m = sym (by-steps x ∙ rw (eq-eqb (length (x .words)) stateWords l, h, m))
+missized x l h m = sym (by-steps x ∙ rw (eq-eqb (length (x .desk .words)) stateWords l, h, m))

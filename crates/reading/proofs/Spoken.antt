@@ -36,15 +36,15 @@ module _ (x : Lent) where
   by-leaves number allERROR = spoken (answer.Refused number)
   by-leaves number allRETRY = spoken (answer.Refused number)
 
-  by-stream : Spoken (stream.accepted (stateIn x) (x .streamMemory) (x .packet) (segmentIn x) .says)
+  by-stream : Spoken (stream.accepted (stateIn x) (x .desk .streamMemory) (x .packet) (segmentIn x) .says)
   unfolding stream.accepted streamRoom.placed
   by-stream = chosen Spoken (segmentIn x .ends) _ _ (spoken (answer.Delivered _ _ _ _ _)) (spoken answer.Held)
 
-  by-placed : (n marks last : ℕ) → Spoken (messageRoom.messagePlaced (stateIn x) (x .messageMemory) (x .response) (x .packet) (messageSegmentIn x) n marks last .says)
+  by-placed : (n marks last : ℕ) → Spoken (messageRoom.messagePlaced (stateIn x) (x .desk .messageMemory) (x .desk .response) (x .packet) (messageSegmentIn x) n marks last .says)
   unfolding messageRoom.messagePlaced
   by-placed n marks last = chosen Spoken (messageRoom.complete (messageSegmentIn x) (messageRoom.marksWith (messageSegmentIn x) marks)) _ _ (spoken (answer.Message _ _ _ _ _)) (spoken answer.Held)
 
-  by-message : Spoken (message.messageAccepted (stateIn x) (x .messageMemory) (x .response) (x .packet) (messageSegmentIn x) .says)
+  by-message : Spoken (message.messageAccepted (stateIn x) (x .desk .messageMemory) (x .desk .response) (x .packet) (messageSegmentIn x) .says)
   unfolding message.messageAccepted message.deliveredAtOnce
   by-message =
       chosen (λ (j : messageRoom.MessageJoined). Spoken (j .says)) (isSingle (messageSegmentIn x)) _ _ (spoken (answer.Message _ _ _ _ _))
@@ -66,6 +66,6 @@ module _ (x : Lent) where
   unfolding answered-by
   says-it = answer-of .alike
 
-  pub promised : ReadPromise x answered-by (reading x .words) (reading x .streamMemory) (reading x .messageMemory) (reading x .response)
+  pub promised : ReadPromise x answered-by (reading x .desk)
   unfolding answered-by
-  promised = ap (λ (s : Said). left s (reading x .dropped) (reading x .words) (reading x .streamMemory) (reading x .messageMemory) (reading x .response)) (answer-of .alike)
+  promised = ap (λ (s : Said). left s (reading x .dropped) (reading x .desk)) (answer-of .alike)

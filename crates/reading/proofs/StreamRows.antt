@@ -35,11 +35,11 @@ going-on : (s : State) (g : Segment) → g .begins ≡ false → noneFree s g �
 unfolding noneFree
 going-on s g t = rw t
 
-module _ (x : Lent) (whole : length (x .words) ≡ stateWords) (fine : namedBy19 (stateIn x) ≡ false) where
+module _ (x : Lent) (whole : length (x .desk .words) ≡ stateWords) (fine : namedBy19 (stateIn x) ≡ false) where
   -- a refusal that lets all stay
-  stays : (number : ℕ) → ofStream x (refusedStaying (stateIn x) (x .streamMemory) number) ≡ leaving x number all
+  stays : (number : ℕ) → ofStream x (refusedStaying (stateIn x) (x .desk .streamMemory) number) ≡ leaving x number all
   unfolding refusedStaying
-  stays number = rw (words-of (x .words) whole)
+  stays number = rw (words-of (x .desk .words) whole)
 
   -- rows 8 to 11
   abbrev later : Left
@@ -48,7 +48,7 @@ module _ (x : Lent) (whole : length (x .words) ≡ stateWords) (fine : namedBy19
       (cond (passesRoom (stateIn x) (segmentIn x)) (leaving x 9 flowClosed)
       (cond (noneFree (stateIn x) (segmentIn x)) (leaving x 10 all)
       (cond (lengthDiffers (stateIn x) (segmentIn x)) (leaving x 11 flowClosed)
-      (ofStream x (accepted (stateIn x) (x .streamMemory) (x .packet) (segmentIn x))))))
+      (ofStream x (accepted (stateIn x) (x .desk .streamMemory) (x .packet) (segmentIn x))))))
 
   -- a start or single keeps within R once row 7 has passed
   start-fits : segmentIn x .begins ≡ true → missized (stateIn x) (segmentIn x) ≡ false → passesRoom (stateIn x) (segmentIn x) ≡ false
@@ -59,19 +59,19 @@ module _ (x : Lent) (whole : length (x .words) ≡ stateWords) (fine : namedBy19
       let alone : total (stateIn x) (segmentIn x) ≡ 0 + dataLength (segmentIn x) = rw t in
       le-ltb (stateIn x .setup .room) (total (stateIn x) (segmentIn x)) (omega (arith, alone, small, g .holds))
 
-  begins : segmentIn x .begins ≡ true → missized (stateIn x) (segmentIn x) ≡ false → ofStream x (begun (stateIn x) (x .streamMemory) (x .packet) (segmentIn x)) ≡ later
+  begins : segmentIn x .begins ≡ true → missized (stateIn x) (segmentIn x) ≡ false → ofStream x (begun (stateIn x) (x .desk .streamMemory) (x .packet) (segmentIn x)) ≡ later
   unfolding begun
   begins t e =
       choose-stream x (noneFree (stateIn x) (segmentIn x)) _ _
       ∙ rw (started-open (stateIn x) (segmentIn x) t, start-fits t e, started-length (stateIn x) (segmentIn x) t, stays 10)
 
-  goes-on : segmentIn x .begins ≡ false → ofStream x (continued (stateIn x) (x .streamMemory) (x .packet) (segmentIn x)) ≡ later
+  goes-on : segmentIn x .begins ≡ false → ofStream x (continued (stateIn x) (x .desk .streamMemory) (x .packet) (segmentIn x)) ≡ later
   unfolding continued
   goes-on t =
       simp (choose-stream, going-on (stateIn x) (segmentIn x) t, stays 8)
 
   -- rows 6 to 11
-  pub stream-rows : ofStream x (stepped (stateIn x) (x .streamMemory) (x .packet) (segmentIn x))
+  pub stream-rows : ofStream x (stepped (stateIn x) (x .desk .streamMemory) (x .packet) (segmentIn x))
       ≡ cond (malformed (segmentIn x)) (leaving x 6 flowClosed) (cond (missized (stateIn x) (segmentIn x)) (leaving x 7 flowClosed) later)
   unfolding stepped
   stream-rows =
@@ -80,6 +80,6 @@ module _ (x : Lent) (whole : length (x .words) ≡ stateWords) (fine : namedBy19
       (λ e. rw (m, e) (by-test (segmentIn x .begins) (λ t. kind t ∙ begins t e) (λ t. kind t ∙ goes-on t))))
     where
       kind : {b : Bool} → segmentIn x .begins ≡ b
-          → ofStream x (cond (segmentIn x .begins) (begun (stateIn x) (x .streamMemory) (x .packet) (segmentIn x)) (continued (stateIn x) (x .streamMemory) (x .packet) (segmentIn x)))
-          ≡ ofStream x (cond b (begun (stateIn x) (x .streamMemory) (x .packet) (segmentIn x)) (continued (stateIn x) (x .streamMemory) (x .packet) (segmentIn x)))
-      kind t = ap (λ (b : Bool). ofStream x (cond b (begun (stateIn x) (x .streamMemory) (x .packet) (segmentIn x)) (continued (stateIn x) (x .streamMemory) (x .packet) (segmentIn x)))) t
+          → ofStream x (cond (segmentIn x .begins) (begun (stateIn x) (x .desk .streamMemory) (x .packet) (segmentIn x)) (continued (stateIn x) (x .desk .streamMemory) (x .packet) (segmentIn x)))
+          ≡ ofStream x (cond b (begun (stateIn x) (x .desk .streamMemory) (x .packet) (segmentIn x)) (continued (stateIn x) (x .desk .streamMemory) (x .packet) (segmentIn x)))
+      kind t = ap (λ (b : Bool). ofStream x (cond b (begun (stateIn x) (x .desk .streamMemory) (x .packet) (segmentIn x)) (continued (stateIn x) (x .desk .streamMemory) (x .packet) (segmentIn x)))) t

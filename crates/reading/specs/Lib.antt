@@ -1,3 +1,4 @@
+pub mod Desk
 pub mod Table
 pub mod Read
 pub mod Good

@@ -12,52 +12,47 @@ use Rattle.stream_rooms.specs.Placing as streamRoom
 use Rattle.streams.specs.Joining as stream
 use Rattle.message_rooms.specs.Placing.{MessageJoined}
 use Rattle.messages.specs.Joining.{messageAccepted}
+use Rattle.reading.specs.Desk.{Desk, withStreams, withMessages, withResponse}
 use Rattle.reading.specs.Table.{Lent, stateIn, segmentIn, messageSegmentIn, is9, table}
 
 -- the answer, whether this packet closed an open stream context undelivered, and everything lent as it is left
 pub record Left : Type 0 where
   pub says : Said
   pub dropped : Bool
-  pub words : List ℕ
-  pub streamMemory : List ℕ
-  pub messageMemory : List ℕ
-  pub response : List ℕ
+  pub desk : Desk
 
-abbrev pub left : Said → Bool → List ℕ → List ℕ → List ℕ → List ℕ → Left
-left says dropped words streamMemory messageMemory response = record {
-  says = says;
-  dropped = dropped;
-  words = words;
-  streamMemory = streamMemory;
-  messageMemory = messageMemory;
-  response = response;
-}
+abbrev pub left : Said → Bool → Desk → Left
+left says dropped desk = record { says = says; dropped = dropped; desk = desk }
 
 -- all of that, the response buffer aside
 abbrev pub butResponse : Left → Left
-butResponse x = left (x .says) (x .dropped) (x .words) (x .streamMemory) (x .messageMemory) []
+butResponse x = left (x .says) (x .dropped) (withResponse (x .desk) [])
 
 -- what a type 9 packet leaves; message memory and response stay
 abbrev pub ofStream : Lent → streamRoom.Joined → Left
-ofStream x j = left (j .says) (j .dropped) (wordsOf (j .state)) (j .memory) (x .messageMemory) (x .response)
+ofStream x j = left (j .says) (j .dropped) (withStreams (x .desk) (wordsOf (j .state)) (j .memory))
 
 -- what an accepted type 11 packet leaves; the stream memory stays
 abbrev pub ofMessage : Lent → MessageJoined → Left
-ofMessage x j = left (j .says) false (wordsOf (j .state)) (x .streamMemory) (j .memory) (j .response)
+ofMessage x j = left (j .says) false (withMessages (x .desk) (wordsOf (j .state)) (j .memory) (j .response))
+
+-- the desk with a response of that status
+abbrev pub responded : Lent → ℕ → Desk
+responded x status = withResponse (x .desk) (answered (x .desk .response) (x .packet) status)
 
 -- the table's last column
 abbrev pub leaving : Lent → ℕ → Leaves → Left
-leaving x number all = left (refused number) false (x .words) (x .streamMemory) (x .messageMemory) (x .response)
-leaving x number flowClosed = ofStream x (stream.refusedClosing (stateIn x) (x .streamMemory) (segmentIn x) number)
-leaving x number allERROR = left (refused number) false (x .words) (x .streamMemory) (x .messageMemory) (answered (x .response) (x .packet) ERROR)
-leaving x number allRETRY = left (refused number) false (x .words) (x .streamMemory) (x .messageMemory) (answered (x .response) (x .packet) RETRY)
+leaving x number all = left (refused number) false (x .desk)
+leaving x number flowClosed = ofStream x (stream.refusedClosing (stateIn x) (x .desk .streamMemory) (segmentIn x) number)
+leaving x number allERROR = left (refused number) false (responded x ERROR)
+leaving x number allRETRY = left (refused number) false (responded x RETRY)
 
 -- an accepted packet: of type 9, else of type 11, since row 4 has passed
 abbrev pub accepting : Lent → Left
 accepting x =
     cond (is9 x)
-    (ofStream x (stream.accepted (stateIn x) (x .streamMemory) (x .packet) (segmentIn x)))
-    (ofMessage x (messageAccepted (stateIn x) (x .messageMemory) (x .response) (x .packet) (messageSegmentIn x)))
+    (ofStream x (stream.accepted (stateIn x) (x .desk .streamMemory) (x .packet) (segmentIn x)))
+    (ofMessage x (messageAccepted (stateIn x) (x .desk .messageMemory) (x .desk .response) (x .packet) (messageSegmentIn x)))
 
 abbrev pub outcome : Lent → Verdict → Left
 outcome x (refuse number leaves) = leaving x number leaves
@@ -67,9 +62,6 @@ outcome x accept = accepting x
 unfoldable pub reading : Lent → Left
 reading x = outcome x (verdict (table x))
 
-abbrev pub lent : List ℕ → List ℕ → List ℕ → List ℕ → List ℕ → Lent
-lent words streamMemory messageMemory response packet = record { words = words; streamMemory = streamMemory; messageMemory = messageMemory; response = response; packet = packet }
-
--- the promise of `read`
-abbrev pub ReadPromise : Lent → Reading → List ℕ → List ℕ → List ℕ → List ℕ → Type 0
-ReadPromise x r words streamMemory messageMemory response = left (said (r .answer)) (r .dropped) words streamMemory messageMemory response ≡ reading x
+-- the promise of `read`: the answer, and the desk as it is left
+abbrev pub ReadPromise : Lent → Reading → Desk → Type 0
+ReadPromise x r after = left (said (r .answer)) (r .dropped) after ≡ reading x

@@ -11,24 +11,24 @@ use Rattle.wire.specs.Packet.{tt, packetType, destination}
 use Rattle.wire.specs.Type9.{isS, isE, xh, segmentOf}
 use Rattle.wire.specs.Type11.{messageOf}
 use Rattle.contexts.specs.State.{State}
-use Rattle.contexts.specs.Words.{stateOf, stateWords}
+use Rattle.contexts.specs.Words.{stateWords}
 use Rattle.refusal19.specs.Refusal19.{namedBy19}
 use Rattle.rules.specs.Segments.{malformed}
 use Rattle.rules.specs.Messages.{reservedSize, badLength, pastLast}
 use Rattle.streams.specs.Rows as stream
 use Rattle.messages.specs.Rows as message
+use Rattle.reading.specs.Desk.{Desk, stateOn}
 
--- what the caller lends to be read by: the words of the state, the stream memory, the message memory, the response buffer, the packet
+-- what the caller lends for a packet: the desk and the packet
 pub record Lent : Type 0 where
-  pub words : List ℕ
-  pub streamMemory : List ℕ
-  pub messageMemory : List ℕ
-  pub response : List ℕ
+  pub desk : Desk
   pub packet : List ℕ
 
--- the state that the words are
+abbrev pub lent : Desk → List ℕ → Lent
+lent desk packet = record { desk = desk; packet = packet }
+
 abbrev pub stateIn : Lent → State
-stateIn x = stateOf (x .words)
+stateIn x = stateOn (x .desk)
 
 abbrev pub segmentIn : Lent → Segment
 segmentIn x = segmentOf (x .packet)
@@ -48,21 +48,21 @@ is11 x = eqb (packetType (x .packet)) 11
 
 -- 147 words are a state; a buffer of another length is a lent memory of the wrong size
 abbrev pub isState : Lent → Bool
-isState x = eqb (length (x .words)) stateWords
+isState x = eqb (length (x .desk .words)) stateWords
 
 -- 12: a stream memory that is not 16 R bytes long, a message memory that is not 32,768, or a response buffer under 7
-unfoldable pub wrongSizes : State → List ℕ → List ℕ → List ℕ → Bool
-wrongSizes s streamMemory messageMemory response = not (eqb (length streamMemory) (16 * s .setup .room)) || not (eqb (length messageMemory) 32768) || ltb (length response) 7
-
-abbrev pub wrongMemory : Lent → Bool
-wrongMemory x = wrongSizes (stateIn x) (x .streamMemory) (x .messageMemory) (x .response)
+unfoldable pub wrongSizes : Desk → Bool
+wrongSizes d =
+    not (eqb (length (d .streamMemory)) (16 * stateOn d .setup .room))
+    || not (eqb (length (d .messageMemory)) 32768)
+    || ltb (length (d .response)) 7
 
 unfoldable pub table : Lent → List Row
 table x =
     -- a state that 19 names
     row 19 (isState x && namedBy19 (stateIn x)) all
     -- a lent memory of the wrong size, or response buffer under 7
-    ∷ row 12 (not (isState x) || wrongMemory x) all
+    ∷ row 12 (not (isState x) || wrongSizes (x .desk)) all
     -- under 5 bytes
     ∷ row 1 (under 5 x) all
     -- tt not 01

@@ -7,8 +7,9 @@ ghost use mathlib.Core.Bool.{false};
 ghost use lib.ListN.{length};
 ghost use Rattle.contexts.specs.Words.{stateOf, stateWords};
 ghost use Rattle.refusal19.specs.Refusal19.{namedBy19};
-ghost use Rattle.reading.specs.Table.{wrongSizes};
-ghost use Rattle.reading.specs.Read.{lent, ReadPromise};
+ghost use Rattle.reading.specs.Desk.{desk};
+ghost use Rattle.reading.specs.Table.{lent, wrongSizes};
+ghost use Rattle.reading.specs.Read.{ReadPromise};
 ghost use Rattle.reading.specs.Inside.{ReadyToRead, Refusal};
 
 // The bytes of the message memory: 8 rooms of 4,096.
@@ -32,7 +33,7 @@ pub fn wrong_memory(
     response: &[u8],
 ) -> bool
     requires { ⌜ (length (now state) ≡ stateWords) × (namedBy19 (stateOf (now state)) ≡ false) ⌝ }
-    ensures { λ r. ⌜ r ≡ wrongSizes (stateOf (now (state .entry))) (now («stream_memory» .entry)) (now («message_memory» .entry)) (now (response .entry)) ⌝ }
+    ensures { λ r. ⌜ r ≡ wrongSizes (desk (now (state .entry)) (now («stream_memory» .entry)) (now («message_memory» .entry)) (now (response .entry))) ⌝ }
 {
     if stream_memory.len() != 16 * contexts::room(state) {
         return true;
@@ -51,8 +52,8 @@ pub fn step(
     response: &mut [u8],
     packet: &[u8],
 ) -> Reading
-    requires { ⌜ ReadyToRead (now state) (now «stream_memory») (now «message_memory») (now response) ⌝ }
-    ensures { λ r. ⌜ ReadPromise (lent (now (state .entry)) (now («stream_memory» .entry)) (now («message_memory» .entry)) (now (response .entry)) (now (packet .entry))) r (now (state .exit)) (now («stream_memory» .exit)) (now («message_memory» .exit)) (now (response .exit)) ⌝ }
+    requires { ⌜ ReadyToRead (desk (now state) (now «stream_memory») (now «message_memory») (now response)) ⌝ }
+    ensures { λ r. ⌜ ReadPromise (lent (desk (now (state .entry)) (now («stream_memory» .entry)) (now («message_memory» .entry)) (now (response .entry))) (now (packet .entry))) r (desk (now (state .exit)) (now («stream_memory» .exit)) (now («message_memory» .exit)) (now (response .exit))) ⌝ }
 {
     let device = contexts::device(state);
     match wire::parse(packet, device) {
