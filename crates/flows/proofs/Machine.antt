@@ -1,7 +1,7 @@
 -- Reading treats each flow by itself: the laws of ByFlow hold of every fine board.
 use Prim.Native.Nat.{ℕ, _+_, _≤_}
 use native.Mathlib.Omega.{arith}
-use mathlib.Core.Path.{_≡_, refl, ap, ap₂, sym, _∙_, subst, subst₂}
+use mathlib.Core.Path.{_≡_, refl, ap, ap₂, sym, _∙_, subst}
 use mathlib.Core.Bool.{true}
 use mathlib.Core.Option.{Option}
 use mathlib.Core.List.{List}
@@ -14,7 +14,7 @@ use Rattle.wire.specs.declared.Parsed.the-variants.{Refused, Stream, Message}
 use Rattle.sizes.specs.Sizes.{dataLength}
 use Rattle.wire.specs.Parsed.{parsed}
 use Rattle.contexts.specs.declared.StreamContext.{StreamContext}
-use Rattle.contexts.specs.State.{State}
+use Rattle.contexts.specs.State.{Setup, State}
 use Rattle.contexts.specs.Words.{stateOf, wordsOf}
 use Rattle.contexts.proofs.Words.{sixteen, eight, state-of}
 use Rattle.stream_rooms.specs.Placing as streamRoom
@@ -22,8 +22,9 @@ use Rattle.streams.specs.Step as streamStep
 use Rattle.streams.proofs.Laws.{data-le}
 use Rattle.message_rooms.specs.Placing as messageRoom
 use Rattle.messages.specs.Step as messageStep
-use Rattle.reading.specs.Table.{Lent}
-use Rattle.reading.specs.Read.{Left, lent, ofStream, ofMessage}
+use Rattle.reading.specs.Desk.{Desk, stateOn}
+use Rattle.reading.specs.Table.{lent}
+use Rattle.reading.specs.Read.{Left, ofStream, ofMessage}
 use Rattle.reading.specs.Step.{byParsed}
 use Rattle.reading.specs.Good.{StillGood}
 use Rattle.reading.proofs.Rows.{by-packet}
@@ -31,95 +32,91 @@ use Rattle.reading.proofs.Packets.{stream-parsed, message-parsed, message-small
 use Rattle.reading.proofs.Kept.{stays-good}
 use Rattle.reading.proofs.Left.{sizes-right}
 use Rattle.flows.specs.OneFlow.{PDU, flowStep}
-use Rattle.flows.specs.Board.{Board, boardLeft, read, deliveredBy, viewOf, view}
+use Rattle.flows.specs.Deliveries.{read, deliveredBy, viewOf, view}
 use Rattle.flows.specs.ByFlow.{among, AreBytes, Tells, OwnFlow, NoFlow, ByFlow}
 use Rattle.flows.proofs.Flows.{same-false}
 use Rattle.flows.proofs.Contexts.{Once, Inside}
 use Rattle.flows.proofs.Seen.{seen}
 use Rattle.flows.proofs.Steps.{Sim, sim-stepped}
 use Rattle.flows.proofs.Quiet.{Quiet, quiet-stepped}
-use Rattle.flows.proofs.Fine.{stateOn, Fine, view-is, view-of, rooms-on, sound-on, still-fine}
-
--- what the caller lends
-abbrev lentOn : Board → List ℕ → Lent
-lentOn b p = lent (b .words) (b .streamMemory) (b .messageMemory) (b .response) p
+use Rattle.flows.proofs.Fine.{Fine, view-is, view-of, rooms-on, sound-on, still-fine}
 
 -- the data of a type 9 packet, all there
 data-length : (p : List ℕ) (g : Segment) → g .from + g .raw ≡ length p → length (streamRoom.dataOf p g) ≡ dataLength g
 data-length p g e = simp (length-take, length-drop) (omega (arith, data-le g))
 
-module _ (device mtu room : ℕ) (flows : List Flow) (b : Board) (p : List ℕ) (f : Fine device mtu room flows b) (bytes : AreBytes p) where
+module _ (setup : Setup) (flows : List Flow) (b : Desk) (p : List ℕ) (f : Fine setup flows b) (bytes : AreBytes p) where
   abbrev s : State
   s = stateOn b
 
   -- reading goes by what the packet is
-  read-is : (x : Parsed) → parsed device p ≡ x → read b p ≡ byParsed (lentOn b p) x
+  read-is : (x : Parsed) → parsed (setup .device) p ≡ x → read b p ≡ byParsed (lent b p) x
   read-is x e =
-      by-packet (lentOn b p) (f .whole) (f .good) (sizes-right s (b .streamMemory) (b .messageMemory) (b .response) (rooms-on f) (f .lends .boxes) (f .lends .reply))
-      ∙ ap (byParsed (lentOn b p)) (ap (λ (d : ℕ). parsed d p) (f .same-device) ∙ e)
+      by-packet (lent b p) (f .whole) (f .good) (sizes-right b (rooms-on f) (f .lends .boxes) (f .lends .reply))
+      ∙ ap (byParsed (lent b p)) (ap (λ (t : Setup). parsed (t .device) p) (f .same-setup) ∙ e)
 
-  still-good : StillGood s (read b p .words)
-  still-good = stays-good (lentOn b p) (f .whole) (f .good) (bytes 5)
+  still-good : StillGood s (read b p .desk .words)
+  still-good = stays-good (lent b p) (f .whole) (f .good) (bytes 5)
 
   -- ---- a type 9 packet
-  module _ (few : length flows ≤ 16) (g : Segment) (e : parsed device p ≡ Stream g) (member : among (g .flow) flows ≡ true) where
+  module _ (few : length flows ≤ 16) (g : Segment) (e : parsed (setup .device) p ≡ Stream g) (member : among (g .flow) flows ≡ true) where
     abbrev j : streamRoom.Joined
     j = streamStep.stepped s (b .streamMemory) p g
 
-    leaves : read b p ≡ ofStream (lentOn b p) j
+    leaves : read b p ≡ ofStream (lent b p) j
     leaves = read-is (Stream g) e
 
-    sim : Sim flows s (b .streamMemory) g j (flowStep (s .setup .mtu) (s .setup .room) (view b (g .flow)) g (streamRoom.dataOf p g))
+    sim : Sim flows s (b .streamMemory) g j (flowStep (s .setup) (view b (g .flow)) g (streamRoom.dataOf p g))
     sim =
-        subst (λ (v : Option PDU). Sim flows s (b .streamMemory) g j (flowStep (s .setup .mtu) (s .setup .room) v g (streamRoom.dataOf p g))) (sym (view-is b (g .flow)))
-        (sim-stepped flows s (b .streamMemory) p g (sound-on f) member (data-length p g (stream-parsed p device g e .1)) few (f .good))
+        subst (λ (v : Option PDU). Sim flows s (b .streamMemory) g j (flowStep (s .setup) v g (streamRoom.dataOf p g))) (sym (view-is b (g .flow)))
+        (sim-stepped flows s (b .streamMemory) p g (sound-on f) member (data-length p g (stream-parsed p (setup .device) g e .1)) few (f .good))
 
     back : stateOf (wordsOf (j .state)) ≡ j .state
     back = state-of (j .state) (sim .leaves .sound .size) (ap length (sim .same-messages) ∙ eight (b .words))
 
     -- a flow's view of what is left
-    view-left : (k : Flow) → view (boardLeft (ofStream (lentOn b p) j)) k ≡ seen (s .setup .room) (j .state .streams) (j .memory) k
+    view-left : (k : Flow) → view (ofStream (lent b p) j .desk) k ≡ seen (s .setup .room) (j .state .streams) (j .memory) k
     unfolding view
     view-left k =
         ap (λ (t : State). viewOf t (j .memory) k) back ∙ (view-of (j .state) (j .memory) k ∙ ap (λ (n : ℕ). seen n (j .state .streams) (j .memory) k) (sim .same-room))
 
-    left-fine : Fine device mtu room flows (boardLeft (ofStream (lentOn b p) j))
+    left-fine : Fine setup flows (ofStream (lent b p) j .desk)
     left-fine =
         let contexts : (P : List StreamContext → Type 0) → P (j .state .streams) → P (stateOf (wordsOf (j .state)) .streams) = λ P h. subst (λ (t : State). P (t .streams)) (sym back) h in
-        still-fine f (ofStream (lentOn b p) j) (subst (λ (y : Left). StillGood s (y .words)) leaves still-good)
+        still-fine f (ofStream (lent b p) j) (subst (λ (y : Left). StillGood s (y .desk .words)) leaves still-good)
         (sim .leaves .sound .rooms ∙ sym (rooms-on f)) refl refl (contexts Once (sim .leaves .sound .once)) (contexts (Inside flows) (sim .leaves .sound .inside))
 
     -- by the state's own MTU and R
-    own-flow : OwnFlow (Fine device mtu room flows) (s .setup .mtu) (s .setup .room) b p g
+    own-flow : OwnFlow (Fine setup flows) (s .setup) b p g
     own-flow = record {
-      ok = subst (λ (y : Left). Fine device mtu room flows (boardLeft y)) (sym leaves) left-fine;
-      own = ap (λ (y : Left). view (boardLeft y) (g .flow)) leaves ∙ (view-left (g .flow) ∙ sim .leaves .own-is);
-      others = λ k ne. ap (λ (y : Left). view (boardLeft y) k) leaves ∙ (view-left k ∙ (sim .leaves .others k (same-false k (g .flow) ne) ∙ sym (view-is b k)));
+      ok = subst (λ (y : Left). Fine setup flows (y .desk)) (sym leaves) left-fine;
+      own = ap (λ (y : Left). view (y .desk) (g .flow)) leaves ∙ (view-left (g .flow) ∙ sim .leaves .own-is);
+      others = λ k ne. ap (λ (y : Left). view (y .desk) k) leaves ∙ (view-left k ∙ (sim .leaves .others k (same-false k (g .flow) ne) ∙ sym (view-is b k)));
       tells =
-          subst (λ (y : Left). Tells (s .setup .room) (y .streamMemory) (g .flow) (y .says) (flowStep (s .setup .mtu) (s .setup .room) (view b (g .flow)) g (streamRoom.dataOf p g) .told)) (sym leaves) (sim .tells);
+          subst (λ (y : Left). Tells (s .setup .room) (y .desk .streamMemory) (g .flow) (y .says) (flowStep (s .setup) (view b (g .flow)) g (streamRoom.dataOf p g) .told)) (sym leaves) (sim .tells);
       drops = ap (λ (y : Left). y .dropped) leaves ∙ sim .drops;
     }
 
-    by-stream : OwnFlow (Fine device mtu room flows) mtu room b p g
-    by-stream = subst₂ (λ (m r : ℕ). OwnFlow (Fine device mtu room flows) m r b p g) (f .same-mtu) (f .same-room) own-flow
+    by-stream : OwnFlow (Fine setup flows) setup b p g
+    by-stream = subst (λ (t : Setup). OwnFlow (Fine setup flows) t b p g) (f .same-setup) own-flow
 
   -- ---- a type 11 packet
-  module _ (m : MessageSegment) (e : parsed device p ≡ Message m) where
+  module _ (m : MessageSegment) (e : parsed (setup .device) p ≡ Message m) where
     abbrev k : messageRoom.MessageJoined
     k = messageStep.messageStepped s (b .messageMemory) (b .response) p m
 
-    message-leaves : read b p ≡ ofMessage (lentOn b p) k
+    message-leaves : read b p ≡ ofMessage (lent b p) k
     message-leaves = read-is (Message m) e
 
     quiet : Quiet s (b .messageMemory) (b .response) k
     quiet =
-        let small = message-small p m (message-parsed p device m e) (bytes 5) (bytes 6) in
+        let small = message-small p m (message-parsed p (setup .device) m e) (bytes 5) (bytes 6) in
         quiet-stepped s (b .messageMemory) (b .response) p m (f .lends .boxes) (f .lends .reply) (small .0) (small .2)
 
     message-back : stateOf (wordsOf (k .state)) ≡ k .state
     message-back = state-of (k .state) (ap length (quiet .same-streams) ∙ sixteen (b .words)) (quiet .messages ∙ eight (b .words))
 
-    message-view : (x : Flow) → view (boardLeft (ofMessage (lentOn b p) k)) x ≡ view b x
+    message-view : (x : Flow) → view (ofMessage (lent b p) k .desk) x ≡ view b x
     unfolding view
     message-view x =
         ap (λ (t : State). viewOf t (b .streamMemory) x) message-back
@@ -127,32 +124,32 @@ module _ (device mtu room : ℕ) (flows : List Flow) (b : Board) (p : List ℕ) 
         ∙ (ap₂ (λ (n : ℕ) (cs : List StreamContext). seen n cs (b .streamMemory) x) (quiet .same-room) (quiet .same-streams)
         ∙ sym (view-is b x)))
 
-    message-fine : Fine device mtu room flows (boardLeft (ofMessage (lentOn b p) k))
+    message-fine : Fine setup flows (ofMessage (lent b p) k .desk)
     message-fine =
         let same : stateOf (wordsOf (k .state)) .streams ≡ s .streams = ap (λ (t : State). t .streams) message-back ∙ quiet .same-streams in
-        still-fine f (ofMessage (lentOn b p) k) (subst (λ (y : Left). StillGood s (y .words)) message-leaves still-good)
+        still-fine f (ofMessage (lent b p) k) (subst (λ (y : Left). StillGood s (y .desk .words)) message-leaves still-good)
         refl (quiet .boxes) (quiet .reply) (subst Once (sym same) (f .once)) (subst (Inside flows) (sym same) (f .inside))
 
-    by-message : NoFlow (Fine device mtu room flows) room b p
+    by-message : NoFlow (Fine setup flows) setup b p
     by-message = record {
-      ok = subst (λ (y : Left). Fine device mtu room flows (boardLeft y)) (sym message-leaves) message-fine;
-      views = λ x. ap (λ (y : Left). view (boardLeft y) x) message-leaves ∙ message-view x;
-      tells = ap (λ (y : Left). deliveredBy room (y .streamMemory) (y .says)) message-leaves ∙ quiet .tells room (b .streamMemory);
+      ok = subst (λ (y : Left). Fine setup flows (y .desk)) (sym message-leaves) message-fine;
+      views = λ x. ap (λ (y : Left). view (y .desk) x) message-leaves ∙ message-view x;
+      tells = ap (λ (y : Left). deliveredBy (setup .room) (y .desk .streamMemory) (y .says)) message-leaves ∙ quiet .tells (setup .room) (b .streamMemory);
     }
 
   -- ---- a packet that rows 1 to 5 refuse
-  by-refused : (number : ℕ) → parsed device p ≡ Refused number → NoFlow (Fine device mtu room flows) room b p
+  by-refused : (number : ℕ) → parsed (setup .device) p ≡ Refused number → NoFlow (Fine setup flows) setup b p
   by-refused number e =
-      let same : read b p ≡ byParsed (lentOn b p) (Refused number) = read-is (Refused number) e in
+      let same : read b p ≡ byParsed (lent b p) (Refused number) = read-is (Refused number) e in
       record {
-        ok = subst (λ (y : Left). Fine device mtu room flows (boardLeft y)) (sym same) f;
-        views = λ x. ap (λ (y : Left). view (boardLeft y) x) same;
-        tells = ap (λ (y : Left). deliveredBy room (y .streamMemory) (y .says)) same;
+        ok = subst (λ (y : Left). Fine setup flows (y .desk)) (sym same) f;
+        views = λ x. ap (λ (y : Left). view (y .desk) x) same;
+        tells = ap (λ (y : Left). deliveredBy (setup .room) (y .desk .streamMemory) (y .says)) same;
       }
 
-pub by-flow : (device mtu room : ℕ) (flows : List Flow) → length flows ≤ 16 → ByFlow device mtu room flows (Fine device mtu room flows)
-by-flow device mtu room flows few = record {
-  of-flow = λ b p g f bytes e member. by-stream device mtu room flows b p f bytes few g e member;
-  of-message = λ b p m f bytes e. by-message device mtu room flows b p f bytes m e;
-  of-refused = λ b p number f bytes e. by-refused device mtu room flows b p f bytes number e;
+pub by-flow : (setup : Setup) (flows : List Flow) → length flows ≤ 16 → ByFlow setup flows (Fine setup flows)
+by-flow setup flows few = record {
+  of-flow = λ b p g f bytes e member. by-stream setup flows b p f bytes few g e member;
+  of-message = λ b p m f bytes e. by-message setup flows b p f bytes m e;
+  of-refused = λ b p number f bytes e. by-refused setup flows b p f bytes number e;
 }

@@ -24,7 +24,7 @@ use Rattle.messages.specs.Step.{refusedWith, matched, messageStepped}
 use Rattle.message_rooms.proofs.Laws.{segment-ends}
 use Rattle.reading.proofs.Cases.{by-test}
 use Rattle.reading.proofs.Response.{length-answered}
-use Rattle.flows.specs.Board.{deliveredBy}
+use Rattle.flows.specs.Deliveries.{deliveredBy}
 
 -- no stream context changes, no PDU is delivered, and the memories keep their sizes
 pub record Quiet (s : State) (memory response : List ℕ) (j : MessageJoined) : Type 0 where

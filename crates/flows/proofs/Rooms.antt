@@ -9,7 +9,7 @@ use lib.ListN.{length, take, drop, length-take, length-drop}
 use lib.Seq.{take-add, drop-drop, drop-at, length-take-le}
 use Rattle.lists.specs.Bytes.{written}
 use Rattle.lists.proofs.Written.{length-written, take-before, drop-behind, part-written}
-use Rattle.flows.specs.Board.{inRoom}
+use Rattle.flows.specs.Deliveries.{inRoom}
 
 -- a part, by what ends with it
 part-is : (b n : ℕ) (l : List ℕ) → b ≤ length l → take n (drop b l) ≡ drop b (take (b + n) l)

@@ -14,7 +14,7 @@ use Rattle.wire.specs.declared.Flow.{Flow}
 use Rattle.contexts.specs.declared.StreamContext.{StreamContext}
 use Rattle.contexts.specs.State.{closedStream, isFreeStream, isOfFlow}
 use Rattle.flows.specs.OneFlow.{PDU, pdu}
-use Rattle.flows.specs.Board.{inRoom}
+use Rattle.flows.specs.Deliveries.{inRoom}
 use Rattle.flows.specs.ByFlow.{among}
 use Rattle.flows.proofs.Contexts.{at, own, of-open, of-flow, made-of, closed-free, free-of-none, first-set, put-closed, Place, here, there, place, Own, found, lacks, own-cases, Once, Inside}
 use Rattle.flows.proofs.Rooms.{stored-length, stored-own, stored-apart}

@@ -27,7 +27,7 @@ use Rattle.streams.specs.Inside.{Passed}
 use Rattle.streams.proofs.Laws.{size-le, passed, begin-own, begin-free, go-closed, go-passes, go-differs, go-placed, step-begins, step-continues}
 use Rattle.reading.proofs.Cases.{by-test}
 use Rattle.flows.specs.OneFlow.{PDU, pdu, held, delivered, refused, FlowOutcome, flowOutcome, isOpen, flowRefused, flowJoined, flowStep}
-use Rattle.flows.specs.Board.{inRoom, delivery}
+use Rattle.flows.specs.Deliveries.{inRoom, delivery}
 use Rattle.flows.specs.ByFlow.{among, Tells}
 use Rattle.flows.proofs.Contexts.{at, own, spare, of-open, of-flow, closed-free, free-of-none, past, Own, found, lacks, own-cases, spare-there}
 use Rattle.flows.proofs.Rooms.{room-length, stored-own}
@@ -126,17 +126,17 @@ module _ (flows : List Flow) (s : State) (memory p : List ℕ) (g : Segment) (ok
   closing-7 d e = rw (d, e)
 
   abbrev Stepped : Option PDU → Type 0
-  Stepped before = Sim flows s memory g (step.stepped s memory p g) (flowStep (s .setup .mtu) (s .setup .room) before g (streamRoom.dataOf p g))
+  Stepped before = Sim flows s memory g (step.stepped s memory p g) (flowStep (s .setup) before g (streamRoom.dataOf p g))
 
   module _ (few : length flows ≤ 16) (fine : namedBy19 s ≡ false) where
     sim-6 : (before : Option PDU) → ltb (own (s .streams) (g .flow)) 16 ≡ isOpen before → malformed g ≡ true → Stepped before
     sim-6 before o d =
-        subst₂ (λ (j : streamRoom.Joined) (x : FlowOutcome). Sim flows s memory g j x) (sym (closing-6 d)) (sym (flow-malformed (s .setup .mtu) (s .setup .room) g (streamRoom.dataOf p g) before d)) (sim-closing before 6 o)
+        subst₂ (λ (j : streamRoom.Joined) (x : FlowOutcome). Sim flows s memory g j x) (sym (closing-6 d)) (sym (flow-malformed (s .setup) g (streamRoom.dataOf p g) before d)) (sim-closing before 6 o)
 
     module _ (d : malformed g ≡ false) where
       sim-7 : (before : Option PDU) → ltb (own (s .streams) (g .flow)) 16 ≡ isOpen before → wrongSize (g .ends) (dataLength g) (s .setup .mtu) ≡ true → Stepped before
       sim-7 before o e =
-          subst₂ (λ (j : streamRoom.Joined) (x : FlowOutcome). Sim flows s memory g j x) (sym (closing-7 d e)) (sym (flow-missized (s .setup .mtu) (s .setup .room) g (streamRoom.dataOf p g) d before e)) (sim-closing before 7 o)
+          subst₂ (λ (j : streamRoom.Joined) (x : FlowOutcome). Sim flows s memory g j x) (sym (closing-7 d e)) (sym (flow-missized (s .setup) g (streamRoom.dataOf p g) d before e)) (sim-closing before 7 o)
 
       module _ (e : wrongSize (g .ends) (dataLength g) (s .setup .mtu) ≡ false) where
         -- a start or single fits any room
@@ -155,7 +155,7 @@ module _ (flows : List Flow) (s : State) (memory p : List ℕ) (g : Segment) (ok
             let opened : true ≡ isOpen before = sym (lt-ltb i 16 lt) ∙ o in
             subst₂ (λ (j : streamRoom.Joined) (x : FlowOutcome). Sim flows s memory g j x)
             (step-begins s memory p g d {count = dataLength g} {mtu = s .setup .mtu} refl refl e t (begin-own s memory p g t now lt refl))
-            (ap (flowJoined g (pdu (g .field) (streamRoom.dataOf p g))) opened ∙ sym (flow-begins (s .setup .mtu) (s .setup .room) g (streamRoom.dataOf p g) d e before t))
+            (ap (flowJoined g (pdu (g .field) (streamRoom.dataOf p g))) opened ∙ sym (flow-begins (s .setup) g (streamRoom.dataOf p g) d e before t))
             (sim-placed i 0 (g .field) true (own-mine flows (s .setup .room) (s .streams) memory ok (g .flow)) lt start-small)
         sim-begins before (lacks q no-one) o t =
             let i : ℕ = spare (s .streams) in
@@ -165,7 +165,7 @@ module _ (flows : List Flow) (s : State) (memory p : List ℕ) (g : Segment) (ok
             let shut : false ≡ isOpen before = sym (le-ltb (own (s .streams) (g .flow)) 16 past-all) ∙ o in
             subst₂ (λ (j : streamRoom.Joined) (x : FlowOutcome). Sim flows s memory g j x)
             (step-begins s memory p g d {count = dataLength g} {mtu = s .setup .mtu} refl refl e t (begin-free s memory p g t now past-all {free = i} refl lt refl))
-            (ap (flowJoined g (pdu (g .field) (streamRoom.dataOf p g))) shut ∙ sym (flow-begins (s .setup .mtu) (s .setup .room) g (streamRoom.dataOf p g) d e before t))
+            (ap (flowJoined g (pdu (g .field) (streamRoom.dataOf p g))) shut ∙ sym (flow-begins (s .setup) g (streamRoom.dataOf p g) d e before t))
             (sim-placed i 0 (g .field) false (spare-mine flows (s .setup .room) (s .streams) memory ok (g .flow) no-one within) lt start-small)
 
         module _ (t : g .begins ≡ false) where
@@ -184,7 +184,7 @@ module _ (flows : List Flow) (s : State) (memory p : List ℕ) (g : Segment) (ok
           sim-closed o =
               subst₂ (λ (j : streamRoom.Joined) (x : FlowOutcome). Sim flows s memory g j x)
               (step-continues s memory p g d {count = dataLength g} {mtu = s .setup .mtu} refl refl e t (go-closed s memory p g t now o))
-              (sym (flow-closed (s .setup .mtu) (s .setup .room) g (streamRoom.dataOf p g) d e t))
+              (sym (flow-closed (s .setup) g (streamRoom.dataOf p g) d e t))
               (sim-staying (seen-none (s .setup .room) (s .streams) memory (g .flow) o))
 
           module _ (lt : i < 16) (small : c .held ≤ s .setup .room) where
@@ -197,7 +197,7 @@ module _ (flows : List Flow) (s : State) (memory p : List ℕ) (g : Segment) (ok
                 subst₂ (λ (j : streamRoom.Joined) (x : FlowOutcome). Sim flows s memory g j x)
                 (step-continues s memory p g d {count = dataLength g} {mtu = s .setup .mtu} refl refl e t
                 (go-passes s memory p g t now lt {c = c} {room = s .setup .room} refl refl (ltb-true (s .setup .room) (c .held + dataLength g) h) (record { answer = refl; drop = refl; state = refl })))
-                (sym (flow-passes (s .setup .mtu) (s .setup .room) g (streamRoom.dataOf p g) d e t held-so-far (c .held) holds h))
+                (sym (flow-passes (s .setup) g (streamRoom.dataOf p g) d e t held-so-far (c .held) holds h))
                 (sim-closing (some held-so-far) 9 (lt-ltb i 16 lt))
 
             module _ (h : ltb (s .setup .room) (c .held + dataLength g) ≡ false) where
@@ -210,7 +210,7 @@ module _ (flows : List Flow) (s : State) (memory p : List ℕ) (g : Segment) (ok
                   subst₂ (λ (j : streamRoom.Joined) (x : FlowOutcome). Sim flows s memory g j x)
                   (step-continues s memory p g d {count = dataLength g} {mtu = s .setup .mtu} refl refl e t
                   (go-differs s memory p g t now lt {c = c} {room = s .setup .room} refl refl fits w (record { answer = refl; drop = refl; state = refl })))
-                  (sym (flow-differs (s .setup .mtu) (s .setup .room) g (streamRoom.dataOf p g) d e t held-so-far (c .held) holds h w))
+                  (sym (flow-differs (s .setup) g (streamRoom.dataOf p g) d e t held-so-far (c .held) holds h w))
                   (sim-closing (some held-so-far) 11 (lt-ltb i 16 lt))
 
               sim-joins : wrongLength g (c .held + dataLength g) ≡ false → Stepped (some held-so-far)
@@ -218,7 +218,7 @@ module _ (flows : List Flow) (s : State) (memory p : List ℕ) (g : Segment) (ok
               sim-joins w =
                   subst₂ (λ (j : streamRoom.Joined) (x : FlowOutcome). Sim flows s memory g j x)
                   (step-continues s memory p g d {count = dataLength g} {mtu = s .setup .mtu} refl refl e t (go-placed s memory p g t now lt {c = c} {room = s .setup .room} refl refl fits w refl))
-                  (sym (flow-joins (s .setup .mtu) (s .setup .room) g (streamRoom.dataOf p g) d e t held-so-far (c .held) holds h w))
+                  (sym (flow-joins (s .setup) g (streamRoom.dataOf p g) d e t held-so-far (c .held) holds h w))
                   (sim-placed i (c .held) (c .stream) false (own-mine flows (s .setup .room) (s .streams) memory ok (g .flow)) lt fits)
 
             sim-continues : Stepped (some held-so-far)

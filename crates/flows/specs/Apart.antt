@@ -11,12 +11,13 @@ use Rattle.wire.specs.declared.Flow.{Flow}
 use Rattle.wire.specs.declared.Parsed.{Parsed}
 use Rattle.wire.specs.declared.Parsed.the-variants.{Refused, Stream, Message}
 use Rattle.wire.specs.Type9.{sameFlow, segmentOf}
-use Rattle.sizes.specs.Sizes.{badMTU}
 use Rattle.wire.specs.Parsed.{parsed}
-use Rattle.refusal19.specs.Refusal19.{badRoom}
+use Rattle.contexts.specs.State.{Setup}
+use Rattle.reading.specs.Desk.{Desk}
 use Rattle.stream_rooms.specs.Placing.{dataOf}
 use Rattle.flows.specs.OneFlow.{PDU, pdu, Told, held, delivered, refused, flowStep}
-use Rattle.flows.specs.Board.{Board, Delivery, delivery, inRoom, read, after, Lends, freshBoard}
+use Rattle.flows.specs.Deliveries.{Delivery, delivery, inRoom, read, after}
+use Rattle.flows.specs.Fresh.{Fresh}
 use Rattle.flows.specs.ByFlow.{among, AreBytes}
 
 -- ---- what is answered, the context number aside
@@ -67,19 +68,19 @@ packetsOf device flow [] = []
 packetsOf device flow (p ∷ ps) = cond (isOf flow (parsed device p)) (p ∷ packetsOf device flow ps) (packetsOf device flow ps)
 
 -- what the endpoint answers to that flow's packets, in a run over all packets
-abbrev pub answersTo : ℕ → ℕ → Flow → Board → List (List ℕ) → List FlowAnswer
-answersTo device room flow b [] = []
-answersTo device room flow b (p ∷ ps) =
-    cond (isOf flow (parsed device p))
-    (flowAnswer (heardOf room (after b p .streamMemory) (read b p .says)) (read b p .dropped) ∷ answersTo device room flow (after b p) ps)
-    (answersTo device room flow (after b p) ps)
+abbrev pub answersTo : Setup → Flow → Desk → List (List ℕ) → List FlowAnswer
+answersTo setup flow d [] = []
+answersTo setup flow d (p ∷ ps) =
+    cond (isOf flow (parsed (setup .device) p))
+    (flowAnswer (heardOf (setup .room) (after d p .streamMemory) (read d p .says)) (read d p .dropped) ∷ answersTo setup flow (after d p) ps)
+    (answersTo setup flow (after d p) ps)
 
 -- what the one-flow endpoint answers to a flow's packets, where `before` is what it has so far
-abbrev pub alone : ℕ → ℕ → Flow → Option PDU → List (List ℕ) → List FlowAnswer
-alone mtu room flow before [] = []
-alone mtu room flow before (p ∷ ps) =
-    let o = flowStep mtu room before (segmentOf p) (dataOf p (segmentOf p)) in
-    flowAnswer (heardAlone flow (o .told)) (o .dropped) ∷ alone mtu room flow (o .next) ps
+abbrev pub alone : Setup → Flow → Option PDU → List (List ℕ) → List FlowAnswer
+alone setup flow before [] = []
+alone setup flow before (p ∷ ps) =
+    let o = flowStep setup before (segmentOf p) (dataOf p (segmentOf p)) in
+    flowAnswer (heardAlone flow (o .told)) (o .dropped) ∷ alone setup flow (o .next) ps
 
 -- ---- the statements
 
@@ -92,31 +93,23 @@ flowAmong flows (Message m) = true
 abbrev pub AmongFlows : ℕ → List Flow → List (List ℕ) → Type 0
 AmongFlows device flows = Each (λ (p : List ℕ). flowAmong flows (parsed device p) ≡ true)
 
--- an endpoint as setup makes it, memories that 12 allows, and any packets at all of which those of type 9 have at most sixteen flows
-pub record AtMostSixteenFlows (device mtu room : ℕ) (streamMemory messageMemory response : List ℕ) (flows : List Flow) (packets : List (List ℕ)) : Type 0 where
-  pub mtu-fits : badMTU mtu ≡ false
-  pub room-fits : badRoom mtu room ≡ false
-  pub lends : Lends room streamMemory messageMemory response
+-- a fresh desk, and any packets at all of which those of type 9 have at most sixteen flows
+pub record AtMostSixteenFlows (setup : Setup) (d : Desk) (flows : List Flow) (packets : List (List ℕ)) : Type 0 where
+  pub fresh : Fresh setup d
   pub few : length flows ≤ 16
   pub bytes : Each AreBytes packets
-  pub occur : AmongFlows device flows packets
+  pub occur : AmongFlows (setup .device) flows packets
 
 -- each flow is answered as if its packets came alone
 abbrev pub FlowsApart : Type 0
 FlowsApart =
-    (device mtu room : ℕ) (streamMemory messageMemory response : List ℕ) (flows : List Flow) (packets : List (List ℕ))
-    → AtMostSixteenFlows device mtu room streamMemory messageMemory response flows packets
-    → (flow : Flow)
-    → answersTo device room flow (freshBoard device mtu room streamMemory messageMemory response) packets ≡ alone mtu room flow none (packetsOf device flow packets)
+    (setup : Setup) (d : Desk) (flows : List Flow) (packets : List (List ℕ)) → AtMostSixteenFlows setup d flows packets
+    → (flow : Flow) → answersTo setup flow d packets ≡ alone setup flow none (packetsOf (setup .device) flow packets)
 
 -- so two runs in which a flow has the same packets answer them the same, whatever else came, and whatever stood in the memories
 abbrev pub SamePacketsSameAnswers : Type 0
 SamePacketsSameAnswers =
-    (device mtu room : ℕ) (streamMemory messageMemory response : List ℕ) (flows : List Flow) (packets : List (List ℕ))
-    (streamMemory′ messageMemory′ response′ : List ℕ) (flows′ : List Flow) (packets′ : List (List ℕ))
-    → AtMostSixteenFlows device mtu room streamMemory messageMemory response flows packets
-    → AtMostSixteenFlows device mtu room streamMemory′ messageMemory′ response′ flows′ packets′
-    → (flow : Flow)
-    → packetsOf device flow packets ≡ packetsOf device flow packets′
-    → answersTo device room flow (freshBoard device mtu room streamMemory messageMemory response) packets
-    ≡ answersTo device room flow (freshBoard device mtu room streamMemory′ messageMemory′ response′) packets′
+    (setup : Setup) (d d′ : Desk) (flows flows′ : List Flow) (packets packets′ : List (List ℕ))
+    → AtMostSixteenFlows setup d flows packets → AtMostSixteenFlows setup d′ flows′ packets′
+    → (flow : Flow) → packetsOf (setup .device) flow packets ≡ packetsOf (setup .device) flow packets′
+    → answersTo setup flow d packets ≡ answersTo setup flow d′ packets′

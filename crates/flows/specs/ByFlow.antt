@@ -12,8 +12,10 @@ use Rattle.wire.specs.declared.Parsed.the-variants.{Refused, Stream, Message}
 use Rattle.wire.specs.Type9.{sameFlow}
 use Rattle.wire.specs.Parsed.{parsed}
 use Rattle.stream_rooms.specs.Placing.{dataOf}
+use Rattle.contexts.specs.State.{Setup}
+use Rattle.reading.specs.Desk.{Desk}
 use Rattle.flows.specs.OneFlow.{Told, held, delivered, refused, flowStep}
-use Rattle.flows.specs.Board.{Board, delivery, deliveredBy, read, after, view}
+use Rattle.flows.specs.Deliveries.{delivery, deliveredBy, read, after, view}
 
 -- the flow is one of these
 abbrev pub among : Flow → List Flow → Bool
@@ -31,21 +33,21 @@ Tells room memory flow says (delivered p) = deliveredBy room memory says ≡ del
 Tells room memory flow says (refused number) = says ≡ answers.refused number
 
 -- a type 9 packet that rows 1 to 5 pass, of flow g .flow
-pub record OwnFlow (Ok : Board → Type 0) (mtu room : ℕ) (b : Board) (p : List ℕ) (g : Segment) : Type 0 where
-  pub ok : Ok (after b p)
-  pub own : view (after b p) (g .flow) ≡ flowStep mtu room (view b (g .flow)) g (dataOf p g) .next
-  pub others : (flow : Flow) → sameFlow flow (g .flow) ≡ false → view (after b p) flow ≡ view b flow
-  pub tells : Tells room (after b p .streamMemory) (g .flow) (read b p .says) (flowStep mtu room (view b (g .flow)) g (dataOf p g) .told)
-  pub drops : read b p .dropped ≡ flowStep mtu room (view b (g .flow)) g (dataOf p g) .dropped
+pub record OwnFlow (Ok : Desk → Type 0) (setup : Setup) (d : Desk) (p : List ℕ) (g : Segment) : Type 0 where
+  pub ok : Ok (after d p)
+  pub own : view (after d p) (g .flow) ≡ flowStep setup (view d (g .flow)) g (dataOf p g) .next
+  pub others : (flow : Flow) → sameFlow flow (g .flow) ≡ false → view (after d p) flow ≡ view d flow
+  pub tells : Tells (setup .room) (after d p .streamMemory) (g .flow) (read d p .says) (flowStep setup (view d (g .flow)) g (dataOf p g) .told)
+  pub drops : read d p .dropped ≡ flowStep setup (view d (g .flow)) g (dataOf p g) .dropped
 
 -- any other packet: a message, or one that rows 1 to 5 refuse
-pub record NoFlow (Ok : Board → Type 0) (room : ℕ) (b : Board) (p : List ℕ) : Type 0 where
-  pub ok : Ok (after b p)
-  pub views : (flow : Flow) → view (after b p) flow ≡ view b flow
-  pub tells : deliveredBy room (after b p .streamMemory) (read b p .says) ≡ []
+pub record NoFlow (Ok : Desk → Type 0) (setup : Setup) (d : Desk) (p : List ℕ) : Type 0 where
+  pub ok : Ok (after d p)
+  pub views : (flow : Flow) → view (after d p) flow ≡ view d flow
+  pub tells : deliveredBy (setup .room) (after d p .streamMemory) (read d p .says) ≡ []
 
 -- the laws between a flow and the endpoint of that device, MTU and R, where at most these flows occur
-pub record ByFlow (device mtu room : ℕ) (flows : List Flow) (Ok : Board → Type 0) : Type 0 where
-  pub of-flow : (b : Board) (p : List ℕ) (g : Segment) → Ok b → AreBytes p → parsed device p ≡ Stream g → among (g .flow) flows ≡ true → OwnFlow Ok mtu room b p g
-  pub of-message : (b : Board) (p : List ℕ) (m : MessageSegment) → Ok b → AreBytes p → parsed device p ≡ Message m → NoFlow Ok room b p
-  pub of-refused : (b : Board) (p : List ℕ) (number : ℕ) → Ok b → AreBytes p → parsed device p ≡ Refused number → NoFlow Ok room b p
+pub record ByFlow (setup : Setup) (flows : List Flow) (Ok : Desk → Type 0) : Type 0 where
+  pub of-flow : (d : Desk) (p : List ℕ) (g : Segment) → Ok d → AreBytes p → parsed (setup .device) p ≡ Stream g → among (g .flow) flows ≡ true → OwnFlow Ok setup d p g
+  pub of-message : (d : Desk) (p : List ℕ) (m : MessageSegment) → Ok d → AreBytes p → parsed (setup .device) p ≡ Message m → NoFlow Ok setup d p
+  pub of-refused : (d : Desk) (p : List ℕ) (number : ℕ) → Ok d → AreBytes p → parsed (setup .device) p ≡ Refused number → NoFlow Ok setup d p

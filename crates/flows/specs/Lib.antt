@@ -1,4 +1,5 @@
 pub mod OneFlow
-pub mod Board
+pub mod Deliveries
+pub mod Fresh
 pub mod ByFlow
 pub mod Apart

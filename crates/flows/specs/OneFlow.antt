@@ -6,6 +6,7 @@ use mathlib.Core.Option.{Option, none, some}
 use lib.ListN.{length}
 use lib.Dec.{ltb}
 use Rattle.wire.specs.declared.Segment.{Segment}
+use Rattle.contexts.specs.State.{Setup}
 use Rattle.sizes.specs.Sizes.{dataLength}
 use Rattle.rules.specs.Segments.{malformed, wrongSize, wrongLength}
 
@@ -45,17 +46,17 @@ abbrev pub flowJoined : Segment → PDU → Bool → FlowOutcome
 flowJoined g p dropped = cond (g .ends) (flowOutcome none (delivered p) dropped) (flowOutcome (some p) held dropped)
 
 -- a continuation or end: rows 8, 9, 11
-abbrev pub flowContinued : ℕ → Option PDU → Segment → List ℕ → FlowOutcome
-flowContinued room none g bytes = flowOutcome none (refused 8) false
-flowContinued room (some p) g bytes =
-    cond (ltb room (length (p .bytes) + dataLength g)) (flowRefused (some p) 9)
+abbrev pub flowContinued : Setup → Option PDU → Segment → List ℕ → FlowOutcome
+flowContinued setup none g bytes = flowOutcome none (refused 8) false
+flowContinued setup (some p) g bytes =
+    cond (ltb (setup .room) (length (p .bytes) + dataLength g)) (flowRefused (some p) 9)
     (cond (wrongLength g (length (p .bytes) + dataLength g)) (flowRefused (some p) 11)
     (flowJoined g (pdu (p .stream) (p .bytes ++ bytes)) false))
 
 -- a segment g with these data bytes, for a flow that is closed or open
-unfoldable pub flowStep : ℕ → ℕ → Option PDU → Segment → List ℕ → FlowOutcome
-flowStep mtu room before g bytes =
+unfoldable pub flowStep : Setup → Option PDU → Segment → List ℕ → FlowOutcome
+flowStep setup before g bytes =
     cond (malformed g) (flowRefused before 6)
-    (cond (wrongSize (g .ends) (dataLength g) mtu) (flowRefused before 7)
+    (cond (wrongSize (g .ends) (dataLength g) (setup .mtu)) (flowRefused before 7)
     (cond (g .begins) (flowJoined g (pdu (g .field) bytes) (isOpen before))
-    (flowContinued room before g bytes)))
+    (flowContinued setup before g bytes)))

@@ -13,7 +13,7 @@ use Rattle.lists.proofs.First.{none-passes, all-fail}
 use Rattle.sizes.specs.Sizes.{badMTU, bytesOf}
 use Rattle.contexts.specs.declared.StreamContext.{StreamContext}
 use Rattle.contexts.specs.declared.MessageContext.{MessageContext}
-use Rattle.contexts.specs.State.{State, fresh, fixed, withStream, withMessage, closedStream, closedMessage, isFreeStream, isFreeMessage}
+use Rattle.contexts.specs.State.{Setup, State, fresh, withStream, withMessage, closedStream, closedMessage, isFreeStream, isFreeMessage}
 use Rattle.contexts.specs.Marks.{allMarked}
 use Rattle.refusal19.specs.Refusal19.{badRoom, badStream, badLast, badMarks, badMessage, namedBy19}
 use Rattle.refusal19.proofs.Good.{neither}
@@ -65,6 +65,6 @@ message-kept s n c e f =
     rw (a .0, none-put badMessage closedMessage (s .messages) n c (a .1) f)
 
 -- a state as setup makes it is good
-pub fresh-good : (device mtu room : ℕ) → badMTU mtu ≡ false → badRoom mtu room ≡ false → namedBy19 (fresh (fixed device mtu room)) ≡ false
+pub fresh-good : (setup : Setup) → badMTU (setup .mtu) ≡ false → badRoom (setup .mtu) (setup .room) ≡ false → namedBy19 (fresh setup) ≡ false
 unfolding namedBy19 any firstOf badStream badMessage isFreeStream isFreeMessage
-fresh-good device mtu room m r = rw (m, r)
+fresh-good setup m r = rw (m, r)

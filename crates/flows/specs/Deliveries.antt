@@ -1,0 +1,65 @@
+-- Packet after packet at one desk: each is read with what the call before left; and what is delivered.
+use Prim.Native.Nat.{ℕ, _*_}
+use mathlib.Core.List.{List, [], _∷_, _++_}
+use mathlib.Core.Bool.{cond}
+use mathlib.Core.Option.{Option, none, some}
+use lib.ListN.{take, drop}
+use lib.Dec.{ltb}
+use Rattle.answers.specs.Answers as answers
+use Rattle.wire.specs.declared.Flow.{Flow}
+use Rattle.contexts.specs.State.{State, streamIn, flowContext}
+use Rattle.reading.specs.Desk.{Desk, stateOn}
+use Rattle.reading.specs.Table.{lent}
+use Rattle.reading.specs.Read.{Left, reading}
+use Rattle.flows.specs.OneFlow.{PDU, pdu}
+
+-- what reading a packet answers and leaves
+abbrev pub read : Desk → List ℕ → Left
+read d packet = reading (lent d packet)
+
+-- the desk as reading leaves it
+abbrev pub after : Desk → List ℕ → Desk
+after d packet = read d packet .desk
+
+-- the first n bytes of room i, where a room has so many bytes
+abbrev pub inRoom : ℕ → List ℕ → ℕ → ℕ → List ℕ
+inRoom room memory i n = take n (drop (i * room) memory)
+
+-- a delivered PDU with its flow and its bytes
+pub record Delivery : Type 0 where
+  pub flow : Flow
+  pub pdu : PDU
+
+abbrev pub delivery : Flow → PDU → Delivery
+delivery flow p = record { flow = flow; pdu = p }
+
+-- the PDU that an answer delivers, if one: its bytes are those that its room in the stream memory then holds
+abbrev pub deliveredBy : ℕ → List ℕ → answers.Said → List Delivery
+deliveredBy room memory (answers.delivered context source cos stream size) =
+    delivery (record { source = source; cos = cos }) (pdu stream (inRoom room memory context size)) ∷ []
+deliveredBy room memory answers.held = []
+deliveredBy room memory (answers.message context source letter mailbox size) = []
+deliveredBy room memory (answers.refused number) = []
+deliveredBy room memory answers.ready = []
+deliveredBy room memory answers.closed = []
+deliveredBy room memory answers.free = []
+deliveredBy room memory (answers.wrote size) = []
+
+-- of what a call says and leaves
+abbrev pub deliveredOn : Desk → answers.Said → List Delivery
+deliveredOn d says = deliveredBy (stateOn d .setup .room) (d .streamMemory) says
+
+-- what is delivered over packets
+abbrev pub deliveries : Desk → List (List ℕ) → List Delivery
+deliveries d [] = []
+deliveries d (p ∷ ps) = deliveredOn (after d p) (read d p .says) ++ deliveries (after d p) ps
+
+-- what a flow has on the desk: closed (none), or the streamID and the bytes so far
+abbrev pub viewOf : State → List ℕ → Flow → Option PDU
+viewOf s memory flow =
+    cond (ltb (flowContext s flow) 16)
+    (some (pdu (streamIn s (flowContext s flow) .stream) (inRoom (s .setup .room) memory (flowContext s flow) (streamIn s (flowContext s flow) .held))))
+    none
+
+unfoldable pub view : Desk → Flow → Option PDU
+view d flow = viewOf (stateOn d) (d .streamMemory) flow
