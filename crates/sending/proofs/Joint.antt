@@ -12,8 +12,9 @@ use lib.Seq.{length-take-le}
 use lib.Dec.{eqb, leb}
 use borrow.Author.Tests.{eqb-true, eq-eqb, ne-eqb, leb-true}
 use Rattle.wire.specs.declared.Flow.{Flow}
+use Rattle.contexts.specs.State.{Setup}
 use Rattle.flows.specs.OneFlow.{PDU, pdu}
-use Rattle.flows.specs.Board.{delivery}
+use Rattle.flows.specs.Deliveries.{delivery}
 use Rattle.lists.specs.Each.{Each}
 use Rattle.sending.specs.Sending.{Sent, isLost, packetCount, Put, putOf, putsFrom, flowPuts, FairPDU, Ranges}
 use Rattle.sending.specs.OneFlow.{flowDeliveries, arriving}
@@ -27,65 +28,65 @@ use Rattle.sending.proofs.Halves.{FirstLeaves, closed, opened, first-le
 
 pub joint-exactly : JointExactly
 unfolding isJoint
-joint-exactly device mtu R flow a b pair =
-    gives-append mtu R putsA (putsB ++ []) none
-    ∙ ap (λ (x : List PDU). x ++ gives mtu R (leaves mtu R none putsA) (putsB ++ [])) (gives-nothing device mtu R flow (pair .ranges) a (pair .first-fair) (pair .first-loses) none (inl refl))
-    ∙ ap (gives mtu R (leaves mtu R none putsA)) (append-nil putsB)
-    ∙ go (first-leaves device mtu R flow (pair .ranges) a (pair .first-fair) (pair .first-loses))
+joint-exactly setup flow a b pair =
+    gives-append setup putsA (putsB ++ []) none
+    ∙ ap (λ (x : List PDU). x ++ gives setup (leaves setup none putsA) (putsB ++ [])) (gives-nothing setup flow (pair .ranges) a (pair .first-fair) (pair .first-loses) none (inl refl))
+    ∙ ap (gives setup (leaves setup none putsA)) (append-nil putsB)
+    ∙ go (first-leaves setup flow (pair .ranges) a (pair .first-fair) (pair .first-loses))
   where
     putsA : List Put
-    putsA = putsFrom device mtu flow a 0 (packetCount mtu a)
+    putsA = putsFrom setup flow a 0 (packetCount (setup .mtu) a)
 
     putsB : List Put
-    putsB = putsFrom device mtu flow b 0 (packetCount mtu b)
+    putsB = putsFrom setup flow b 0 (packetCount (setup .mtu) b)
 
-    opens : (l : ℕ) → suc (suc l) ≡ packetCount mtu a → isLost a (suc l) ≡ true
-        → gives mtu R (some (pdu (a .pdu .stream) (take (suc l * mtu) (a .pdu .bytes)))) putsB ≡ cond (isJoint mtu a b) (jointPDU mtu a b ∷ []) []
+    opens : (l : ℕ) → suc (suc l) ≡ packetCount (setup .mtu) a → isLost a (suc l) ≡ true
+        → gives setup (some (pdu (a .pdu .stream) (take (suc l * (setup .mtu)) (a .pdu .bytes)))) putsB ≡ cond (isJoint (setup .mtu) a b) (jointPDU (setup .mtu) a b ∷ []) []
     opens zero e lost =
-        let size = inner-size device mtu R flow (pair .ranges) a (pair .first-fair) 0 (omega arith) in
-        let once : 1 * mtu ≡ mtu = one-mul mtu in
-        rw (eq-eqb (packetCount mtu a) 2 (sym e), lost, once)
-        (gives-after device mtu R flow (pair .ranges) b (pair .second-fair) (pdu (a .pdu .stream) (take mtu (a .pdu .bytes))) (pair .second-loses) true
-        (λ t. length-take-le mtu (a .pdu .bytes) (omega arith)) (λ t. absurd (false≢true (sym t))))
+        let size = inner-size setup flow (pair .ranges) a (pair .first-fair) 0 (omega arith) in
+        let once : 1 * (setup .mtu) ≡ setup .mtu = one-mul (setup .mtu) in
+        rw (eq-eqb (packetCount (setup .mtu) a) 2 (sym e), lost, once)
+        (gives-after setup flow (pair .ranges) b (pair .second-fair) (pdu (a .pdu .stream) (take (setup .mtu) (a .pdu .bytes))) (pair .second-loses) true
+        (λ t. length-take-le (setup .mtu) (a .pdu .bytes) (omega arith)) (λ t. absurd (false≢true (sym t))))
     opens (suc l) e lost =
-        let size = inner-size device mtu R flow (pair .ranges) a (pair .first-fair) (suc l) (omega arith) in
-        let pos = mtu-pos device mtu R flow (pair .ranges) a (pair .first-fair) in
-        let so-far : length (take (suc (suc l) * mtu) (a .pdu .bytes)) ≡ suc (suc l) * mtu = length-take-le (suc (suc l) * mtu) (a .pdu .bytes) (omega arith) in
-        rw (ne-eqb (packetCount mtu a) 2 (λ t. omega arith))
-        (gives-after device mtu R flow (pair .ranges) b (pair .second-fair) (pdu (a .pdu .stream) (take (suc (suc l) * mtu) (a .pdu .bytes))) (pair .second-loses) false
+        let size = inner-size setup flow (pair .ranges) a (pair .first-fair) (suc l) (omega arith) in
+        let pos = mtu-pos setup flow (pair .ranges) a (pair .first-fair) in
+        let so-far : length (take (suc (suc l) * (setup .mtu)) (a .pdu .bytes)) ≡ suc (suc l) * setup .mtu = length-take-le (suc (suc l) * (setup .mtu)) (a .pdu .bytes) (omega arith) in
+        rw (ne-eqb (packetCount (setup .mtu) a) 2 (λ t. omega arith))
+        (gives-after setup flow (pair .ranges) b (pair .second-fair) (pdu (a .pdu .stream) (take (suc (suc l) * (setup .mtu)) (a .pdu .bytes))) (pair .second-loses) false
         (λ t. absurd (false≢true t)) (λ t. omega arith))
 
-    go : FirstLeaves device mtu R flow (pair .ranges) a (pair .first-fair) → gives mtu R (leaves mtu R none putsA) putsB ≡ cond (isJoint mtu a b) (jointPDU mtu a b ∷ []) []
+    go : FirstLeaves setup flow (pair .ranges) a (pair .first-fair) → gives setup (leaves setup none putsA) putsB ≡ cond (isJoint (setup .mtu) a b) (jointPDU (setup .mtu) a b ∷ []) []
     go (closed e no-joint) =
-        rw (e, no-joint) (gives-nothing device mtu R flow (pair .ranges) b (pair .second-fair) (pair .second-loses) none (inl refl))
+        rw (e, no-joint) (gives-nothing setup flow (pair .ranges) b (pair .second-fair) (pair .second-loses) none (inl refl))
     go (opened l e lost open-is) = rw open-is (opens l e lost)
 
 pub joint-only : JointOnly
-joint-only device mtu R flow a b pair = go (isJoint mtu a b) (joint-exactly device mtu R flow a b pair)
+joint-only setup flow a b pair = go (isJoint (setup .mtu) a b) (joint-exactly setup flow a b pair)
   where
     some-list : (x : PDU) (xs : List PDU) → x ∷ xs ≡ [] → ⊥
     some-list x xs e = let z : _≡_ {A = ℕ} 0 1 = cc in omega arith
 
-    go : (t : Bool) → flowDeliveries mtu R none (pairPackets device mtu flow a b) ≡ cond t (jointPDU mtu a b ∷ []) []
-        → (flowDeliveries mtu R none (pairPackets device mtu flow a b) ≡ [] → ⊥) ↔ (t ≡ true)
-    go true e = (λ h. refl, λ h n. some-list (jointPDU mtu a b) [] (sym e ∙ n))
+    go : (t : Bool) → flowDeliveries setup none (pairPackets setup flow a b) ≡ cond t (jointPDU (setup .mtu) a b ∷ []) []
+        → (flowDeliveries setup none (pairPackets setup flow a b) ≡ [] → ⊥) ↔ (t ≡ true)
+    go true e = (λ h. refl, λ h n. some-list (jointPDU (setup .mtu) a b) [] (sym e ∙ n))
     go false e = (λ h. absurd (h e), λ h. absurd (false≢true h))
 
 pub joint-length : JointLength
 unfolding isJoint
-joint-length device mtu R flow a b pair e = go (eqb (packetCount mtu a) 2) (isLost a 1) (leb 2 (packetCount mtu b)) (isLost b 0) refl refl e
+joint-length setup flow a b pair e = go (eqb (packetCount (setup .mtu) a) 2) (isLost a 1) (leb 2 (packetCount (setup .mtu) b)) (isLost b 0) refl refl e
   where
-    both : eqb (packetCount mtu a) 2 ≡ true → leb 2 (packetCount mtu b) ≡ true → length (jointPDU mtu a b .bytes) ≡ length (b .pdu .bytes)
+    both : eqb (packetCount (setup .mtu) a) 2 ≡ true → leb 2 (packetCount (setup .mtu) b) ≡ true → length (jointPDU (setup .mtu) a b .bytes) ≡ length (b .pdu .bytes)
     both p q =
-        let two = eqb-true (packetCount mtu a) 2 p in
-        let more = leb-true 2 (packetCount mtu b) q in
-        let sa = inner-size device mtu R flow (pair .ranges) a (pair .first-fair) 0 (omega arith) in
-        let sb = inner-size device mtu R flow (pair .ranges) b (pair .second-fair) 0 (omega arith) in
-        let front : length (take mtu (a .pdu .bytes)) ≡ mtu = length-take-le mtu (a .pdu .bytes) (omega arith) in
-        let back = length-drop mtu (b .pdu .bytes) in
-        length-append (take mtu (a .pdu .bytes)) (drop mtu (b .pdu .bytes)) ∙ omega arith
+        let two = eqb-true (packetCount (setup .mtu) a) 2 p in
+        let more = leb-true 2 (packetCount (setup .mtu) b) q in
+        let sa = inner-size setup flow (pair .ranges) a (pair .first-fair) 0 (omega arith) in
+        let sb = inner-size setup flow (pair .ranges) b (pair .second-fair) 0 (omega arith) in
+        let front : length (take (setup .mtu) (a .pdu .bytes)) ≡ setup .mtu = length-take-le (setup .mtu) (a .pdu .bytes) (omega arith) in
+        let back = length-drop (setup .mtu) (b .pdu .bytes) in
+        length-append (take (setup .mtu) (a .pdu .bytes)) (drop (setup .mtu) (b .pdu .bytes)) ∙ omega arith
 
-    go : (p x q y : Bool) → eqb (packetCount mtu a) 2 ≡ p → leb 2 (packetCount mtu b) ≡ q → ((p && x) && (q && y)) ≡ true → length (jointPDU mtu a b .bytes) ≡ length (b .pdu .bytes)
+    go : (p x q y : Bool) → eqb (packetCount (setup .mtu) a) 2 ≡ p → leb 2 (packetCount (setup .mtu) b) ≡ q → ((p && x) && (q && y)) ≡ true → length (jointPDU (setup .mtu) a b .bytes) ≡ length (b .pdu .bytes)
     go true true true y ep eq e = both ep eq
     go true true false y ep eq e = absurd (false≢true e)
     go true false q y ep eq e = absurd (false≢true e)
@@ -94,30 +95,30 @@ joint-length device mtu R flow a b pair e = go (eqb (packetCount mtu a) 2) (isLo
 -- ---- The endpoint
 
 -- each packet of a flow that arrives is of that flow
-proper-puts : (device mtu R : ℕ) (flow : Flow) (ranges : Ranges device mtu R flow) (s : Sent) (fair : FairPDU R s) (more : List Put) (n k : ℕ) → k + n ≡ packetCount mtu s
-    → Each (Proper device flow) (arriving more) → Each (Proper device flow) (arriving (putsFrom device mtu flow s k n ++ more))
-proper-puts device mtu R flow ranges s fair more zero k e rest = rest
-proper-puts device mtu R flow ranges s fair more (suc n) k e rest =
-    go (putOf device mtu flow s k .lost) (proper-put (omega arith)) (proper-puts device mtu R flow ranges s fair more n (suc k) (omega arith) rest)
+proper-puts : (setup : Setup) (flow : Flow) (ranges : Ranges setup flow) (s : Sent) (fair : FairPDU (setup .room) s) (more : List Put) (n k : ℕ) → k + n ≡ packetCount (setup .mtu) s
+    → Each (Proper (setup .device) flow) (arriving more) → Each (Proper (setup .device) flow) (arriving (putsFrom setup flow s k n ++ more))
+proper-puts setup flow ranges s fair more zero k e rest = rest
+proper-puts setup flow ranges s fair more (suc n) k e rest =
+    go (putOf setup flow s k .lost) (proper-put (omega arith)) (proper-puts setup flow ranges s fair more n (suc k) (omega arith) rest)
   where
-    go : (t : Bool) → Proper device flow (putOf device mtu flow s k .packet) → Each (Proper device flow) (arriving (putsFrom device mtu flow s (suc k) n ++ more))
-        → Each (Proper device flow) (cond t (arriving (putsFrom device mtu flow s (suc k) n ++ more)) (putOf device mtu flow s k .packet ∷ arriving (putsFrom device mtu flow s (suc k) n ++ more)))
+    go : (t : Bool) → Proper (setup .device) flow (putOf setup flow s k .packet) → Each (Proper (setup .device) flow) (arriving (putsFrom setup flow s (suc k) n ++ more))
+        → Each (Proper (setup .device) flow) (cond t (arriving (putsFrom setup flow s (suc k) n ++ more)) (putOf setup flow s k .packet ∷ arriving (putsFrom setup flow s (suc k) n ++ more)))
     go true p others = others
     go false p others = (p, others)
 
-    proper-put : k < packetCount mtu s → Proper device flow (putOf device mtu flow s k .packet)
-    proper-put below = unfold putOf in proper-packet device mtu R flow ranges s fair k below
+    proper-put : k < packetCount (setup .mtu) s → Proper (setup .device) flow (putOf setup flow s k .packet)
+    proper-put below = unfold putOf in proper-packet setup flow ranges s fair k below
 
 pub joint-delivered : JointDelivered
-joint-delivered device mtu R flow a b board pair begins =
-    let c = carried device mtu R (flow ∷ []) board begins in
-    flow-alone device mtu R (flow ∷ []) (c .Ok) (c .law) (c .own-R) flow (among-itself flow) (pairPackets device mtu flow a b) board (c .ok)
-    (proper-puts device mtu R flow (pair .ranges) a (pair .first-fair) (flowPuts device mtu flow (b ∷ [])) (packetCount mtu a) 0 (omega arith)
-    (proper-puts device mtu R flow (pair .ranges) b (pair .second-fair) [] (packetCount mtu b) 0 (omega arith) tt))
-    ∙ ap (λ (o : Option PDU). map (delivery flow) (flowDeliveries mtu R o (pairPackets device mtu flow a b))) (begins .closed flow)
-    ∙ ap (map (delivery flow)) (joint-exactly device mtu R flow a b pair)
-    ∙ go (isJoint mtu a b)
+joint-delivered setup flow a b board pair begins =
+    let c = carried setup (flow ∷ []) board begins in
+    flow-alone setup (flow ∷ []) (c .Ok) (c .law) (c .own-R) flow (among-itself flow) (pairPackets setup flow a b) board (c .ok)
+    (proper-puts setup flow (pair .ranges) a (pair .first-fair) (flowPuts setup flow (b ∷ [])) (packetCount (setup .mtu) a) 0 (omega arith)
+    (proper-puts setup flow (pair .ranges) b (pair .second-fair) [] (packetCount (setup .mtu) b) 0 (omega arith) tt))
+    ∙ ap (λ (o : Option PDU). map (delivery flow) (flowDeliveries setup o (pairPackets setup flow a b))) (begins .closed flow)
+    ∙ ap (map (delivery flow)) (joint-exactly setup flow a b pair)
+    ∙ go (isJoint (setup .mtu) a b)
   where
-    go : (t : Bool) → map (delivery flow) (cond t (jointPDU mtu a b ∷ []) []) ≡ cond t (delivery flow (jointPDU mtu a b) ∷ []) []
+    go : (t : Bool) → map (delivery flow) (cond t (jointPDU (setup .mtu) a b ∷ []) []) ≡ cond t (delivery flow (jointPDU (setup .mtu) a b) ∷ []) []
     go true = refl
     go false = refl

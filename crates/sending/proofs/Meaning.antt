@@ -11,9 +11,10 @@ use Rattle.wire.specs.declared.Flow.{Flow}
 use Rattle.wire.specs.Type9.{sameFlow}
 use Rattle.sizes.specs.Sizes.{badMTU}
 use Rattle.cutting.specs.Cutting.{isFinal}
+use Rattle.contexts.specs.State.{Setup}
 use Rattle.flows.specs.OneFlow.{PDU}
 use Rattle.lists.specs.Each.{Each}
-use Rattle.sending.specs.Sending.{Sent, packetCount, isWhole, Put, putOf, putsFrom, flowPuts, FlowSent, Turn, next, message, sentOn, Event, put, sent, headOf, advance, events, queues, tell, wholes, FairPDU, FairFlow}
+use Rattle.sending.specs.Sending.{Sent, packetCount, isWhole, Put, putOf, putsFrom, flowPuts, FlowSent, Turn, next, between, sentOn, Event, put, sent, headOf, advance, events, queues, tell, wholes, FairPDU, FairFlow}
 use Rattle.sending.specs.OneFlow.{also}
 use Rattle.sending.specs.Meaning.{putBy, toCome, InOrder, intact, fromFlow, WholeIsIntact}
 use Rattle.sending.proofs.Steps.{count-pos}
@@ -22,7 +23,7 @@ use Rattle.sending.proofs.Runs.{completed}
 
 in-order-from : (flow : Flow) (ts : List Turn) (q : Flow → List Put) → putBy flow (events q ts) ++ toCome q ts flow ≡ q flow
 in-order-from flow [] q = refl
-in-order-from flow (message p ∷ ts) q = in-order-from flow ts q
+in-order-from flow (between p ∷ ts) q = in-order-from flow ts q
 in-order-from flow (next other ∷ ts) q = go (q other) refl (sameFlow flow other) refl (in-order-from flow ts (advance q other))
   where
     rest : List Put
@@ -46,7 +47,7 @@ in-order-from flow (next other ∷ ts) q = go (q other) refl (sameFlow flow othe
         ap (λ (b : Bool). cond b (x ∷ others) others ++ rest) t ∙ ih ∙ ap (λ (b : Bool). cond b (tail (q flow)) (q flow)) t
 
 pub in-order : InOrder
-in-order device mtu s flow = in-order-from flow (s .turns) (queues device mtu s)
+in-order setup s flow = in-order-from flow (s .turns) (queues setup s)
 
 -- ---- A flow's whole PDUs are those that its packets complete
 
@@ -64,42 +65,42 @@ completes flow (put other x ∷ es) = go (x .whole) refl (sameFlow flow other) r
 
 -- ---- The packets of a PDU complete it, if it lost nothing
 
-module _ (device mtu : ℕ) (flow : Flow) (s : Sent) (more : List Put) where
-  whole-of : (k : ℕ) (last : Bool) → isFinal mtu (s .pdu .bytes) k ≡ last → putOf device mtu flow s k .whole ≡ cond (last && isWhole mtu s) (some (s .pdu)) none
+module _ (setup : Setup) (flow : Flow) (s : Sent) (more : List Put) where
+  whole-of : (k : ℕ) (last : Bool) → isFinal (setup .mtu) (s .pdu .bytes) k ≡ last → putOf setup flow s k .whole ≡ cond (last && isWhole (setup .mtu) s) (some (s .pdu)) none
   unfolding putOf
   whole-of k last e = rw e
 
-  completed-from : (n k : ℕ) → k + suc n ≡ packetCount mtu s → completed (putsFrom device mtu flow s k (suc n) ++ more) ≡ also (cond (isWhole mtu s) (some (s .pdu)) none) (completed more)
+  completed-from : (n k : ℕ) → k + suc n ≡ packetCount (setup .mtu) s → completed (putsFrom setup flow s k (suc n) ++ more) ≡ also (cond (isWhole (setup .mtu) s) (some (s .pdu)) none) (completed more)
   unfolding isFinal
-  completed-from zero k e = rw (whole-of k true (eq-eqb (k + 1) (packetCount mtu s) (omega arith)))
-  completed-from (suc n) k e = rw (whole-of k false (ne-eqb (k + 1) (packetCount mtu s) (λ t. omega arith))) (completed-from n (suc k) (omega arith))
+  completed-from zero k e = rw (whole-of k true (eq-eqb (k + 1) (packetCount (setup .mtu) s) (omega arith)))
+  completed-from (suc n) k e = rw (whole-of k false (ne-eqb (k + 1) (packetCount (setup .mtu) s) (λ t. omega arith))) (completed-from n (suc k) (omega arith))
 
 -- and so for all PDUs of a flow
-pub flow-completed : (device mtu R : ℕ) (flow : Flow) → badMTU mtu ≡ false → (ss : List Sent) → Each (FairPDU R) ss → completed (flowPuts device mtu flow ss) ≡ intact mtu ss
-flow-completed device mtu R flow allowed [] fair = refl
-flow-completed device mtu R flow allowed (s ∷ ss) fair = go (packetCount mtu s) refl (flow-completed device mtu R flow allowed ss (fair .1))
+pub flow-completed : (setup : Setup) (flow : Flow) → badMTU (setup .mtu) ≡ false → (ss : List Sent) → Each (FairPDU (setup .room)) ss → completed (flowPuts setup flow ss) ≡ intact (setup .mtu) ss
+flow-completed setup flow allowed [] fair = refl
+flow-completed setup flow allowed (s ∷ ss) fair = go (packetCount (setup .mtu) s) refl (flow-completed setup flow allowed ss (fair .1))
   where
-    by-whole : (b : Bool) → completed (flowPuts device mtu flow ss) ≡ intact mtu ss
-        → also (cond b (some (s .pdu)) none) (completed (flowPuts device mtu flow ss)) ≡ cond b (s .pdu ∷ intact mtu ss) (intact mtu ss)
+    by-whole : (b : Bool) → completed (flowPuts setup flow ss) ≡ intact (setup .mtu) ss
+        → also (cond b (some (s .pdu)) none) (completed (flowPuts setup flow ss)) ≡ cond b (s .pdu ∷ intact (setup .mtu) ss) (intact (setup .mtu) ss)
     by-whole true e = ap (λ (l : List PDU). s .pdu ∷ l) e
     by-whole false e = e
 
-    go : (c : ℕ) → packetCount mtu s ≡ c → completed (flowPuts device mtu flow ss) ≡ intact mtu ss → completed (putsFrom device mtu flow s 0 c ++ flowPuts device mtu flow ss) ≡ intact mtu (s ∷ ss)
-    go zero e rest = absurd (omega (arith, count-pos mtu (length (s .pdu .bytes)) allowed (fair .0 .some-byte)))
-    go (suc n) e rest = completed-from device mtu flow s (flowPuts device mtu flow ss) n 0 (omega arith) ∙ by-whole (isWhole mtu s) rest
+    go : (c : ℕ) → packetCount (setup .mtu) s ≡ c → completed (flowPuts setup flow ss) ≡ intact (setup .mtu) ss → completed (putsFrom setup flow s 0 c ++ flowPuts setup flow ss) ≡ intact (setup .mtu) (s ∷ ss)
+    go zero e rest = absurd (omega (arith, count-pos (setup .mtu) (length (s .pdu .bytes)) allowed (fair .0 .some-byte)))
+    go (suc n) e rest = completed-from setup flow s (flowPuts setup flow ss) n 0 (omega arith) ∙ by-whole (isWhole (setup .mtu) s) rest
 
 -- the PDUs of a listed flow are fair
-sent-fair : (mtu R : ℕ) (xs : List FlowSent) → Each (FairFlow mtu R) xs → (flow : Flow) → Each (FairPDU R) (sentOn xs flow)
-sent-fair mtu R [] fair flow = tt
-sent-fair mtu R (x ∷ xs) fair flow = go (sameFlow flow (x .flow)) (sent-fair mtu R xs (fair .1) flow)
+sent-fair : (setup : Setup) (xs : List FlowSent) → Each (FairFlow setup) xs → (flow : Flow) → Each (FairPDU (setup .room)) (sentOn xs flow)
+sent-fair setup [] fair flow = tt
+sent-fair setup (x ∷ xs) fair flow = go (sameFlow flow (x .flow)) (sent-fair setup xs (fair .1) flow)
   where
-    go : (t : Bool) → Each (FairPDU R) (sentOn xs flow) → Each (FairPDU R) (cond t (x .sent) (sentOn xs flow))
+    go : (t : Bool) → Each (FairPDU (setup .room)) (sentOn xs flow) → Each (FairPDU (setup .room)) (cond t (x .sent) (sentOn xs flow))
     go true rest = fair .0 .PDUs
     go false rest = rest
 
 pub whole-is-intact : WholeIsIntact
-whole-is-intact device mtu R s flow fair done =
-    let on : List Put = putBy flow (events (queues device mtu s) (s .turns)) in
-    let all : on ≡ queues device mtu s flow = sym (append-nil on) ∙ ap (λ (l : List Put). on ++ l) (sym done) ∙ in-order device mtu s flow in
-    completes flow (events (queues device mtu s) (s .turns)) ∙ ap completed all
-    ∙ flow-completed device mtu R flow (fair .allowed-MTU) (sentOn (s .flows) flow) (sent-fair mtu R (s .flows) (fair .flows) flow)
+whole-is-intact setup s flow allowed fair done =
+    let on : List Put = putBy flow (events (queues setup s) (s .turns)) in
+    let all : on ≡ queues setup s flow = sym (append-nil on) ∙ ap (λ (l : List Put). on ++ l) (sym done) ∙ in-order setup s flow in
+    completes flow (events (queues setup s) (s .turns)) ∙ ap completed all
+    ∙ flow-completed setup flow allowed (sentOn (s .flows) flow) (sent-fair setup (s .flows) (fair .flows) flow)

@@ -25,9 +25,11 @@ use Rattle.stream_rooms.specs.Placing as placing
 use Rattle.streams.specs.Joining as stream
 use Rattle.message_rooms.specs.Placing as boxes
 use Rattle.messages.specs.Joining as message
-use Rattle.reading.specs.Table.{Lent, stateIn, segmentIn, messageSegmentIn, isState, is9, wrongMemory, wrongSizes, table}
-use Rattle.reading.specs.Read.{lent, ofStream, ofMessage, leaving, outcome, reading}
-use Rattle.flows.specs.Board.{room, inRoom}
+use Rattle.reading.specs.Table.{Lent, lent, stateIn, segmentIn, messageSegmentIn, isState, is9, wrongSizes, table}
+use Rattle.reading.proofs.Left.{sizes-fit}
+use Rattle.reading.specs.Read.{ofStream, ofMessage, leaving, outcome, reading}
+use Rattle.reading.specs.Desk.{Desk, stateOn}
+use Rattle.flows.specs.Deliveries.{inRoom}
 use Rattle.sending.specs.OfSendings.{LengthIsMeasured}
 
 -- the answer is no delivery
@@ -124,11 +126,8 @@ of-9 : (nine b : Bool) → nine ≡ true → (nine && b) ≡ false → b ≡ fal
 of-9 true b e h = h
 of-9 false b e h = absurd (false≢true e)
 
-right-size : (s : State) (streams messages response : List ℕ) → wrongSizes s streams messages response ≡ false → length streams ≡ 16 * s .setup .room
-unfolding wrongSizes
-right-size s streams messages response e =
-    let rooms = or-false (not (eqb (length streams) (16 * s .setup .room))) _ (or-false (not (eqb (length streams) (16 * s .setup .room)) || not (eqb (length messages) 32768)) _ e .0) .0 in
-    eqb-true (length streams) (16 * s .setup .room) (not-false (eqb (length streams) (16 * s .setup .room)) rooms)
+right-size : (d : Desk) → wrongSizes d ≡ false → length (d .streamMemory) ≡ 16 * stateOn d .setup .room
+right-size d e = sizes-fit d e .0
 
 below-16 : (s : State) (g : Segment) → notOpen s g ≡ false → noneFree s g ≡ false → stream.contextFor s g < 16
 unfolding notOpen noneFree
@@ -144,11 +143,11 @@ unfolding reading
 length-is-measured b p context source cos st size = by-verdict (verdict (table x)) refl
   where
     x : Lent
-    x = lent (b .words) (b .streamMemory) (b .messageMemory) (b .response) p
+    x = lent b p
 
     placeable : is9 x ≡ true → none (table x) → Placeable (stateIn x) (b .streamMemory) (segmentIn x)
     placeable nine rows = unfold none table in record {
-      size = right-size (stateIn x) (b .streamMemory) (b .messageMemory) (b .response) (or-false (not (isState x)) (wrongMemory x) (rows .1 .0) .1);
+      size = right-size b (or-false (not (isState x)) (wrongSizes b) (rows .1 .0) .1);
       context = below-16 (stateIn x) (segmentIn x) (of-9 (is9 x) _ nine (rows .1 .1 .1 .1 .1 .1 .1 .1 .1 .1 .1 .0)) (of-9 (is9 x) _ nine (rows .1 .1 .1 .1 .1 .1 .1 .1 .1 .1 .1 .1 .1 .0));
       fits = unfold passesRoom in (ltb-false (stateIn x .setup .room) (total (stateIn x) (segmentIn x)) (of-9 (is9 x) _ nine (rows .1 .1 .1 .1 .1 .1 .1 .1 .1 .1 .1 .1 .0)));
     }
@@ -159,11 +158,11 @@ length-is-measured b p context source cos st size = by-verdict (verdict (table x
         (ofMessage x (message.messageAccepted (stateIn x) (b .messageMemory) (b .response) p (messageSegmentIn x)))) .says ≡ answers.delivered context source cos st size
         → length (inRoom (stateIn x .setup .room) ((cond t
         (ofStream x (stream.accepted (stateIn x) (b .streamMemory) p (segmentIn x)))
-        (ofMessage x (message.messageAccepted (stateIn x) (b .messageMemory) (b .response) p (messageSegmentIn x)))) .streamMemory) context size) ≡ size
+        (ofMessage x (message.messageAccepted (stateIn x) (b .messageMemory) (b .response) p (messageSegmentIn x)))) .desk .streamMemory) context size) ≡ size
     by-type true nine rows e = measured-stream (stateIn x) (b .streamMemory) p (segmentIn x) (placeable nine rows) context source cos st size e
     by-type false nine rows e = absurd (messages-none (stateIn x) (b .messageMemory) (b .response) p (messageSegmentIn x) context source cos st size e)
 
     by-verdict : (v : Verdict) → verdict (table x) ≡ v → outcome x v .says ≡ answers.delivered context source cos st size
-        → length (inRoom (stateIn x .setup .room) (outcome x v .streamMemory) context size) ≡ size
+        → length (inRoom (stateIn x .setup .room) (outcome x v .desk .streamMemory) context size) ≡ size
     by-verdict (refuse number leaves) e d = absurd (leaving-none x number leaves context source cos st size d)
     by-verdict accept e d = by-type (is9 x) refl (none-held (table x) e) d

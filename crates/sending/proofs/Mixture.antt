@@ -1,6 +1,6 @@
 -- The premises can be met, by computation.
 use Prim.Native.Nat.{ℕ, zero, suc, _≤_, _<_}
-use mathlib.Core.Path.{_≡_, refl}
+use mathlib.Core.Path.{_≡_, refl, ap, sym, _∙_}
 use mathlib.Core.List.{List, [], _∷_}
 use mathlib.Core.Bool.{Bool, true, false, _&&_, false≢true}
 use native.Mathlib.Omega.{arith}
@@ -8,11 +8,15 @@ use lib.ListN.{getD}
 use lib.Dec.{ltb}
 use borrow.Author.Tests.{ltb-true}
 use Rattle.wire.specs.Type9.{sameFlow}
-use Rattle.sizes.specs.Sizes.{badMTU}
+use Rattle.wire.specs.Type11.{messageOf}
+use Rattle.wire.specs.declared.Segment.{Segment}
+use Rattle.wire.specs.declared.Parsed.{Parsed}
+use Rattle.wire.specs.declared.Parsed.the-variants.{Refused, Stream, Message}
+use Rattle.wire.specs.Parsed.{parsed, parsedByType}
 use Rattle.cutting.specs.Cutting.{segmentCount, segmentData, isFirst, isFinal, padOf, flagsOf, fieldOf, packetOf}
 use Rattle.flows.specs.ByFlow.{AreBytes}
 use Rattle.sending.specs.Sending.{putOf, FairPDU, Fair}
-use Rattle.sending.specs.Mixture.{lossy, sound, odd, letterOne, reservedSsize, mixture, MixtureIsFair}
+use Rattle.sending.specs.Mixture.{smallSetup, lossy, sound, odd, letterOne, reservedSsize, mixture, MixtureIsFair}
 
 -- whether every number of a list is below a bound
 unfoldable pub under : ℕ → List ℕ → Bool
@@ -47,21 +51,29 @@ fair-odd : FairPDU 64 odd
 unfolding under
 fair-odd = record { stream = omega arith; bytes = are-bytes (odd .pdu .bytes) refl; some-byte = omega arith; fits = omega arith; priorities = priorities (odd .priorities) refl }
 
-fair-mixture : Fair 1 32 64 mixture
-unfolding badMTU segmentCount under
+-- a packet that is parsed as no segment
+isSegment : Parsed → Bool
+isSegment (Refused number) = false
+isSegment (Stream g) = true
+isSegment (Message m) = false
+
+no-segment : (p : List ℕ) → isSegment (parsed 1 p) ≡ false → (g : Segment) → parsed 1 p ≡ Stream g → ⊥
+unfolding isSegment
+no-segment p e g s = false≢true (sym e ∙ ap isSegment s)
+
+fair-mixture : Fair smallSetup mixture
+unfolding segmentCount under parsed parsedByType messageOf isSegment
 fair-mixture = record {
-  but-losses = record {
-    device-ID = omega arith;
-    allowed-MTU = refl;
-    allowed-R = omega arith;
+  sent-fairly = record {
     sixteen = omega arith;
     flows = (
-      record { source = omega arith; cos = omega arith; PDUs = (fair-lossy, (fair-sound, tt)); apart = (refl, tt) },
-      (record { source = omega arith; cos = omega arith; PDUs = (fair-odd, tt); apart = tt }, tt),
+      record { source = omega arith; cos = omega arith; PDUs = (fair-lossy, (fair-sound, tt))},
+      (record { source = omega arith; cos = omega arith; PDUs = (fair-odd, tt)}, tt),
     );
-    turns = (tt, (tt, ((refl, are-bytes letterOne refl), (tt, (tt, ((refl, are-bytes reservedSsize refl), (tt, (tt, (tt, tt)))))))));
+    turns = (tt, (tt, ((no-segment letterOne refl, are-bytes letterOne refl), (tt, (tt, ((no-segment reservedSsize refl, are-bytes reservedSsize refl), (tt, (tt, (tt, tt)))))))));
   };
   one-loss = ((omega arith, (omega arith, tt)), ((omega arith, tt), tt));
+  neighbours = ((refl, tt), (tt, tt));
 }
 
 pub mixture-is-fair : MixtureIsFair

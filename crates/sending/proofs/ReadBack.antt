@@ -9,12 +9,14 @@ use lib.ListN.{length, take}
 use lib.Seq.{length-take-le}
 use Rattle.answers.specs.Answers as answers
 use Rattle.wire.specs.declared.Flow.{Flow}
+use Rattle.contexts.specs.State.{Setup}
 use Rattle.flows.specs.OneFlow.{PDU, pdu, Told, held, delivered, refused, FlowOutcome, flowOutcome}
-use Rattle.flows.specs.Board.{Board, Delivery, delivery, deliveredBy, read, inRoom, view}
+use Rattle.reading.specs.Desk.{Desk}
+use Rattle.flows.specs.Deliveries.{Delivery, delivery, deliveredBy, read, inRoom, view}
 use Rattle.flows.specs.ByFlow.{Tells}
 use Rattle.sending.specs.Sending.{Sent, packetCount, FairPDU, Ranges}
 use Rattle.sending.specs.OneFlow.{packetStep}
-use Rattle.sending.specs.OfSendings.{packetAt, boardAt, HandsBack, ReadsBack, ReadBack}
+use Rattle.sending.specs.OfSendings.{packetAt, deskAt, HandsBack, ReadsBack, ReadBack}
 use Rattle.sending.proofs.Steps.{inner-size, data-behind, all-taken, at-single, at-start, at-inner, at-last}
 use Rattle.sending.proofs.OneFlow.{proper-packet}
 use Rattle.sending.proofs.Rooms.{Carried, carried}
@@ -58,7 +60,7 @@ module _ (R : ℕ) (memory : List ℕ) (flow : Flow) (p : PDU) where
   numbers (answers.wrote size) e = nothing e
 
 -- the same with the length, which is that of the bytes
-hands-back : (R : ℕ) (flow : Flow) (p : PDU) (b : Board) (says : answers.Said)
+hands-back : (R : ℕ) (flow : Flow) (p : PDU) (b : Desk) (says : answers.Said)
     → ((context source cos stream size : ℕ) → says ≡ answers.delivered context source cos stream size → length (inRoom R (b .streamMemory) context size) ≡ size)
     → deliveredBy R (b .streamMemory) says ≡ delivery flow p ∷ [] → HandsBack R flow p b says
 hands-back R flow p b says measured e =
@@ -72,73 +74,73 @@ hands-back R flow p b says measured e =
 
 -- ---- The PDU's packets, one after the other
 
-module _ (device mtu R : ℕ) (flow : Flow) (s : Sent) (b : Board) (ranges : Ranges device mtu R flow) (fair : FairPDU R s) (begins : Carried device mtu R (flow ∷ []) b) where
+module _ (setup : Setup) (flow : Flow) (s : Sent) (b : Desk) (ranges : Ranges setup flow) (fair : FairPDU (setup .room) s) (begins : Carried setup (flow ∷ []) b) where
   abbrev bytes : List ℕ
   bytes = s .pdu .bytes
 
   -- what the flow has before packet k
   abbrev before : ℕ → Option PDU
   before zero = none
-  before (suc k) = some (pdu (s .pdu .stream) (take (suc k * mtu) bytes))
+  before (suc k) = some (pdu (s .pdu .stream) (take (suc k * (setup .mtu)) bytes))
 
-  so-far : (k : ℕ) → suc k < packetCount mtu s → length (take (suc k * mtu) bytes) ≡ suc k * mtu
-  so-far k h = let z = inner-size device mtu R flow ranges s fair k h in length-take-le (suc k * mtu) bytes (omega arith)
+  so-far : (k : ℕ) → suc k < packetCount (setup .mtu) s → length (take (suc k * (setup .mtu)) bytes) ≡ suc k * (setup .mtu)
+  so-far k h = let z = inner-size setup flow ranges s fair k h in length-take-le (suc k * (setup .mtu)) bytes (omega arith)
 
   -- what the endpoint does at it
-  step-inner : (k : ℕ) → suc k < packetCount mtu s → (dropped : Bool) × (packetStep mtu R (before k) (packetAt device mtu flow s k) ≡ flowOutcome (before (suc k)) held dropped)
-  step-inner zero h = (false, at-start device mtu R flow ranges s fair none h)
+  step-inner : (k : ℕ) → suc k < packetCount (setup .mtu) s → (dropped : Bool) × (packetStep setup (before k) (packetAt setup flow s k) ≡ flowOutcome (before (suc k)) held dropped)
+  step-inner zero h = (false, at-start setup flow ranges s fair none h)
   step-inner (suc k) h =
       let l = so-far k (omega arith) in
-      let z = inner-size device mtu R flow ranges s fair (suc k) h in (
+      let z = inner-size setup flow ranges s fair (suc k) h in (
         false,
-        at-inner device mtu R flow ranges s fair k (pdu (s .pdu .stream) (take (suc k * mtu) bytes)) h (omega (arith, fair .fits))
-            ∙ ap (λ (x : List ℕ). flowOutcome (some (pdu (s .pdu .stream) x)) held false) (data-behind device mtu R flow ranges s fair (suc k)),
+        at-inner setup flow ranges s fair k (pdu (s .pdu .stream) (take (suc k * (setup .mtu)) bytes)) h (omega (arith, fair .fits))
+            ∙ ap (λ (x : List ℕ). flowOutcome (some (pdu (s .pdu .stream) x)) held false) (data-behind setup flow ranges s fair (suc k)),
       )
 
-  step-last : (k : ℕ) → suc k ≡ packetCount mtu s → packetStep mtu R (before k) (packetAt device mtu flow s k) .told ≡ delivered (s .pdu)
-  step-last zero e = ap (λ (x : FlowOutcome). x .told) (at-single device mtu R flow ranges s fair none e)
+  step-last : (k : ℕ) → suc k ≡ packetCount (setup .mtu) s → packetStep setup (before k) (packetAt setup flow s k) .told ≡ delivered (s .pdu)
+  step-last zero e = ap (λ (x : FlowOutcome). x .told) (at-single setup flow ranges s fair none e)
   step-last (suc k) e =
-      ap (λ (x : FlowOutcome). x .told) (at-last device mtu R flow ranges s fair k (pdu (s .pdu .stream) (take (suc k * mtu) bytes)) e (so-far k (omega arith)))
-      ∙ ap (λ (x : List ℕ). delivered (pdu (s .pdu .stream) x)) (data-behind device mtu R flow ranges s fair (suc k) ∙ all-taken device mtu R flow ranges s fair (suc k) e)
+      ap (λ (x : FlowOutcome). x .told) (at-last setup flow ranges s fair k (pdu (s .pdu .stream) (take (suc k * (setup .mtu)) bytes)) e (so-far k (omega arith)))
+      ∙ ap (λ (x : List ℕ). delivered (pdu (s .pdu .stream) x)) (data-behind setup flow ranges s fair (suc k) ∙ all-taken setup flow ranges s fair (suc k) e)
 
   -- the board before packet k
   record Before (k : ℕ) : Type 0 where
-    ok : begins .Ok (boardAt device mtu flow s b k)
-    has : view (boardAt device mtu flow s b k) flow ≡ before k
+    ok : begins .Ok (deskAt setup flow s b k)
+    has : view (deskAt setup flow s b k) flow ≡ before k
 
-  call : (k : ℕ) → k < packetCount mtu s → Before k → Own (begins .Ok) mtu R flow (boardAt device mtu flow s b k) (packetAt device mtu flow s k)
+  call : (k : ℕ) → k < packetCount (setup .mtu) s → Before k → Own (begins .Ok) setup flow (deskAt setup flow s b k) (packetAt setup flow s k)
   call k below at =
-      by-own device mtu R (flow ∷ []) (begins .Ok) (begins .law) (begins .own-R) flow (among-itself flow) (boardAt device mtu flow s b k) (packetAt device mtu flow s k) (at .ok)
-      (proper-packet device mtu R flow ranges s fair k below)
+      by-own setup (flow ∷ []) (begins .Ok) (begins .law) (begins .own-R) flow (among-itself flow) (deskAt setup flow s b k) (packetAt setup flow s k) (at .ok)
+      (proper-packet setup flow ranges s fair k below)
 
-  reached : (k : ℕ) → k < packetCount mtu s → Before k
+  reached : (k : ℕ) → k < packetCount (setup .mtu) s → Before k
   reached zero below = record { ok = begins .ok; has = begins .closed flow }
   reached (suc k) below =
       let at = reached k (omega arith) in
       let c = call k (omega arith) at in
       record {
         ok = c .ok;
-        has = c .own ∙ ap (λ (o : Option PDU). packetStep mtu R o (packetAt device mtu flow s k) .next) (at .has) ∙ ap (λ (x : FlowOutcome). x .next) (step-inner k below .1);
+        has = c .own ∙ ap (λ (o : Option PDU). packetStep setup o (packetAt setup flow s k) .next) (at .has) ∙ ap (λ (x : FlowOutcome). x .next) (step-inner k below .1);
       }
 
-  tells-at : (k : ℕ) (told : Told) → k < packetCount mtu s → packetStep mtu R (before k) (packetAt device mtu flow s k) .told ≡ told
-      → Tells R (boardAt device mtu flow s b (suc k) .streamMemory) flow (read (boardAt device mtu flow s b k) (packetAt device mtu flow s k) .says) told
+  tells-at : (k : ℕ) (told : Told) → k < packetCount (setup .mtu) s → packetStep setup (before k) (packetAt setup flow s k) .told ≡ told
+      → Tells (setup .room) (deskAt setup flow s b (suc k) .streamMemory) flow (read (deskAt setup flow s b k) (packetAt setup flow s k) .says) told
   tells-at k told below e =
       let at = reached k below in
-      subst (Tells R (boardAt device mtu flow s b (suc k) .streamMemory) flow (read (boardAt device mtu flow s b k) (packetAt device mtu flow s k) .says))
-      (ap (λ (o : Option PDU). packetStep mtu R o (packetAt device mtu flow s k) .told) (at .has) ∙ e) (call k below at .tells)
+      subst (Tells (setup .room) (deskAt setup flow s b (suc k) .streamMemory) flow (read (deskAt setup flow s b k) (packetAt setup flow s k) .says))
+      (ap (λ (o : Option PDU). packetStep setup o (packetAt setup flow s k) .told) (at .has) ∙ e) (call k below at .tells)
 
-  reads-back : ReadsBack device mtu R flow s b
+  reads-back : ReadsBack setup flow s b
   reads-back = record {
     each = λ k h. tells-at k held (omega arith) (ap (λ (x : FlowOutcome). x .told) (step-inner k h .1));
     last = λ k e.
-        hands-back R flow (s .pdu) (boardAt device mtu flow s b (suc k)) _
+        hands-back (setup .room) flow (s .pdu) (deskAt setup flow s b (suc k)) _
         (λ context source cos stream size e′.
-        ap (λ (r : ℕ). length (inRoom r (boardAt device mtu flow s b (suc k) .streamMemory) context size)) (sym (begins .own-R (boardAt device mtu flow s b k) (reached k (omega arith) .ok)))
-        ∙ length-is-measured (boardAt device mtu flow s b k) (packetAt device mtu flow s k) context source cos stream size e′)
+        ap (λ (r : ℕ). length (inRoom r (deskAt setup flow s b (suc k) .streamMemory) context size)) (sym (begins .own-R (deskAt setup flow s b k) (reached k (omega arith) .ok)))
+        ∙ length-is-measured (deskAt setup flow s b k) (packetAt setup flow s k) context source cos stream size e′)
         (tells-at k (delivered (s .pdu)) (omega arith) (step-last k e));
   }
 
 -- DEMAND 2.
 pub read-back : ReadBack
-read-back device mtu R flow s b ranges fair begins = reads-back device mtu R flow s b ranges fair (carried device mtu R (flow ∷ []) b begins)
+read-back setup flow s b ranges fair begins = reads-back setup flow s b ranges fair (carried setup (flow ∷ []) b begins)

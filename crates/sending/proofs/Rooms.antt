@@ -9,16 +9,17 @@ use Rattle.wire.specs.declared.Flow.{Flow}
 use Rattle.wire.specs.declared.Segment.{Segment}
 use Rattle.wire.specs.declared.MessageSegment.{MessageSegment}
 use Rattle.wire.specs.Type11.{isSingle}
-use Rattle.contexts.specs.State.{State, freeMessage, messageIn}
+use Rattle.contexts.specs.State.{Setup, State, freeMessage, messageIn}
 use Rattle.contexts.specs.Words.{stateOf, wordsOf}
 use Rattle.messages.specs.Rows.{messageFound as found, messageOpen}
 use Rattle.stream_rooms.specs.Placing as placing
 use Rattle.streams.specs.Joining as stream
 use Rattle.message_rooms.specs.Placing as boxes
 use Rattle.messages.specs.Joining as message
-use Rattle.reading.specs.Table.{Lent, stateIn, segmentIn, messageSegmentIn, is9, table}
-use Rattle.reading.specs.Read.{lent, ofStream, ofMessage, leaving, outcome, reading}
-use Rattle.flows.specs.Board.{Board, after, room, view}
+use Rattle.reading.specs.Table.{Lent, lent, stateIn, segmentIn, messageSegmentIn, is9, table}
+use Rattle.reading.specs.Read.{ofStream, ofMessage, leaving, outcome, reading}
+use Rattle.reading.specs.Desk.{Desk, stateOn}
+use Rattle.flows.specs.Deliveries.{after, view}
 use Rattle.flows.specs.ByFlow.{OwnFlow, NoFlow, ByFlow}
 use Rattle.sending.specs.OfSendings.{Begins}
 
@@ -27,10 +28,10 @@ words-room : (s : State) → stateOf (wordsOf s) .setup .room ≡ s .setup .room
 unfolding stateOf wordsOf
 words-room s = refl
 
-refused-room : (x : Lent) (number : ℕ) (leaves : Leaves) → stateOf (leaving x number leaves .words) .setup .room ≡ stateIn x .setup .room
+refused-room : (x : Lent) (number : ℕ) (leaves : Leaves) → stateOf (leaving x number leaves .desk .words) .setup .room ≡ stateIn x .setup .room
 unfolding stream.refusedClosing
 refused-room x number all = refl
-refused-room x number flowClosed = words-room (stream.refusedClosing (stateIn x) (x .streamMemory) (segmentIn x) number .state)
+refused-room x number flowClosed = words-room (stream.refusedClosing (stateIn x) (x .desk .streamMemory) (segmentIn x) number .state)
 refused-room x number allERROR = refl
 refused-room x number allRETRY = refl
 
@@ -48,36 +49,36 @@ message-room s memory response p m = go (isSingle m) (messageOpen s m)
 
 accepted-room : (x : Lent) (t : Bool)
     → stateOf (cond t
-    (ofStream x (stream.accepted (stateIn x) (x .streamMemory) (x .packet) (segmentIn x)))
-    (ofMessage x (message.messageAccepted (stateIn x) (x .messageMemory) (x .response) (x .packet) (messageSegmentIn x))) .words) .room ≡ stateIn x .setup .room
+    (ofStream x (stream.accepted (stateIn x) (x .desk .streamMemory) (x .packet) (segmentIn x)))
+    (ofMessage x (message.messageAccepted (stateIn x) (x .desk .messageMemory) (x .desk .response) (x .packet) (messageSegmentIn x))) .desk .words) .setup .room ≡ stateIn x .setup .room
 unfolding stream.accepted placing.placed
-accepted-room x true = words-room (stream.accepted (stateIn x) (x .streamMemory) (x .packet) (segmentIn x) .state)
+accepted-room x true = words-room (stream.accepted (stateIn x) (x .desk .streamMemory) (x .packet) (segmentIn x) .state)
 accepted-room x false =
-    words-room (message.messageAccepted (stateIn x) (x .messageMemory) (x .response) (x .packet) (messageSegmentIn x) .state)
-    ∙ message-room (stateIn x) (x .messageMemory) (x .response) (x .packet) (messageSegmentIn x)
+    words-room (message.messageAccepted (stateIn x) (x .desk .messageMemory) (x .desk .response) (x .packet) (messageSegmentIn x) .state)
+    ∙ message-room (stateIn x) (x .desk .messageMemory) (x .desk .response) (x .packet) (messageSegmentIn x)
 
-pub room-stays : (b : Board) (p : List ℕ) → room (after b p) ≡ room b
+pub room-stays : (b : Desk) (p : List ℕ) → stateOn (after b p) .setup .room ≡ stateOn b .setup .room
 unfolding reading
 room-stays b p = go (verdict (table x))
   where
     x : Lent
-    x = lent (b .words) (b .streamMemory) (b .messageMemory) (b .response) p
+    x = lent b p
 
-    go : (v : Verdict) → stateOf (outcome x v .words) .setup .room ≡ stateIn x .setup .room
+    go : (v : Verdict) → stateOf (outcome x v .desk .words) .setup .room ≡ stateIn x .setup .room
     go (refuse number leaves) = refused-room x number leaves
     go accept = accepted-room x (is9 x)
 
 -- so the laws may carry it along
-pub record Carried (device mtu R : ℕ) (flows : List Flow) (b : Board) : Type 1 where
-  pub Ok : Board → Type 0
-  pub law : ByFlow device mtu R flows Ok
-  pub own-R : (c : Board) → Ok c → room c ≡ R
+pub record Carried (setup : Setup) (flows : List Flow) (b : Desk) : Type 1 where
+  pub Ok : Desk → Type 0
+  pub law : ByFlow setup flows Ok
+  pub own-R : (c : Desk) → Ok c → stateOn c .setup .room ≡ setup .room
   pub ok : Ok b
   pub closed : (flow : Flow) → view b flow ≡ none
 
-pub carried : (device mtu R : ℕ) (flows : List Flow) (b : Board) → Begins device mtu R flows b → Carried device mtu R flows b
-carried device mtu R flows b begins = record {
-  Ok = λ (c : Board). begins .Ok c × (room c ≡ R);
+pub carried : (setup : Setup) (flows : List Flow) (b : Desk) → Begins setup flows b → Carried setup flows b
+carried setup flows b begins = record {
+  Ok = λ (c : Desk). begins .Ok c × (stateOn c .setup .room ≡ setup .room);
   law = record {
     of-flow = λ c p g ok bytes e known. own c p g (ok .1) (begins .law .of-flow c p g (ok .0) bytes e known);
     of-message = λ c p m ok bytes e. no c p (ok .1) (begins .law .of-message c p m (ok .0) bytes e);
@@ -88,8 +89,8 @@ carried device mtu R flows b begins = record {
   closed = begins .closed;
 }
   where
-    own : (c : Board) (p : List ℕ) (g : Segment) → room c ≡ R → OwnFlow (begins .Ok) mtu R c p g → OwnFlow (λ (d : Board). begins .Ok d × (room d ≡ R)) mtu R c p g
+    own : (c : Desk) (p : List ℕ) (g : Segment) → stateOn c .setup .room ≡ setup .room → OwnFlow (begins .Ok) setup c p g → OwnFlow (λ (d : Desk). begins .Ok d × (stateOn d .setup .room ≡ setup .room)) setup c p g
     own c p g e o = record { ok = (o .ok, room-stays c p ∙ e); own = o .own; others = o .others; tells = o .tells; drops = o .drops }
 
-    no : (c : Board) (p : List ℕ) → room c ≡ R → NoFlow (begins .Ok) R c p → NoFlow (λ (d : Board). begins .Ok d × (room d ≡ R)) R c p
+    no : (c : Desk) (p : List ℕ) → stateOn c .setup .room ≡ setup .room → NoFlow (begins .Ok) setup c p → NoFlow (λ (d : Desk). begins .Ok d × (stateOn d .setup .room ≡ setup .room)) setup c p
     no c p e o = record { ok = (o .ok, room-stays c p ∙ e); views = o .views; tells = o .tells }

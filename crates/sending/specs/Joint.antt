@@ -9,8 +9,10 @@ use lib.ListN.{length, take, drop, replicate}
 use lib.Dec.{eqb, leb}
 use Rattle.wire.specs.declared.Flow.{Flow}
 use Rattle.flows.specs.OneFlow.{PDU, pdu}
-use Rattle.flows.specs.Board.{Board, delivery}
-use Rattle.sending.specs.Sending.{Sent, isLost, priorityOf, packetCount, losses, flowPuts, next, Sending, packets, whole, deliveries, Ranges, FairPDU, Fair}
+use Rattle.contexts.specs.State.{Setup}
+use Rattle.reading.specs.Desk.{Desk}
+use Rattle.flows.specs.Deliveries.{delivery, deliveries}
+use Rattle.sending.specs.Sending.{Sent, isLost, priorityOf, packetCount, losses, flowPuts, next, Sending, packets, whole, Ranges, FairPDU, FairlySent, OneLossEach, NoNeighboursLose, Fair}
 use Rattle.sending.specs.OneFlow.{flowDeliveries, arriving}
 use Rattle.sending.specs.OfSendings.{Begins}
 
@@ -18,45 +20,45 @@ use Rattle.sending.specs.OfSendings.{Begins}
 unfoldable pub isJoint : ℕ → Sent → Sent → Bool
 isJoint mtu first second = (eqb (packetCount mtu first) 2 && isLost first 1) && (leb 2 (packetCount mtu second) && isLost second 0)
 
--- the first's streamID, its first MTU bytes, and the second's bytes from MTU on: a PDU that nobody sent
+-- the first's streamID, its first MTU bytes, and the second's bytes from MTU on. Nobody sent it, where the two differ in streamID or in the bytes before MTU
 abbrev pub jointPDU : ℕ → Sent → Sent → PDU
 jointPDU mtu first second = pdu (first .pdu .stream) (take mtu (first .pdu .bytes) ++ drop mtu (second .pdu .bytes))
 
 -- what is left of the two
-abbrev pub pairPackets : (device mtu : ℕ) → Flow → Sent → Sent → List (List ℕ)
-pairPackets device mtu flow first second = arriving (flowPuts device mtu flow (first ∷ second ∷ []))
+abbrev pub pairPackets : Setup → Flow → Sent → Sent → List (List ℕ)
+pairPackets setup flow first second = arriving (flowPuts setup flow (first ∷ second ∷ []))
 
 -- two PDUs of 1 to R bytes on one flow, each of which loses exactly one packet
-pub record Pair (device mtu R : ℕ) (flow : Flow) (first second : Sent) : Type 0 where
-  pub ranges : Ranges device mtu R flow
-  pub first-fair : FairPDU R first
-  pub second-fair : FairPDU R second
-  pub first-loses : losses mtu first ≡ 1
-  pub second-loses : losses mtu second ≡ 1
+pub record Pair (setup : Setup) (flow : Flow) (first second : Sent) : Type 0 where
+  pub ranges : Ranges setup flow
+  pub first-fair : FairPDU (setup .room) first
+  pub second-fair : FairPDU (setup .room) second
+  pub first-loses : losses (setup .mtu) first ≡ 1
+  pub second-loses : losses (setup .mtu) second ≡ 1
 
 -- from a closed flow, nothing is delivered of the two, but for the joint, which delivers exactly that PDU
 abbrev pub JointExactly : Type 0
 JointExactly =
-    (device mtu R : ℕ) (flow : Flow) (first second : Sent) → Pair device mtu R flow first second
-    → flowDeliveries mtu R none (pairPackets device mtu flow first second) ≡ cond (isJoint mtu first second) (jointPDU mtu first second ∷ []) []
+    (setup : Setup) (flow : Flow) (first second : Sent) → Pair setup flow first second
+    → flowDeliveries setup none (pairPackets setup flow first second) ≡ cond (isJoint (setup .mtu) first second) (jointPDU (setup .mtu) first second ∷ []) []
 
 -- so something is delivered exactly if the two are a joint
 abbrev pub JointOnly : Type 0
 JointOnly =
-    (device mtu R : ℕ) (flow : Flow) (first second : Sent) → Pair device mtu R flow first second
-    → (flowDeliveries mtu R none (pairPackets device mtu flow first second) ≡ [] → ⊥) ↔ (isJoint mtu first second ≡ true)
+    (setup : Setup) (flow : Flow) (first second : Sent) → Pair setup flow first second
+    → (flowDeliveries setup none (pairPackets setup flow first second) ≡ [] → ⊥) ↔ (isJoint (setup .mtu) first second ≡ true)
 
 -- and what it delivers has the second's length
 abbrev pub JointLength : Type 0
 JointLength =
-    (device mtu R : ℕ) (flow : Flow) (first second : Sent) → Pair device mtu R flow first second
-    → isJoint mtu first second ≡ true → length (jointPDU mtu first second .bytes) ≡ length (second .pdu .bytes)
+    (setup : Setup) (flow : Flow) (first second : Sent) → Pair setup flow first second
+    → isJoint (setup .mtu) first second ≡ true → length (jointPDU (setup .mtu) first second .bytes) ≡ length (second .pdu .bytes)
 
 -- the same of the endpoint, from a board with no open flow
 abbrev pub JointDelivered : Type 1
 JointDelivered =
-    (device mtu R : ℕ) (flow : Flow) (first second : Sent) (b : Board) → Pair device mtu R flow first second → Begins device mtu R (flow ∷ []) b
-    → deliveries b (pairPackets device mtu flow first second) ≡ cond (isJoint mtu first second) (delivery flow (jointPDU mtu first second) ∷ []) []
+    (setup : Setup) (flow : Flow) (first second : Sent) (b : Desk) → Pair setup flow first second → Begins setup (flow ∷ []) b
+    → deliveries b (pairPackets setup flow first second) ≡ cond (isJoint (setup .mtu) first second) (delivery flow (jointPDU (setup .mtu) first second) ∷ []) []
 
 -- NO RECEIVER CAN TELL: two sendings leave the packets of a joint. In the one the two PDUs are sent, and nothing is whole; in the other that PDU is
 -- sent, alone, without loss: it is fair, and the PDU is whole. So the premise of demand 3 that no two neighbours both lose a packet cannot be left out.
@@ -64,19 +66,22 @@ abbrev pub jointSent : ℕ → Sent → Sent → Sent
 jointSent mtu first second = record { pdu = jointPDU mtu first second; lost = []; priorities = priorityOf first 0 ∷ drop 1 (second .priorities) }
 
 -- one flow sends these, with a turn for each packet
-abbrev pub inTurn : (device mtu : ℕ) → Flow → List Sent → Sending
-inTurn device mtu flow sent = record { flows = record { flow = flow; sent = sent } ∷ []; turns = replicate (length (flowPuts device mtu flow sent)) (next flow) }
+abbrev pub inTurn : Setup → Flow → List Sent → Sending
+inTurn setup flow sent = record { flows = record { flow = flow; sent = sent } ∷ []; turns = replicate (length (flowPuts setup flow sent)) (next flow) }
 
-pub record Untold (device mtu R : ℕ) (flow : Flow) (first second : Sent) : Type 0 where
-  -- the two
-  pub two-leave : packets device mtu (inTurn device mtu flow (first ∷ second ∷ [])) ≡ pairPackets device mtu flow first second
-  pub two-whole : whole device mtu (inTurn device mtu flow (first ∷ second ∷ [])) ≡ []
+pub record Untold (setup : Setup) (flow : Flow) (first second : Sent) : Type 0 where
+  -- the two: of demand 3's premises this sending breaks that of neighbours, and no other
+  pub two-sent-fairly : FairlySent setup (inTurn setup flow (first ∷ second ∷ []))
+  pub two-one-loss : OneLossEach setup (inTurn setup flow (first ∷ second ∷ []))
+  pub two-neighbours : NoNeighboursLose setup (inTurn setup flow (first ∷ second ∷ [])) → ⊥
+  pub two-leave : packets setup (inTurn setup flow (first ∷ second ∷ [])) ≡ pairPackets setup flow first second
+  pub two-whole : whole setup (inTurn setup flow (first ∷ second ∷ [])) ≡ []
   -- the one
-  pub fair : Fair device mtu R (inTurn device mtu flow (jointSent mtu first second ∷ []))
-  pub leaves : packets device mtu (inTurn device mtu flow (jointSent mtu first second ∷ [])) ≡ pairPackets device mtu flow first second
-  pub is-whole : whole device mtu (inTurn device mtu flow (jointSent mtu first second ∷ [])) ≡ delivery flow (jointPDU mtu first second) ∷ []
+  pub fair : Fair setup (inTurn setup flow (jointSent (setup .mtu) first second ∷ []))
+  pub leaves : packets setup (inTurn setup flow (jointSent (setup .mtu) first second ∷ [])) ≡ pairPackets setup flow first second
+  pub is-whole : whole setup (inTurn setup flow (jointSent (setup .mtu) first second ∷ [])) ≡ delivery flow (jointPDU (setup .mtu) first second) ∷ []
 
 abbrev pub JointUntold : Type 0
 JointUntold =
-    (device mtu R : ℕ) (flow : Flow) (first second : Sent) → Pair device mtu R flow first second → isJoint mtu first second ≡ true
-    → Untold device mtu R flow first second
+    (setup : Setup) (flow : Flow) (first second : Sent) → Pair setup flow first second → isJoint (setup .mtu) first second ≡ true
+    → Untold setup flow first second

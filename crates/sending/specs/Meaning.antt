@@ -3,29 +3,31 @@
 use Prim.Native.Nat.{ℕ}
 use mathlib.Core.Path.{_≡_}
 use mathlib.Core.List.{List, [], _∷_, _++_}
-use mathlib.Core.Bool.{cond}
+use mathlib.Core.Bool.{false, cond}
 use Rattle.wire.specs.declared.Flow.{Flow}
 use Rattle.wire.specs.Type9.{sameFlow}
+use Rattle.sizes.specs.Sizes.{badMTU}
+use Rattle.contexts.specs.State.{Setup}
 use Rattle.flows.specs.OneFlow.{PDU}
-use Rattle.flows.specs.Board.{Delivery}
-use Rattle.sending.specs.Sending.{Sent, isWhole, Put, Turn, next, message, Sending, sentOn, Event, put, sent, advance, events, queues, whole, FairAnyLoss}
+use Rattle.flows.specs.Deliveries.{Delivery}
+use Rattle.sending.specs.Sending.{Sent, isWhole, Put, Turn, next, between, Sending, sentOn, Event, put, sent, advance, events, queues, whole, FairlySent}
 
 -- what a flow has put on, in order; and what it still has to put on after those turns
 abbrev pub putBy : Flow → List Event → List Put
 putBy flow [] = []
-putBy flow (put other x ∷ es) = cond (sameFlow flow other) (x ∷ putBy flow es) (putBy flow es)
+putBy flow (put turn x ∷ es) = cond (sameFlow flow turn) (x ∷ putBy flow es) (putBy flow es)
 putBy flow (sent p ∷ es) = putBy flow es
 
 abbrev pub toCome : (Flow → List Put) → List Turn → Flow → List Put
 toCome queue [] flow = queue flow
-toCome queue (next other ∷ ts) flow = toCome (advance queue other) ts flow
-toCome queue (message p ∷ ts) flow = toCome queue ts flow
+toCome queue (next turn ∷ ts) flow = toCome (advance queue turn) ts flow
+toCome queue (between p ∷ ts) flow = toCome queue ts flow
 
 -- those that are on it, and then those still to come, are all
 abbrev pub InOrder : Type 0
 InOrder =
-    (device mtu : ℕ) (s : Sending) (flow : Flow)
-    → putBy flow (events (queues device mtu s) (s .turns)) ++ toCome (queues device mtu s) (s .turns) flow ≡ queues device mtu s flow
+    (setup : Setup) (s : Sending) (flow : Flow)
+    → putBy flow (events (queues setup s) (s .turns)) ++ toCome (queues setup s) (s .turns) flow ≡ queues setup s flow
 
 -- the PDUs of a flow that lost nothing; and those of a flow among deliveries
 abbrev pub intact : ℕ → List Sent → List PDU
@@ -38,5 +40,5 @@ fromFlow flow (d ∷ ds) = cond (sameFlow flow (d .flow)) (d .pdu ∷ fromFlow f
 
 abbrev pub WholeIsIntact : Type 0
 WholeIsIntact =
-    (device mtu R : ℕ) (s : Sending) (flow : Flow) → FairAnyLoss device mtu R s → toCome (queues device mtu s) (s .turns) flow ≡ []
-    → fromFlow flow (whole device mtu s) ≡ intact mtu (sentOn (s .flows) flow)
+    (setup : Setup) (s : Sending) (flow : Flow) → badMTU (setup .mtu) ≡ false → FairlySent setup s → toCome (queues setup s) (s .turns) flow ≡ []
+    → fromFlow flow (whole setup s) ≡ intact (setup .mtu) (sentOn (s .flows) flow)

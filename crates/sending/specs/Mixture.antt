@@ -5,8 +5,13 @@ use mathlib.Core.List.{List, [], _∷_}
 use lib.ListN.{replicate}
 use Rattle.wire.specs.declared.Flow.{Flow}
 use Rattle.flows.specs.OneFlow.{pdu}
-use Rattle.flows.specs.Board.{delivery, freshBoard}
-use Rattle.sending.specs.Sending.{Sent, next, message, Sending, losses, packets, whole, deliveries, Fair}
+use Rattle.contexts.specs.State.{Setup, fixed}
+use Rattle.flows.specs.Deliveries.{delivery, deliveries}
+use Rattle.flows.specs.Fresh.{zeroDesk}
+use Rattle.sending.specs.Sending.{Sent, next, between, Sending, losses, packets, whole, Fair}
+
+abbrev pub smallSetup : Setup
+smallSetup = fixed 1 32 64
 
 abbrev pub five : Flow
 five = record { source = 5; cos = 1 }
@@ -37,15 +42,15 @@ abbrev pub mixture : Sending
 mixture = record {
   flows = record { flow = five; sent = lossy ∷ sound ∷ [] } ∷ record { flow = six; sent = odd ∷ [] } ∷ [];
   turns =
-      next five ∷ next six ∷ message letterOne ∷ next five ∷ next five ∷ message reservedSsize
+      next five ∷ next six ∷ between letterOne ∷ next five ∷ next five ∷ between reservedSsize
       ∷ next six ∷ next five ∷ next six ∷ [];
 }
 
 -- it is fair; a packet of it is lost; these are left, to the byte; and these are whole, in the order of their last packets
 pub record MixtureIsFair : Type 0 where
-  pub fair : Fair 1 32 64 mixture
+  pub fair : Fair smallSetup mixture
   pub loses : losses 32 lossy ≡ 1
-  pub left : packets 1 32 mixture
+  pub left : packets smallSetup mixture
       ≡ (0xD9 ∷ 0x00 ∷ 0x01 ∷ 0x00 ∷ 0x05 ∷ 0x01 ∷ 0x80 ∷ 0x00 ∷ 0x01 ∷ replicate 32 7)
       ∷ (0x59 ∷ 0x00 ∷ 0x01 ∷ 0x00 ∷ 0x06 ∷ 0x02 ∷ 0x80 ∷ 0x00 ∷ 0x03 ∷ replicate 32 3)
       ∷ letterOne
@@ -54,8 +59,8 @@ pub record MixtureIsFair : Type 0 where
       ∷ (0x19 ∷ 0x00 ∷ 0x01 ∷ 0x00 ∷ 0x06 ∷ 0x02 ∷ 0x43 ∷ 0x00 ∷ 0x21 ∷ 0x03 ∷ 0x00 ∷ [])
       ∷ (0x19 ∷ 0x00 ∷ 0x01 ∷ 0x00 ∷ 0x05 ∷ 0x01 ∷ 0x40 ∷ 0x00 ∷ 0x28 ∷ replicate 8 9)
       ∷ []
-  pub complete : whole 1 32 mixture ≡ delivery six (pdu 3 (replicate 33 3)) ∷ delivery five (pdu 2 (replicate 40 9)) ∷ []
+  pub complete : whole smallSetup mixture ≡ delivery six (pdu 3 (replicate 33 3)) ∷ delivery five (pdu 2 (replicate 40 9)) ∷ []
 
--- and the endpoint, read packet by packet from a board that was just set up, delivers them
+-- and the endpoint, packet by packet at a desk that was just set up, delivers them
 abbrev pub MixtureDelivered : Type 0
-MixtureDelivered = deliveries (freshBoard 1 32 64 (replicate 1024 0) (replicate 32768 0) (replicate 7 0)) (packets 1 32 mixture) ≡ whole 1 32 mixture
+MixtureDelivered = deliveries (zeroDesk smallSetup) (packets smallSetup mixture) ≡ whole smallSetup mixture

@@ -5,12 +5,13 @@ use mathlib.Core.Bool.{cond}
 use mathlib.Core.Option.{Option, none, some}
 use Rattle.wire.specs.Type9.{segmentOf}
 use Rattle.stream_rooms.specs.Placing.{dataOf}
+use Rattle.contexts.specs.State.{Setup}
 use Rattle.flows.specs.OneFlow.{PDU, Told, held, delivered, refused, FlowOutcome, flowStep}
 use Rattle.sending.specs.Sending.{Put}
 
 -- what the one-flow endpoint does at a packet
-abbrev pub packetStep : (mtu R : ℕ) → Option PDU → List ℕ → FlowOutcome
-packetStep mtu R before p = flowStep mtu R before (segmentOf p) (dataOf p (segmentOf p))
+abbrev pub packetStep : Setup → Option PDU → List ℕ → FlowOutcome
+packetStep setup before p = flowStep setup before (segmentOf p) (dataOf p (segmentOf p))
 
 -- the PDU that an answer delivers, if one
 abbrev pub deliveredPDU : Told → Option PDU
@@ -24,9 +25,9 @@ also none ps = ps
 also (some p) ps = p ∷ ps
 
 -- what it delivers over packets, each with what the one before left
-abbrev pub flowDeliveries : (mtu R : ℕ) → Option PDU → List (List ℕ) → List PDU
-flowDeliveries mtu R before [] = []
-flowDeliveries mtu R before (p ∷ ps) = also (deliveredPDU (packetStep mtu R before p .told)) (flowDeliveries mtu R (packetStep mtu R before p .next) ps)
+abbrev pub flowDeliveries : Setup → Option PDU → List (List ℕ) → List PDU
+flowDeliveries setup before [] = []
+flowDeliveries setup before (p ∷ ps) = also (deliveredPDU (packetStep setup before p .told)) (flowDeliveries setup (packetStep setup before p .next) ps)
 
 -- those that are not lost
 abbrev pub arriving : List Put → List (List ℕ)

@@ -1,4 +1,4 @@
--- What boards send, what is left of it on the backplane, which PDUs are whole, and what the endpoint delivers (document 01, demand 3).
+-- What boards send, what is left of it on the backplane, and which PDUs are whole (document 01, demand 3).
 use Prim.Native.Nat.{ℕ, zero, suc, _+_, _≤_, _<_}
 use mathlib.Core.Path.{_≡_}
 use mathlib.Core.List.{List, [], _∷_, _++_, map, tail}
@@ -7,14 +7,17 @@ use mathlib.Core.Option.{Option, none, some}
 use lib.ListN.{length, getD}
 use lib.Dec.{eqb}
 use Rattle.lists.specs.Each.{Each}
-use Rattle.wire.specs.Packet.{packetType}
 use Rattle.wire.specs.declared.Flow.{Flow}
+use Rattle.wire.specs.declared.Segment.{Segment}
+use Rattle.wire.specs.declared.Parsed.the-variants.{Stream}
 use Rattle.wire.specs.Type9.{sameFlow}
-use Rattle.sizes.specs.Sizes.{badMTU}
+use Rattle.wire.specs.Parsed.{parsed}
+use Rattle.contexts.specs.State.{Setup}
 use Rattle.cutting.specs.declared.Heading.{Heading}
 use Rattle.cutting.specs.Cutting.{segmentCount, isFinal, packetOf}
 use Rattle.flows.specs.OneFlow.{PDU}
-use Rattle.flows.specs.Board.{Board, Delivery, delivery, deliveredBy, read, after, room}
+use Rattle.flows.specs.Deliveries.{Delivery, delivery}
+use Rattle.flows.specs.Fresh.{Allowed}
 use Rattle.flows.specs.ByFlow.{AreBytes}
 
 -- ---- What one flow sends
@@ -68,22 +71,22 @@ headingFor device flow s k = record {
 }
 
 -- packet k of a PDU. The PDU is whole with its last packet, if no packet is lost
-unfoldable pub putOf : (device mtu : ℕ) → Flow → Sent → ℕ → Put
-putOf device mtu flow s k = record {
-  packet = packetOf (headingFor device flow s k) mtu (s .pdu .bytes) k;
+unfoldable pub putOf : Setup → Flow → Sent → ℕ → Put
+putOf setup flow s k = record {
+  packet = packetOf (headingFor (setup .device) flow s k) (setup .mtu) (s .pdu .bytes) k;
   lost = isLost s k;
-  whole = cond (isFinal mtu (s .pdu .bytes) k && isWhole mtu s) (some (s .pdu)) none;
+  whole = cond (isFinal (setup .mtu) (s .pdu .bytes) k && isWhole (setup .mtu) s) (some (s .pdu)) none;
 }
 
 -- n packets from number k on
-abbrev pub putsFrom : (device mtu : ℕ) → Flow → Sent → (k n : ℕ) → List Put
-putsFrom device mtu flow s k zero = []
-putsFrom device mtu flow s k (suc n) = putOf device mtu flow s k ∷ putsFrom device mtu flow s (suc k) n
+abbrev pub putsFrom : Setup → Flow → Sent → (k n : ℕ) → List Put
+putsFrom setup flow s k zero = []
+putsFrom setup flow s k (suc n) = putOf setup flow s k ∷ putsFrom setup flow s (suc k) n
 
 -- all that a flow puts on, in order
-abbrev pub flowPuts : (device mtu : ℕ) → Flow → List Sent → List Put
-flowPuts device mtu flow [] = []
-flowPuts device mtu flow (s ∷ ss) = putsFrom device mtu flow s 0 (packetCount mtu s) ++ flowPuts device mtu flow ss
+abbrev pub flowPuts : Setup → Flow → List Sent → List Put
+flowPuts setup flow [] = []
+flowPuts setup flow (s ∷ ss) = putsFrom setup flow s 0 (packetCount (setup .mtu) s) ++ flowPuts setup flow ss
 
 -- ---- A sending: what each flow sends, and whose turn it is
 
@@ -91,10 +94,10 @@ pub record FlowSent : Type 0 where
   pub flow : Flow
   pub sent : List Sent
 
--- a flow puts its next packet on (where it has none left, the turn passes); or a board sends a packet of type 11, whatever it holds
+-- a flow puts its next packet on (where it has none left, the turn passes); or some board sends any other packet
 pub data Turn : Type 0 where
   next : Flow → Turn
-  message : List ℕ → Turn
+  between : List ℕ → Turn
 
 pub record Sending : Type 0 where
   pub flows : List FlowSent
@@ -125,10 +128,10 @@ advance queue flow other = cond (sameFlow other flow) (tail (queue other)) (queu
 abbrev pub events : (Flow → List Put) → List Turn → List Event
 events queue [] = []
 events queue (next flow ∷ ts) = headOf flow (queue flow) ++ events (advance queue flow) ts
-events queue (message p ∷ ts) = sent p ∷ events queue ts
+events queue (between p ∷ ts) = sent p ∷ events queue ts
 
-abbrev pub queues : (device mtu : ℕ) → Sending → Flow → List Put
-queues device mtu s flow = flowPuts device mtu flow (sentOn (s .flows) flow)
+abbrev pub queues : Setup → Sending → Flow → List Put
+queues setup s flow = flowPuts setup flow (sentOn (s .flows) flow)
 
 -- ---- Two readings of it: the packets that are left, and the PDUs that are whole
 
@@ -147,26 +150,18 @@ wholes (put flow x ∷ es) = tell flow (x .whole) (wholes es)
 wholes (sent p ∷ es) = wholes es
 
 -- what a sending leaves on the backplane
-abbrev pub packets : (device mtu : ℕ) → Sending → List (List ℕ)
-packets device mtu s = packetsLeft (events (queues device mtu s) (s .turns))
+abbrev pub packets : Setup → Sending → List (List ℕ)
+packets setup s = packetsLeft (events (queues setup s) (s .turns))
 
 -- its whole PDUs, in the order of their last packets
-abbrev pub whole : (device mtu : ℕ) → Sending → List Delivery
-whole device mtu s = wholes (events (queues device mtu s) (s .turns))
-
--- ---- What the endpoint delivers: a call for each packet, with the state and the memories that the call before left
-
-abbrev pub deliveries : Board → List (List ℕ) → List Delivery
-deliveries b [] = []
-deliveries b (p ∷ ps) = deliveredBy (room (after b p)) (after b p .streamMemory) (read b p .says) ++ deliveries (after b p) ps
+abbrev pub whole : Setup → Sending → List Delivery
+whole setup s = wholes (events (queues setup s) (s .turns))
 
 -- ---- The premises
 
 -- what all PDUs of a flow share is in its range
-pub record Ranges (device mtu R : ℕ) (flow : Flow) : Type 0 where
-  pub device-ID : device < 65536
-  pub allowed-MTU : badMTU mtu ≡ false
-  pub allowed-R : R ≤ 65536
+pub record Ranges (setup : Setup) (flow : Flow) : Type 0 where
+  pub allowed : Allowed setup
   pub source : flow .source < 65536
   pub cos : flow .cos < 256
 
@@ -178,36 +173,46 @@ pub record FairPDU (R : ℕ) (s : Sent) : Type 0 where
   pub fits : length (s .pdu .bytes) ≤ R
   pub priorities : (k : ℕ) → priorityOf s k ≤ 3
 
--- of two PDUs next to each other at least one is whole
-abbrev pub Apart : ℕ → List Sent → Type 0
-Apart mtu [] = Unit {0}
-Apart mtu (s ∷ []) = Unit {0}
-Apart mtu (s ∷ s′ ∷ ss) = ((isWhole mtu s || isWhole mtu s′) ≡ true) × Apart mtu (s′ ∷ ss)
-
-pub record FairFlow (mtu R : ℕ) (x : FlowSent) : Type 0 where
+pub record FairFlow (setup : Setup) (x : FlowSent) : Type 0 where
   pub source : x .flow .source < 65536
   pub cos : x .flow .cos < 256
-  pub PDUs : Each (FairPDU R) (x .sent)
-  pub apart : Apart mtu (x .sent)
+  pub PDUs : Each (FairPDU (setup .room)) (x .sent)
 
--- a message packet: of type 11, and made of bytes
-abbrev pub FairTurn : Turn → Type 0
-FairTurn (next flow) = Unit {0}
-FairTurn (message p) = (packetType p ≡ 11) × AreBytes p
+-- any other packet is made of bytes, and is no type 9 segment for us: a message, or one that rows 1 to 5 refuse
+abbrev pub FairTurn : Setup → Turn → Type 0
+FairTurn setup (next flow) = Unit {0}
+FairTurn setup (between p) = ((g : Segment) → parsed (setup .device) p ≡ Stream g → ⊥) × AreBytes p
 
--- the demand's premises, and no word of how many packets of a PDU are lost
-pub record FairAnyLoss (device mtu R : ℕ) (s : Sending) : Type 0 where
-  pub device-ID : device < 65536
-  pub allowed-MTU : badMTU mtu ≡ false
-  pub allowed-R : R ≤ 65536
+-- what is sent. That a flow sends one PDU at a time and in order, cut by the rules and addressed to the endpoint, is how `packets` is made
+pub record FairlySent (setup : Setup) (s : Sending) : Type 0 where
+  -- on at most sixteen flows
   pub sixteen : length (s .flows) ≤ 16
-  pub flows : Each (FairFlow mtu R) (s .flows)
-  pub turns : Each FairTurn (s .turns)
+  -- whole PDUs, each no longer than a room
+  pub flows : Each (FairFlow setup) (s .flows)
+  -- flows mixed at will, message packets between, and any others that are no segment for us
+  pub turns : Each (FairTurn setup) (s .turns)
 
--- at most one packet of each PDU is lost
-abbrev pub OneLoss : ℕ → Sent → Type 0
-OneLoss mtu s = losses mtu s ≤ 1
+-- no PDU loses more than one packet
+abbrev pub OneLossEach : Setup → Sending → Type 0
+OneLossEach setup s = Each (λ (x : FlowSent). Each (λ (y : Sent). losses (setup .mtu) y ≤ 1) (x .sent)) (s .flows)
 
-pub record Fair (device mtu R : ℕ) (s : Sending) : Type 0 where
-  pub but-losses : FairAnyLoss device mtu R s
-  pub one-loss : Each (λ (x : FlowSent). Each (OneLoss mtu) (x .sent)) (s .flows)
+-- of two PDUs next to each other at least one is whole
+abbrev pub OneOfTwoWhole : ℕ → List Sent → Type 0
+OneOfTwoWhole mtu [] = Unit {0}
+OneOfTwoWhole mtu (s ∷ []) = Unit {0}
+OneOfTwoWhole mtu (s ∷ s′ ∷ ss) = ((isWhole mtu s || isWhole mtu s′) ≡ true) × OneOfTwoWhole mtu (s′ ∷ ss)
+
+-- no two neighbouring PDUs on one flow both lose one
+abbrev pub NoNeighboursLose : Setup → Sending → Type 0
+NoNeighboursLose setup s = Each (λ (x : FlowSent). OneOfTwoWhole (setup .mtu) (x .sent)) (s .flows)
+
+-- the demand's premises about what is sent and lost
+pub record Fair (setup : Setup) (s : Sending) : Type 0 where
+  pub sent-fairly : FairlySent setup s
+  pub one-loss : OneLossEach setup s
+  pub neighbours : NoNeighboursLose setup s
+
+-- the same, and no word of how many packets of a PDU are lost
+pub record FairAnyLoss (setup : Setup) (s : Sending) : Type 0 where
+  pub sent-fairly : FairlySent setup s
+  pub neighbours : NoNeighboursLose setup s
