@@ -39,3 +39,6 @@ zeroDesk setup = freshDesk setup (replicate (16 * setup .room) 0) (replicate 327
 -- the setup of document 01's examples and of its log program: device 1, MTU 32, R 2,048
 abbrev pub paperSetup : Setup
 paperSetup = fixed 1 32 2048
+
+abbrev pub paperDesk : Desk
+paperDesk = zeroDesk paperSetup

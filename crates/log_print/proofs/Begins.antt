@@ -1,4 +1,4 @@
--- The board that the runs begin with is the log program's; what a log that is too long prints.
+-- The desk that the runs begin with is the log program's; what a log that is too long prints.
 use Prim.Native.Nat.{ℕ, _+_, _≤_, _<_}
 use mathlib.Core.Path.{_≡_, refl, ap, _∙_}
 use mathlib.Core.List.{List}
@@ -14,7 +14,7 @@ use Rattle.refusal19.specs.Refusal19.{badRoom}
 use Rattle.endpoint.specs.Calls.{Stands, setup, setupTable, SetupPromise}
 use Rattle.log_lines.specs.Lines.{badLog}
 use Rattle.log_run.specs.Output.{output}
-use Rattle.log_run.specs.Printing.{board}
+use Rattle.reading.specs.Desk.{desk}
 use Rattle.log_run.proofs.Pieces.{short-log}
 use Rattle.log_run.proofs.Runs.{still}
 
@@ -24,10 +24,10 @@ set-up words r p = ap (λ (x : Stands). x .words) p
 
 -- nothing is put, and the whole output is still to come
 pub begins : (log words : List ℕ) (r : Begun) → length log ≤ 65536 → SetupPromise (replicate 147 0) 1 32 2048 r words
-    → 0 + length (still (board words (replicate 32768 0) (replicate 32768 0) (replicate 7 0)) log 0 0) ≡ length (output log)
+    → 0 + length (still (desk words (replicate 32768 0) (replicate 32768 0) (replicate 7 0)) log 0 0) ≡ length (output log)
 begins log words r small p =
     zero-add _
-    ∙ (ap (λ (w : List ℕ). length (still (board w (replicate 32768 0) (replicate 32768 0) (replicate 7 0)) log 0 0)) (set-up words r p)
+    ∙ (ap (λ (w : List ℕ). length (still (desk w (replicate 32768 0) (replicate 32768 0) (replicate 7 0)) log 0 0)) (set-up words r p)
     ∙ ap length (short-log log small))
 
 pub too-long : (log : List ℕ) → 65536 < length log → 8 ≡ length (output log)

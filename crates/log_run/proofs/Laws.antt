@@ -11,8 +11,9 @@ use Rattle.log_records.proofs.Found.{inside}
 use lib.ListN.{take, drop}
 use Rattle.answers.specs.declared.Reading.{Reading}
 use Rattle.answers.specs.Answers.{said}
-use Rattle.reading.specs.Read.{Left, lent, ReadPromise}
-use Rattle.flows.specs.Board.{Board, boardLeft}
+use Rattle.reading.specs.Table.{lent}
+use Rattle.reading.specs.Read.{Left, ReadPromise}
+use Rattle.reading.specs.Desk.{Desk, desk}
 use Rattle.log_records.specs.declared.Next.{Next}
 use Rattle.log_records.specs.declared.Next.the-variants.{Record, End, Bad}
 use Rattle.log_records.specs.Records.{nextRecord}
@@ -20,9 +21,9 @@ use Rattle.log_lines.specs.Lines.{lineOf, endLine, badLog}
 use Rattle.log_lines.specs.Puts.{LinePut, linePut, putLine}
 use Rattle.log_run.specs.declared.Piece.{Piece}
 use Rattle.log_run.specs.declared.Piece.the-variants.{Line, Last}
-use Rattle.log_run.specs.Printing.{printing, board, recordPrinted, printedBy, printed, LinePromise, Onward}
+use Rattle.log_run.specs.Printing.{printing, recordPrinted, printedBy, printed, LinePromise, Onward}
 
-module _ (b : Board) (log : List ℕ) (at count : ℕ) (out : List ℕ) where
+module _ (b : Desk) (log : List ℕ) (at count : ℕ) (out : List ℕ) where
   -- the end, and a log that is bad there
   pub at-end : (r : ℕ) (line : List ℕ) → nextRecord log at ≡ End → linePut r line ≡ putLine out (endLine count) → LinePromise b log at count out (Last r) b line
   unfolding printed
@@ -35,13 +36,13 @@ module _ (b : Board) (log : List ℕ) (at count : ℕ) (out : List ℕ) where
   -- a record
   pub at-record : (from size next : ℕ) (packet : List ℕ) (r : Reading) (words streams messages response : List ℕ) (n : ℕ) (line : List ℕ)
       → nextRecord log at ≡ Record from size next → packet ≡ take size (drop from log)
-      → ReadPromise (lent (b .words) (b .streamMemory) (b .messageMemory) (b .response) packet) r words streams messages response
+      → ReadPromise (lent b packet) r (desk words streams messages response)
       → linePut n line ≡ putLine out (lineOf (said (r .answer)) (r .dropped))
-      → LinePromise b log at count out (Line n next) (board words streams messages response) line
+      → LinePromise b log at count out (Line n next) (desk words streams messages response) line
   unfolding printed
   at-record from size next packet r words streams messages response n line e same p q =
-      ap (λ (x : LinePut). printing (Line (x .size) next) (board words streams messages response) (x .out)) q
-      ∙ (ap (λ (x : Left). printing (Line (putLine out (lineOf (x .says) (x .dropped)) .size) next) (boardLeft x) (putLine out (lineOf (x .says) (x .dropped)) .out)) p
+      ap (λ (x : LinePut). printing (Line (x .size) next) (desk words streams messages response) (x .out)) q
+      ∙ (ap (λ (x : Left). printing (Line (putLine out (lineOf (x .says) (x .dropped)) .size) next) (x .desk) (putLine out (lineOf (x .says) (x .dropped)) .out)) p
       ∙ (ap (λ (l : List ℕ). recordPrinted b l out next) same
       ∙ sym (ap (printedBy b log count out) e)))
 

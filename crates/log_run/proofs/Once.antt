@@ -28,9 +28,9 @@ write-bad-once out r r′ after after′ p q = put _ r r′ after after′ (p .0
 pub next-line-once : NextLineOnce
 next-line-once b log at count line r r′ after after′ line₁ line₂ p q =
     let e = p ∙ sym q in
-    (ap (λ (l : Printing). l .piece) e, ap (λ (l : Printing). l .board) e, ap (λ (l : Printing). l .out) e)
+    (ap (λ (l : Printing). l .piece) e, ap (λ (l : Printing). l .desk) e, ap (λ (l : Printing). l .out) e)
 
 pub log-run-once : LogRunOnce
 log-run-once b log at count out r r′ after after′ out₁ out₂ p q =
     let e = p ∙ sym q in
-    (ap (λ (l : RunLeft). l .ran) e, ap (λ (l : RunLeft). l .board) e, ap (λ (l : RunLeft). l .out) e)
+    (ap (λ (l : RunLeft). l .ran) e, ap (λ (l : RunLeft). l .desk) e, ap (λ (l : RunLeft). l .out) e)

@@ -10,7 +10,9 @@ use lib.Seq.{take-at}
 use borrow.Author.Tests.{le-ltb}
 use Rattle.lists.specs.Bytes.{written}
 use Rattle.lists.proofs.Written.{written-front}
-use Rattle.flows.specs.Board.{Board, read, after, paperBoard}
+use Rattle.reading.specs.Desk.{Desk}
+use Rattle.flows.specs.Fresh.{paperDesk}
+use Rattle.flows.specs.Deliveries.{read, after}
 use Rattle.log_records.specs.declared.Next.{Next}
 use Rattle.log_records.specs.declared.Next.the-variants.{Record, End, Bad}
 use Rattle.log_records.specs.Records.{Records, before, byNext, nextRecord, recordsFrom, recordsOf}
@@ -37,7 +39,7 @@ written-line : (out line : List ℕ) → 128 ≤ length out → take (putLine ou
 written-line out line room = ap (λ (x : LinePut). take (x .size) (x .out)) (put-there out line room) ∙ written-lines out line
 
 -- one record more
-pub one-more : (b : Board) (count : ℕ) (packet : List ℕ) (r : Records)
+pub one-more : (b : Desk) (count : ℕ) (packet : List ℕ) (r : Records)
     → lineOf (read b packet .says) (read b packet .dropped) ++ outputOf (after b packet) (count + 1) r ≡ outputOf b count (before packet r)
 unfolding outputOf
 one-more b count packet r =
@@ -46,15 +48,15 @@ one-more b count packet r =
     ∙ sym (append-assoc (lineOf (read b packet .says) (read b packet .dropped)) (linesOf (after b packet) (r .packets)) (cond (r .clean) (endLine (count + suc (length (r .packets)))) badLog))
 
 -- from any place on
-from-place : (most : ℕ) (b : Board) (log : List ℕ) (at count : ℕ) (out : List ℕ) → length log - at < most → 128 ≤ length out
+from-place : (most : ℕ) (b : Desk) (log : List ℕ) (at count : ℕ) (out : List ℕ) → length log - at < most → 128 ≤ length out
     → pieces most b log at count out ≡ outputOf b count (recordsFrom most log at)
 unfolding pieces recordsFrom printed outputOf
 from-place zero b log at count out h room = absurd (omega arith)
 from-place (suc most) b log at count out h room = go (nextRecord log at) refl (λ b′ next out′ h′ room′. from-place most b′ log next (count + 1) out′ h′ room′)
   where
     go : (x : Next) → nextRecord log at ≡ x
-        → ((b′ : Board) (next : ℕ) (out′ : List ℕ) → length log - next < most → 128 ≤ length out′ → pieces most b′ log next (count + 1) out′ ≡ outputOf b′ (count + 1) (recordsFrom most log next))
-        → onPiece (λ next. pieces most (printedBy b log count out x .board) log next (count + 1) (printedBy b log count out x .out)) (printedBy b log count out x .out) (printedBy b log count out x .piece)
+        → ((b′ : Desk) (next : ℕ) (out′ : List ℕ) → length log - next < most → 128 ≤ length out′ → pieces most b′ log next (count + 1) out′ ≡ outputOf b′ (count + 1) (recordsFrom most log next))
+        → onPiece (λ next. pieces most (printedBy b log count out x .desk) log next (count + 1) (printedBy b log count out x .out)) (printedBy b log count out x .out) (printedBy b log count out x .piece)
         ≡ outputOf b count (byNext log (recordsFrom most log) x)
     go End e ih = written-line out (endLine count) room ∙ ap endLine (sym (add-zero count))
     go Bad e ih = written-line out badLog room
@@ -67,9 +69,9 @@ from-place (suc most) b log at count out h room = go (nextRecord log at) refl (�
         ∙ one-more b count packet (recordsFrom most log next)
 
 -- the whole output of a log that is not too long
-pub short-log : (log : List ℕ) → length log ≤ 65536 → outputOf paperBoard 0 (recordsFrom (suc (length log)) log 0) ≡ output log
+pub short-log : (log : List ℕ) → length log ≤ 65536 → outputOf paperDesk 0 (recordsFrom (suc (length log)) log 0) ≡ output log
 unfolding output recordsOf
 short-log log small = sym (rw (le-ltb 65536 (length log) small))
 
 pub pieces-make-output : PiecesMakeOutput
-pieces-make-output log out small room = from-place (suc (length log)) paperBoard log 0 0 out (omega arith) room ∙ short-log log small
+pieces-make-output log out small room = from-place (suc (length log)) paperDesk log 0 0 out (omega arith) room ∙ short-log log small

@@ -10,7 +10,8 @@ use borrow.Author.Tests.{le-ltb, lt-ltb}
 use borrow.Rule.Slice.PartMut.{midOf, putMid}
 use Rattle.lists.specs.Bytes.{written}
 use Rattle.lists.proofs.Written.{written-front, written-part, written-behind, length-written}
-use Rattle.flows.specs.Board.{Board, read, after}
+use Rattle.reading.specs.Desk.{Desk}
+use Rattle.flows.specs.Deliveries.{read, after}
 use Rattle.log_records.specs.declared.Next.{Next}
 use Rattle.log_records.specs.declared.Next.the-variants.{Record, End, Bad}
 use Rattle.log_records.specs.Records.{nextRecord}
@@ -26,7 +27,7 @@ use Rattle.log_run.proofs.Pieces.{put-there}
 use Rattle.log_run.specs.Running.{Running, running, linesBefore, recordRan, ranBy, ranFrom, ranOf, RunLeft, runLeft, runLeftBy, leaves, LogRunPromise, RunOnward}
 
 -- ---- every number of steps that is more than the bytes left makes the same run
-ran-enough : (m k : ℕ) (b : Board) (log : List ℕ) (at count room : ℕ) → length log - at < m → length log - at < k
+ran-enough : (m k : ℕ) (b : Desk) (log : List ℕ) (at count room : ℕ) → length log - at < m → length log - at < k
     → ranFrom m b log at count room ≡ ranFrom k b log at count room
 unfolding ranFrom
 ran-enough zero k b log at count room h g = absurd (omega arith)
@@ -35,7 +36,7 @@ ran-enough (suc m) (suc k) b log at count room h g =
     ap (cond (ltb room 128) (running [] b at count false)) (go (nextRecord log at) refl (λ b′ next room′ h′ g′. ran-enough m k b′ log next (count + 1) room′ h′ g′))
   where
     go : (x : Next) → nextRecord log at ≡ x
-        → ((b′ : Board) (next room′ : ℕ) → length log - next < m → length log - next < k → ranFrom m b′ log next (count + 1) room′ ≡ ranFrom k b′ log next (count + 1) room′)
+        → ((b′ : Desk) (next room′ : ℕ) → length log - next < m → length log - next < k → ranFrom m b′ log next (count + 1) room′ ≡ ranFrom k b′ log next (count + 1) room′)
         → ranBy (λ b′ next room′. ranFrom m b′ log next (count + 1) room′) b log at count room x ≡ ranBy (λ b′ next room′. ranFrom k b′ log next (count + 1) room′) b log at count room x
     go End e ih = refl
     go Bad e ih = refl
@@ -46,10 +47,10 @@ ran-enough (suc m) (suc k) b log at count room h g =
         ap (linesBefore line) (ih (after b packet) next (room - length line) (omega (arith, i .within, i .onward)) (omega (arith, i .within, i .onward)))
 
 -- a run from a place on, with steps for the whole log
-abbrev pub rest : Board → List ℕ → ℕ → ℕ → ℕ → Running
+abbrev pub rest : Desk → List ℕ → ℕ → ℕ → ℕ → Running
 rest b log at count room = ranFrom (suc (length log)) b log at count room
 
-module _ (b : Board) (log : List ℕ) (at count room : ℕ) where
+module _ (b : Desk) (log : List ℕ) (at count room : ℕ) where
   -- no room for a line
   pub no-room : room < 128 → rest b log at count room ≡ running [] b at count false
   unfolding ranFrom
@@ -76,13 +77,13 @@ module _ (b : Board) (log : List ℕ) (at count room : ℕ) where
   at-bad h e = rw (le-ltb room 128 h, e)
 
 -- what a run leaves, with no more records than bytes before its place
-pub leaves-is : (b : Board) (log : List ℕ) (at count : ℕ) (out : List ℕ) → count ≤ at → leaves b log at count out ≡ runLeftBy out (rest b log at count (length out))
+pub leaves-is : (b : Desk) (log : List ℕ) (at count : ℕ) (out : List ℕ) → count ≤ at → leaves b log at count out ≡ runLeftBy out (rest b log at count (length out))
 unfolding leaves ranOf
 leaves-is b log at count out h = rw (le-ltb at count h)
 
 -- ---- the loop of `run`: the lines so far stand in the buffer, the whole run is those and what is still to come, and no more records
 -- than bytes were read
-pub record Going (b₀ : Board) (log : List ℕ) (at₀ count₀ : ℕ) (out₀ : List ℕ) (b : Board) (at count : ℕ) (out : List ℕ) (used : ℕ) : Type 0 where
+pub record Going (b₀ : Desk) (log : List ℕ) (at₀ count₀ : ℕ) (out₀ : List ℕ) (b : Desk) (at count : ℕ) (out : List ℕ) (used : ℕ) : Type 0 where
   pub lines : List ℕ
   pub size : used ≡ length lines
   pub front : count₀ ≤ at₀
@@ -93,7 +94,7 @@ pub record Going (b₀ : Board) (log : List ℕ) (at₀ count₀ : ℕ) (out₀ 
   pub whole : rest b₀ log at₀ count₀ (length out₀) ≡ linesBefore lines (rest b log at count (length out₀ - used))
 
 -- nothing so far
-pub begins : (b : Board) (log : List ℕ) (at count : ℕ) (out : List ℕ) → count ≤ at → Going b log at count out b at count out 0
+pub begins : (b : Desk) (log : List ℕ) (at count : ℕ) (out : List ℕ) → count ≤ at → Going b log at count out b at count out 0
 begins b log at count out h = record {
   lines = [];
   size = refl;
@@ -106,9 +107,9 @@ begins b log at count out h = record {
 }
 
 behind-both : (first second : List ℕ) (x : Running) → linesBefore first (linesBefore second x) ≡ linesBefore (first ++ second) x
-behind-both first second x = ap (λ (l : List ℕ). running l (x .board) (x .at) (x .count) (x .over)) (sym (append-assoc first second (x .lines)))
+behind-both first second x = ap (λ (l : List ℕ). running l (x .desk) (x .at) (x .count) (x .over)) (sym (append-assoc first second (x .lines)))
 
-module _ (b₀ : Board) (log : List ℕ) (at₀ count₀ : ℕ) (out₀ : List ℕ) (b : Board) (at count : ℕ) (out : List ℕ) (used : ℕ)
+module _ (b₀ : Desk) (log : List ℕ) (at₀ count₀ : ℕ) (out₀ : List ℕ) (b : Desk) (at count : ℕ) (out : List ℕ) (used : ℕ)
     (g : Going b₀ log at₀ count₀ out₀ b at count out used) where
   -- a line into the part of the buffer that is left
   record Added (line part : List ℕ) (size : ℕ) : Type 0 where
@@ -129,7 +130,7 @@ module _ (b₀ : Board) (log : List ℕ) (at₀ count₀ : ℕ) (out₀ : List �
       }
 
   -- a record's line
-  pub turn : (piece : Piece) (size next : ℕ) (b′ : Board) (part : List ℕ) → piece ≡ Line size next → 128 ≤ length out - used → Onward (length log) at piece
+  pub turn : (piece : Piece) (size next : ℕ) (b′ : Desk) (part : List ℕ) → piece ≡ Line size next → 128 ≤ length out - used → Onward (length log) at piece
       → LinePromise b log at count (midOf used (length out - used) out) piece b′ part
       → Going b₀ log at₀ count₀ out₀ b′ next (count + 1) (putMid used (length out - used) out part) (used + size)
   unfolding printed
@@ -163,17 +164,17 @@ module _ (b₀ : Board) (log : List ℕ) (at₀ count₀ : ℕ) (out₀ : List �
                 g .whole
                 ∙ (ap (linesBefore (g .lines)) (at-record b log at count (length out₀ - used) from n next′ line (omega (arith, g .same)) e refl)
                 ∙ (behind-both (g .lines) line (rest (after b packet) log next′ (count + 1) (length out₀ - used - length line))
-                ∙ (ap (λ (x : Board). linesBefore (g .lines ++ line) (rest x log next′ (count + 1) (length out₀ - used - length line))) (sym (ap (λ (x : Printing). x .board) p))
+                ∙ (ap (λ (x : Desk). linesBefore (g .lines ++ line) (rest x log next′ (count + 1) (length out₀ - used - length line))) (sym (ap (λ (x : Printing). x .desk) p))
                 ∙ ap₂ (λ (x y : ℕ). linesBefore (g .lines ++ line) (rest b′ log x (count + 1) y)) (sym next-is) less)));
           }
 
   -- what the whole run leaves, once no more is to come
-  leaves-lines : (b′ : Board) (line : List ℕ) (over : Bool) → rest b log at count (length out₀ - used) ≡ running line b′ at count over
+  leaves-lines : (b′ : Desk) (line : List ℕ) (over : Bool) → rest b log at count (length out₀ - used) ≡ running line b′ at count over
       → leaves b₀ log at₀ count₀ out₀ ≡ runLeftBy out₀ (running (g .lines ++ line) b′ at count over)
   leaves-lines b′ line over e = leaves-is b₀ log at₀ count₀ out₀ (g .front) ∙ ap (runLeftBy out₀) (g .whole ∙ ap (linesBefore (g .lines)) e)
 
   -- the last line
-  ends-by : (size : ℕ) (b′ : Board) (line part : List ℕ) → 128 ≤ length out - used → size ≤ 128
+  ends-by : (size : ℕ) (b′ : Desk) (line part : List ℕ) → 128 ≤ length out - used → size ≤ 128
       → rest b log at count (length out₀ - used) ≡ running line b at count true
       → printing (Last size) b′ part ≡ lastPrinted b (midOf used (length out - used) out) line
       → LogRunPromise b₀ log at₀ count₀ out₀ (record { used = used + size; at = at; count = count; over = true }) b′ (putMid used (length out - used) out part)
@@ -182,11 +183,11 @@ module _ (b₀ : Board) (log : List ℕ) (at₀ count₀ : ℕ) (out₀ : List �
       let size-is : size ≡ putLine (midOf used (length out - used) out) line .size = cc in
       let a = add-line line part size room few (ap₂ linePut size-is (ap (λ (x : Printing). x .out) p)) in
       let long : used + size ≡ length (g .lines ++ line) = simp length-append (omega (arith, g .size, a .sized)) in
-      ap (λ (x : Board). runLeft (record { used = used + size; at = at; count = count; over = true }) x (putMid used (length out - used) out part)) (ap (λ (x : Printing). x .board) p)
+      ap (λ (x : Desk). runLeft (record { used = used + size; at = at; count = count; over = true }) x (putMid used (length out - used) out part)) (ap (λ (x : Printing). x .desk) p)
       ∙ (ap₂ (λ (k : ℕ) (l : List ℕ). runLeft (record { used = k; at = at; count = count; over = true }) b l) long (a .stored)
       ∙ sym (leaves-lines b line true e))
 
-  pub ends : (piece : Piece) (size : ℕ) (b′ : Board) (part : List ℕ) → piece ≡ Last size → 128 ≤ length out - used → Onward (length log) at piece
+  pub ends : (piece : Piece) (size : ℕ) (b′ : Desk) (part : List ℕ) → piece ≡ Last size → 128 ≤ length out - used → Onward (length log) at piece
       → LinePromise b log at count (midOf used (length out - used) out) piece b′ part
       → LogRunPromise b₀ log at₀ count₀ out₀ (record { used = used + size; at = at; count = count; over = true }) b′ (putMid used (length out - used) out part)
   unfolding printed
@@ -207,25 +208,25 @@ module _ (b₀ : Board) (log : List ℕ) (at₀ count₀ : ℕ) (out₀ : List �
       ∙ sym (leaves-lines b [] false (no-room b log at count (length out₀ - used) (omega (arith, g .same))))
 
 -- more records than bytes before the place
-pub refuses : (b : Board) (log : List ℕ) (at count : ℕ) (out : List ℕ) → at < count
+pub refuses : (b : Desk) (log : List ℕ) (at count : ℕ) (out : List ℕ) → at < count
     → LogRunPromise b log at count out (record { used = 0; at = at; count = count; over = true }) b out
 unfolding leaves ranOf
 refuses b log at count out h = rw (lt-ltb at count h) (ap (runLeft (record { used = 0; at = at; count = count; over = true }) b) (sym (written-front out [])))
 
 -- ---- what holds of every run: of one that puts nothing, or the last line alone; and of a record's line and a run behind it, if of that run
-module _ (log : List ℕ) (P : Board → ℕ → ℕ → Running → Type 0)
-    (nothing : (b : Board) (at count : ℕ) → P b at count (running [] b at count false))
-    (end : (b : Board) (at count : ℕ) → nextRecord log at ≡ End → P b at count (running (endLine count) b at count true))
-    (bad : (b : Board) (at count : ℕ) → nextRecord log at ≡ Bad → P b at count (running badLog b at count true))
-    (line : (b : Board) (at count from size next : ℕ) → nextRecord log at ≡ Record from size next → (x : Running)
+module _ (log : List ℕ) (P : Desk → ℕ → ℕ → Running → Type 0)
+    (nothing : (b : Desk) (at count : ℕ) → P b at count (running [] b at count false))
+    (end : (b : Desk) (at count : ℕ) → nextRecord log at ≡ End → P b at count (running (endLine count) b at count true))
+    (bad : (b : Desk) (at count : ℕ) → nextRecord log at ≡ Bad → P b at count (running badLog b at count true))
+    (line : (b : Desk) (at count from size next : ℕ) → nextRecord log at ≡ Record from size next → (x : Running)
     → P (after b (take size (drop from log))) next (count + 1) x
     → P b at count (linesBefore (lineOf (read b (take size (drop from log)) .says) (read b (take size (drop from log)) .dropped)) x)) where
-  pub by-lines : (most : ℕ) (b : Board) (at count room : ℕ) → P b at count (ranFrom most b log at count room)
+  pub by-lines : (most : ℕ) (b : Desk) (at count room : ℕ) → P b at count (ranFrom most b log at count room)
   unfolding ranFrom
   by-lines zero b at count room = nothing b at count
   by-lines (suc most) b at count room = go (ltb room 128) (nextRecord log at) refl (λ b′ next room′. by-lines most b′ next (count + 1) room′)
     where
-      go : (t : Bool) (x : Next) → nextRecord log at ≡ x → ((b′ : Board) (next room′ : ℕ) → P b′ next (count + 1) (ranFrom most b′ log next (count + 1) room′))
+      go : (t : Bool) (x : Next) → nextRecord log at ≡ x → ((b′ : Desk) (next room′ : ℕ) → P b′ next (count + 1) (ranFrom most b′ log next (count + 1) room′))
           → P b at count (cond t (running [] b at count false) (ranBy (λ b′ next room′. ranFrom most b′ log next (count + 1) room′) b log at count room x))
       go true x e ih = nothing b at count
       go false End e ih = end b at count e
@@ -233,23 +234,23 @@ module _ (log : List ℕ) (P : Board → ℕ → ℕ → Running → Type 0)
       go false (Record from size next) e ih = line b at count from size next e _ (ih _ next _)
 
 -- ---- how far a run comes
-abbrev Inside : List ℕ → Board → ℕ → ℕ → Running → Type 0
+abbrev Inside : List ℕ → Desk → ℕ → ℕ → Running → Type 0
 Inside log b at count x = at ≤ length log → (at ≤ x .at) × (x .at ≤ length log)
 
-inside-log : (most : ℕ) (b : Board) (log : List ℕ) (at count room : ℕ) → Inside log b at count (ranFrom most b log at count room)
+inside-log : (most : ℕ) (b : Desk) (log : List ℕ) (at count room : ℕ) → Inside log b at count (ranFrom most b log at count room)
 inside-log most b log = by-lines log (Inside log) stays (λ b at count e. stays b at count) (λ b at count e. stays b at count) onward most b
   where
-    stays : (b : Board) (at count : ℕ) → at ≤ length log → (at ≤ at) × (at ≤ length log)
+    stays : (b : Desk) (at count : ℕ) → at ≤ length log → (at ≤ at) × (at ≤ length log)
     stays b at count h = (omega arith, h)
 
-    onward : (b : Board) (at count from size next : ℕ) → nextRecord log at ≡ Record from size next → (x : Running) → Inside log (after b (take size (drop from log))) next (count + 1) x → Inside log b at count x
+    onward : (b : Desk) (at count from size next : ℕ) → nextRecord log at ≡ Record from size next → (x : Running) → Inside log (after b (take size (drop from log))) next (count + 1) x → Inside log b at count x
     onward b at count from size next e x ih h =
         let i = inside log at from size next e in
         let r = ih (i .within) in
         (omega (arith, r .0, i .onward), r .1)
 
 -- with room for a line, and not over: past the place
-pub comes-on : (b : Board) (log : List ℕ) (at count room : ℕ) → 128 ≤ room → rest b log at count room .over ≡ false
+pub comes-on : (b : Desk) (log : List ℕ) (at count room : ℕ) → 128 ≤ room → rest b log at count room .over ≡ false
     → (at < rest b log at count room .at) × (rest b log at count room .at ≤ length log)
 comes-on b log at count room h o = go (nextRecord log at) refl
   where
@@ -265,7 +266,7 @@ comes-on b log at count room h o = go (nextRecord log at) refl
         (omega (arith, q, r .0, i .onward), omega (arith, q, r .1))
 
 -- what a caller's loop needs
-pub onward-by : (b : Board) (log : List ℕ) (at count : ℕ) (out : List ℕ) (r : Ran) (b′ : Board) (out′ : List ℕ) → LogRunPromise b log at count out r b′ out′ → r .used ≤ length out
+pub onward-by : (b : Desk) (log : List ℕ) (at count : ℕ) (out : List ℕ) (r : Ran) (b′ : Desk) (out′ : List ℕ) → LogRunPromise b log at count out r b′ out′ → r .used ≤ length out
     → RunOnward (length log) at (length out) r
 unfolding leaves ranOf
 onward-by b log at count out r b′ out′ p fits = (fits, λ room o. go (ltb at count) room (sym (ap (λ (x : RunLeft). x .ran .over) p) ∙ o) (ap (λ (x : RunLeft). x .ran .at) p))

@@ -1,10 +1,10 @@
--- Any two outcomes that a promise about the log allows are one: the answer, the board (the state, both memories, the response) and
+-- Any two outcomes that a promise about the log allows are one: the answer, the desk (the state, both memories, the response) and
 -- every byte of the buffer. For the reader that holds its log: crates/log_reader/specs/Once.antt.
 use Prim.Native.Nat.{ℕ}
 use mathlib.Core.Path.{_≡_}
 use mathlib.Core.List.{List}
 use Rattle.answers.specs.declared.Reading.{Reading}
-use Rattle.flows.specs.Board.{Board}
+use Rattle.reading.specs.Desk.{Desk}
 use Rattle.log_records.specs.declared.Next.{Next}
 use Rattle.log_records.specs.Records.{NextRecordPromise}
 use Rattle.log_lines.specs.Puts.{WriteLinePromise, WriteEndPromise, WriteBadPromise}
@@ -35,14 +35,14 @@ WriteBadOnce = (out : List ℕ) (r r′ : ℕ) (after after′ : List ℕ) → W
 
 abbrev pub NextLineOnce : Type 0
 NextLineOnce =
-    (b : Board) (log : List ℕ) (at count : ℕ) (line : List ℕ) (r r′ : Piece) (after after′ : Board) (line₁ line₂ : List ℕ)
+    (b : Desk) (log : List ℕ) (at count : ℕ) (line : List ℕ) (r r′ : Piece) (after after′ : Desk) (line₁ line₂ : List ℕ)
     → LinePromise b log at count line r after line₁
     → LinePromise b log at count line r′ after′ line₂
     → (r ≡ r′) × (after ≡ after′) × (line₁ ≡ line₂)
 
 abbrev pub LogRunOnce : Type 0
 LogRunOnce =
-    (b : Board) (log : List ℕ) (at count : ℕ) (out : List ℕ) (r r′ : Ran) (after after′ : Board) (out₁ out₂ : List ℕ)
+    (b : Desk) (log : List ℕ) (at count : ℕ) (out : List ℕ) (r r′ : Ran) (after after′ : Desk) (out₁ out₂ : List ℕ)
     → LogRunPromise b log at count out r after out₁
     → LogRunPromise b log at count out r′ after′ out₂
     → (r ≡ r′) × (after ≡ after′) × (out₁ ≡ out₂)

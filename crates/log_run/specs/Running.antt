@@ -6,7 +6,9 @@ use mathlib.Core.List.{List, [], _++_}
 use lib.ListN.{length, take, drop}
 use lib.Dec.{ltb}
 use Rattle.lists.specs.Bytes.{written}
-use Rattle.flows.specs.Board.{Board, read, after, paperBoard}
+use Rattle.reading.specs.Desk.{Desk}
+use Rattle.flows.specs.Fresh.{paperDesk}
+use Rattle.flows.specs.Deliveries.{read, after}
 use Rattle.log_records.specs.declared.Next.{Next}
 use Rattle.log_records.specs.declared.Next.the-variants.{Record, End, Bad}
 use Rattle.log_records.specs.Records.{nextRecord}
@@ -17,34 +19,34 @@ use Rattle.log_run.specs.Output.{output}
 
 -- ---- the lines of a run
 
--- the lines in a row, then the board, the place and the number of records behind them, and whether the run is over
+-- the lines in a row, then the desk, the place and the number of records behind them, and whether the run is over
 pub record Running : Type 0 where
   pub lines : List ℕ
-  pub board : Board
+  pub desk : Desk
   pub at : ℕ
   pub count : ℕ
   pub over : Bool
 
-abbrev pub running : List ℕ → Board → ℕ → ℕ → Bool → Running
-running lines board at count over = record { lines = lines; board = board; at = at; count = count; over = over }
+abbrev pub running : List ℕ → Desk → ℕ → ℕ → Bool → Running
+running lines desk at count over = record { lines = lines; desk = desk; at = at; count = count; over = over }
 
 -- lines before those of a run
 abbrev pub linesBefore : List ℕ → Running → Running
-linesBefore lines x = running (lines ++ x .lines) (x .board) (x .at) (x .count) (x .over)
+linesBefore lines x = running (lines ++ x .lines) (x .desk) (x .at) (x .count) (x .over)
 
 -- a record's packet is read and its line put, and the run goes on behind it with the room that is left
-abbrev pub recordRan : (Board → ℕ → ℕ → Running) → Board → List ℕ → List ℕ → ℕ → ℕ → Running
+abbrev pub recordRan : (Desk → ℕ → ℕ → Running) → Desk → List ℕ → List ℕ → ℕ → ℕ → Running
 recordRan onward b packet line next room = linesBefore line (onward (after b packet) next (room - length line))
 
 -- the last line is `end` and the number of records at a clean end, `bad log` at a bad length or a cut record
-abbrev pub ranBy : (Board → ℕ → ℕ → Running) → Board → List ℕ → ℕ → ℕ → ℕ → Next → Running
+abbrev pub ranBy : (Desk → ℕ → ℕ → Running) → Desk → List ℕ → ℕ → ℕ → ℕ → Next → Running
 ranBy onward b log at count room End = running (endLine count) b at count true
 ranBy onward b log at count room Bad = running badLog b at count true
 ranBy onward b log at count room (Record from size next) =
     recordRan onward b (take size (drop from log)) (lineOf (read b (take size (drop from log)) .says) (read b (take size (drop from log)) .dropped)) next room
 
 -- from a place on, with `count` records before it: lines as long as the room left has every line's room, at most `most` of them
-unfoldable pub ranFrom : ℕ → Board → List ℕ → ℕ → ℕ → ℕ → Running
+unfoldable pub ranFrom : ℕ → Desk → List ℕ → ℕ → ℕ → ℕ → Running
 ranFrom zero b log at count room = running [] b at count false
 ranFrom (suc most) b log at count room =
     cond (ltb room lineRoom)
@@ -52,47 +54,47 @@ ranFrom (suc most) b log at count room =
     (ranBy (λ b′ next room′. ranFrom most b′ log next (count + 1) room′) b log at count room (nextRecord log at))
 
 -- a record takes a byte at least: no log has more records before a place than bytes, and such a run is over with nothing put
-unfoldable pub ranOf : Board → List ℕ → ℕ → ℕ → ℕ → Running
+unfoldable pub ranOf : Desk → List ℕ → ℕ → ℕ → ℕ → Running
 ranOf b log at count room = cond (ltb at count) (running [] b at count true) (ranFrom (suc (length log)) b log at count room)
 
 -- ---- what `run` answers and leaves
 
--- the answer, the board, the buffer
+-- the answer, the desk, the buffer
 pub record RunLeft : Type 0 where
   pub ran : Ran
-  pub board : Board
+  pub desk : Desk
   pub out : List ℕ
 
-abbrev pub runLeft : Ran → Board → List ℕ → RunLeft
-runLeft ran board out = record { ran = ran; board = board; out = out }
+abbrev pub runLeft : Ran → Desk → List ℕ → RunLeft
+runLeft ran desk out = record { ran = ran; desk = desk; out = out }
 
 -- the lines stand in the buffer's front, and the rest of it stays
 abbrev pub runLeftBy : List ℕ → Running → RunLeft
-runLeftBy out x = runLeft (record { used = length (x .lines); at = x .at; count = x .count; over = x .over }) (x .board) (written out 0 (x .lines))
+runLeftBy out x = runLeft (record { used = length (x .lines); at = x .at; count = x .count; over = x .over }) (x .desk) (written out 0 (x .lines))
 
-unfoldable pub leaves : Board → List ℕ → ℕ → ℕ → List ℕ → RunLeft
+unfoldable pub leaves : Desk → List ℕ → ℕ → ℕ → List ℕ → RunLeft
 leaves b log at count out = runLeftBy out (ranOf b log at count (length out))
 
-abbrev pub LogRunPromise : Board → List ℕ → ℕ → ℕ → List ℕ → Ran → Board → List ℕ → Type 0
+abbrev pub LogRunPromise : Desk → List ℕ → ℕ → ℕ → List ℕ → Ran → Desk → List ℕ → Type 0
 LogRunPromise b log at count out r after out′ = runLeft r after out′ ≡ leaves b log at count out
 
 -- the lines have room in the buffer; a run that had room for a line and is not over has come on, and is still inside the log
 abbrev pub RunOnward : ℕ → ℕ → ℕ → Ran → Type 0
 RunOnward n at room r = (r .used ≤ room) × (lineRoom ≤ room → r .over ≡ false → (at < r .at) × (r .at ≤ n))
 
--- ---- runs one after another, each with the board, the place, the count and the buffer that the one before left, until one is over:
+-- ---- runs one after another, each with the desk, the place, the count and the buffer that the one before left, until one is over:
 -- what is written on the way
 
 abbrev pub onRun : List ℕ → RunLeft → List ℕ
 onRun later x = take (x .ran .used) (x .out) ++ cond (x .ran .over) [] later
 
-unfoldable pub runs : ℕ → Board → List ℕ → ℕ → ℕ → List ℕ → List ℕ
+unfoldable pub runs : ℕ → Desk → List ℕ → ℕ → ℕ → List ℕ → List ℕ
 runs zero b log at count out = []
 runs (suc most) b log at count out =
     onRun
-    (runs most (leaves b log at count out .board) log (leaves b log at count out .ran .at) (leaves b log at count out .ran .count) (leaves b log at count out .out))
+    (runs most (leaves b log at count out .desk) log (leaves b log at count out .ran .at) (leaves b log at count out .ran .count) (leaves b log at count out .out))
     (leaves b log at count out)
 
 -- runs into a buffer that has room for a line make the output, and there are no more than the log has bytes, and one
 abbrev pub RunsMakeOutput : Type 0
-RunsMakeOutput = (log out : List ℕ) → length log ≤ 65536 → lineRoom ≤ length out → runs (suc (length log)) paperBoard log 0 0 out ≡ output log
+RunsMakeOutput = (log out : List ℕ) → length log ≤ 65536 → lineRoom ≤ length out → runs (suc (length log)) paperDesk log 0 0 out ≡ output log

@@ -2,7 +2,8 @@
 use log_lines::LINE;
 use log_records::Next;
 ghost use lib.ListN.{length};
-ghost use Rattle.log_run.specs.Printing.{board, LinePromise, Onward};
+ghost use Rattle.reading.specs.Desk.{desk};
+ghost use Rattle.log_run.specs.Printing.{LinePromise, Onward};
 ghost use Rattle.log_run.specs.Running.{LogRunPromise, RunOnward};
 
 // A record's line, with the place behind the record; or the last line.
@@ -23,7 +24,7 @@ pub fn next_line(
     count: usize,
     line: &mut [u8],
 ) -> Piece
-    ensures { λ r. ⌜ LinePromise (board (now (state .entry)) (now («stream_memory» .entry)) (now («message_memory» .entry)) (now (response .entry))) (now (log .entry)) at count (now (line .entry)) r (board (now (state .exit)) (now («stream_memory» .exit)) (now («message_memory» .exit)) (now (response .exit))) (now (line .exit)) ⌝ }
+    ensures { λ r. ⌜ LinePromise (desk (now (state .entry)) (now («stream_memory» .entry)) (now («message_memory» .entry)) (now (response .entry))) (now (log .entry)) at count (now (line .entry)) r (desk (now (state .exit)) (now («stream_memory» .exit)) (now («message_memory» .exit)) (now (response .exit))) (now (line .exit)) ⌝ }
     ensures { λ r. ⌜ Onward (length (now (log .entry))) at r ⌝ }
 {
     let found = log_records::next_record(log, at);
@@ -76,7 +77,7 @@ pub fn run(
     count: usize,
     out: &mut [u8],
 ) -> Ran
-    ensures { λ r. ⌜ LogRunPromise (board (now (state .entry)) (now («stream_memory» .entry)) (now («message_memory» .entry)) (now (response .entry))) (now (log .entry)) at count (now (out .entry)) r (board (now (state .exit)) (now («stream_memory» .exit)) (now («message_memory» .exit)) (now (response .exit))) (now (out .exit)) ⌝ }
+    ensures { λ r. ⌜ LogRunPromise (desk (now (state .entry)) (now («stream_memory» .entry)) (now («message_memory» .entry)) (now (response .entry))) (now (log .entry)) at count (now (out .entry)) r (desk (now (state .exit)) (now («stream_memory» .exit)) (now («message_memory» .exit)) (now (response .exit))) (now (out .exit)) ⌝ }
     ensures { λ r. ⌜ RunOnward (length (now (log .entry))) at (length (now (out .entry))) r ⌝ }
 {
     if at < count {

@@ -3,9 +3,8 @@ use Prim.Native.Nat.{ℕ, _+_, _-_, _*_, _≤_}
 use mathlib.Core.Path.{_≡_, refl, _∙_}
 use mathlib.Core.List.{List}
 use lib.ListN.{length, length-take}
-use Rattle.flows.specs.Board.{Board}
+use Rattle.reading.specs.Desk.{Desk, desk}
 use Rattle.log_run.specs.Output.{output}
-use Rattle.log_run.specs.Printing.{board}
 use Rattle.log_run.proofs.Runs.{still, adds-last, adds-more, few-behind}
 use Rattle.log_print.proofs.Begins.{begins}
 use borrow.Author.Needs.{needs}
@@ -15,7 +14,7 @@ use Rattle.log_print.proofs.print_runs.Tie as tie
 
 -- the arrays keep their lengths; the bytes put and those still to come are the output's; no more records than bytes were read, and each run
 -- puts at most a buffer and comes on by a byte
-record Sums (log : List ℕ) (b : Board) (out : List ℕ) (at count total : ℕ) : Type 0 where
+record Sums (log : List ℕ) (b : Desk) (out : List ℕ) (at count total : ℕ) : Type 0 where
   pub words : length (b .words) ≡ 147
   pub streams : length (b .streamMemory) ≡ 32768
   pub messages : length (b .messageMemory) ≡ 32768
@@ -28,7 +27,7 @@ record Sums (log : List ℕ) (b : Board) (out : List ℕ) (at count total : ℕ)
 
 abbrev Inv-loop : tie.InvT-loop
 Inv-loop log state₀ streams₀ messages₀ response₀ out₀ at₀ count₀ total₀ state streams messages response out at count total =
-    Sums log (board state streams messages response) out at count total
+    Sums log (desk state streams messages response) out at count total
 
 abbrev μ-loop : tie.MeasureT-loop
 μ-loop log state₀ streams₀ messages₀ response₀ out₀ at₀ count₀ total₀ state streams messages response out at count total =
@@ -91,7 +90,7 @@ returns c =
     let l = c .before .before .before .before .before .before .before .before .before .before .before .before .before .before .loop in
     let i = l .inv in
     let r = c .before .before .before .before .before .before .before .before .run in
-    let m = adds-last (board (l .state) (l .streams) (l .messages) (l .response)) (c .before .before .before .before .before .before .before .before .before .before .before .before .before .before .before .before .before .before .before .args .log .now) (l .at) (l .count) (l .out) (r .result) (board (r .last .0) (r .last .1 .0) (r .last .1 .1 .0) (r .last .1 .1 .1 .0)) (r .last .1 .1 .1 .1 .1 .1 .1 .0) (r .ensures .0) (i .few) (c .if1 .taken) in
+    let m = adds-last (desk (l .state) (l .streams) (l .messages) (l .response)) (c .before .before .before .before .before .before .before .before .before .before .before .before .before .before .before .before .before .before .before .args .log .now) (l .at) (l .count) (l .out) (r .result) (desk (r .last .0) (r .last .1 .0) (r .last .1 .1 .0) (r .last .1 .1 .1 .0)) (r .last .1 .1 .1 .1 .1 .1 .1 .0) (r .ensures .0) (i .few) (c .if1 .taken) in
     omega (arith, m, i .whole)
 
 loop-less : tie.Need-loop-less Inv-loop μ-loop
@@ -108,14 +107,14 @@ loop-again c =
     let i = l .inv in
     let r = c .before .before .before .before .before .before .before .before .run in
     let o = r .ensures .1 .1 (omega (arith, i .buffer)) (c .if1 .left) in
-    let m = adds-more (board (l .state) (l .streams) (l .messages) (l .response)) (c .before .before .before .before .before .before .before .before .before .before .before .before .before .before .before .before .before .before .before .args .log .now) (l .at) (l .count) (l .out) (r .result) (board (r .last .0) (r .last .1 .0) (r .last .1 .1 .0) (r .last .1 .1 .1 .0)) (r .last .1 .1 .1 .1 .1 .1 .1 .0) (r .ensures .0) (i .few) (c .if1 .left) in
+    let m = adds-more (desk (l .state) (l .streams) (l .messages) (l .response)) (c .before .before .before .before .before .before .before .before .before .before .before .before .before .before .before .before .before .before .before .args .log .now) (l .at) (l .count) (l .out) (r .result) (desk (r .last .0) (r .last .1 .0) (r .last .1 .1 .0) (r .last .1 .1 .1 .0)) (r .last .1 .1 .1 .1 .1 .1 .1 .0) (r .ensures .0) (i .few) (c .if1 .left) in
     record {
       words = r .kept .0 ∙ i .words;
       streams = r .kept .1 .0 ∙ i .streams;
       messages = r .kept .1 .1 .0 ∙ i .messages;
       reply = r .kept .1 .1 .1 .0 ∙ i .reply;
       buffer = r .kept .1 .1 .1 .1 .1 .1 .1 .0 ∙ i .buffer;
-      few = few-behind (board (l .state) (l .streams) (l .messages) (l .response)) (c .before .before .before .before .before .before .before .before .before .before .before .before .before .before .before .before .before .before .before .args .log .now) (l .at) (l .count) (l .out) (r .result) (board (r .last .0) (r .last .1 .0) (r .last .1 .1 .0) (r .last .1 .1 .1 .0)) (r .last .1 .1 .1 .1 .1 .1 .1 .0) (r .ensures .0) (i .few);
+      few = few-behind (desk (l .state) (l .streams) (l .messages) (l .response)) (c .before .before .before .before .before .before .before .before .before .before .before .before .before .before .before .before .before .before .before .args .log .now) (l .at) (l .count) (l .out) (r .result) (desk (r .last .0) (r .last .1 .0) (r .last .1 .1 .0) (r .last .1 .1 .1 .0)) (r .last .1 .1 .1 .1 .1 .1 .1 .0) (r .ensures .0) (i .few);
       inside = o .1;
       fits = omega (arith, o .0, i .fits, i .buffer, r .ensures .1 .0);
       whole = omega (arith, m, i .whole);

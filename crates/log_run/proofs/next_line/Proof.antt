@@ -1,7 +1,7 @@
 -- `log_run::next_line` meets its contract: by what stands at the place.
 use native.Mathlib.Omega.{arith}
 use mathlib.Core.Path.{sym, _∙_}
-use Rattle.log_run.specs.Printing.{board}
+use Rattle.reading.specs.Desk.{desk}
 use Rattle.log_run.proofs.Laws.{at-end, at-bad, at-record, neither, packet-size}
 use Rattle.log_records.proofs.Found.{inside}
 use borrow.Author.Needs.{needs}
@@ -28,7 +28,7 @@ same-length c = search needs
 returns : tie.Need-returns
 returns c =
     let s = c .before .before .before .before .before .before .before .before .before .before .before .before .before in (
-      at-end (board (s .args .state .now) (s .args .stream-memory .now) (s .args .message-memory .now) (s .args .response .now)) (s .args .log .now) (s .args .at) (s .args .count) (s .args .line .now) (c .before .before .write-end .result) (c .before .before .write-end .last .0)
+      at-end (desk (s .args .state .now) (s .args .stream-memory .now) (s .args .message-memory .now) (s .args .response .now)) (s .args .log .now) (s .args .at) (s .args .count) (s .args .line .now) (c .before .before .write-end .result) (c .before .before .write-end .last .0)
           (sym (c .before .before .before .before .before .before .next-record .ensures) ∙ c .before .before .before .before .enum-told .given .1) (c .before .before .write-end .ensures .0),
       c .before .before .write-end .ensures .1,
     )
@@ -49,7 +49,7 @@ same-length-2 c = search needs
 returns-2 : tie.Need-returns-2
 returns-2 c =
     let s = c .before .before .before .before .before .before .before .before .before .before .before .before .before in (
-      at-bad (board (s .args .state .now) (s .args .stream-memory .now) (s .args .message-memory .now) (s .args .response .now)) (s .args .log .now) (s .args .at) (s .args .count) (s .args .line .now) (c .before .before .write-bad .result) (c .before .before .write-bad .last .0)
+      at-bad (desk (s .args .state .now) (s .args .stream-memory .now) (s .args .message-memory .now) (s .args .response .now)) (s .args .log .now) (s .args .at) (s .args .count) (s .args .line .now) (c .before .before .write-bad .result) (c .before .before .write-bad .last .0)
           (sym (c .before .before .before .before .before .before .next-record .ensures) ∙ neither _ (c .before .before .before .before .before .match .keys2) (c .before .before .before .before .match2 .keys2)) (c .before .before .write-bad .ensures .0),
       c .before .before .write-bad .ensures .1,
     )
@@ -110,7 +110,7 @@ returns-3 c =
     let e = sym (c .before .before .before .before .before .before .before .before .before .before .before .before .before .before .before .before .before .before .before .before .before .before .next-record .ensures) ∙ c .before .before .before .before .before .before .before .before .before .before .before .before .before .before .before .before .before .before .before .found .given .1 in
     let called = c .before .before .before .before .before .before .before .before .before .before .before .before in
     let r = inside (s .args .log .now) (s .args .at) _ _ _ e in (
-      at-record (board (s .args .state .now) (s .args .stream-memory .now) (s .args .message-memory .now) (s .args .response .now)) (s .args .log .now) (s .args .at) (s .args .count) (s .args .line .now) _ _ _ _ (called .read .result) (called .read .last .0) (called .read .last .1 .0) (called .read .last .1 .1 .0) (called .read .last .1 .1 .1 .0) (c .before .before .write-line .result) (c .before .before .write-line .last .0)
+      at-record (desk (s .args .state .now) (s .args .stream-memory .now) (s .args .message-memory .now) (s .args .response .now)) (s .args .log .now) (s .args .at) (s .args .count) (s .args .line .now) _ _ _ _ (called .read .result) (called .read .last .0) (called .read .last .1 .0) (called .read .last .1 .1 .0) (called .read .last .1 .1 .1 .0) (c .before .before .write-line .result) (c .before .before .write-line .last .0)
           e (packet-size (s .args .log .now) (s .args .at) _ _ _ e) (called .read .ensures) (c .before .before .write-line .ensures .0),
       (c .before .before .write-line .ensures .1, r .onward, r .within),
     )

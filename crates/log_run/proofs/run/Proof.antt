@@ -4,7 +4,7 @@
 use Prim.Native.Nat.{_-_}
 use mathlib.Core.Path.{_≡_, refl, _∙_}
 use lib.ListN.{length}
-use Rattle.log_run.specs.Printing.{board}
+use Rattle.reading.specs.Desk.{desk}
 use Rattle.log_run.proofs.Laws.{of-line, of-last}
 use Rattle.log_run.proofs.Running.{Going, begins, turn, ends, stops, refuses, onward-by}
 use borrow.Author.Needs.{needs}
@@ -15,7 +15,7 @@ use Rattle.log_run.proofs.run.Tie as tie
 abbrev Inv-loop : tie.InvT-loop
 Inv-loop state₀ stream-memory₀ message-memory₀ response₀ log at count out₀ place₀ number₀ used₀ state stream-memory message-memory response out place number used =
     (length state ≡ length state₀) × (length stream-memory ≡ length stream-memory₀) × (length message-memory ≡ length message-memory₀) × (length response ≡ length response₀)
-    × Going (board state₀ stream-memory₀ message-memory₀ response₀) log at count out₀ (board state stream-memory message-memory response) place number out used
+    × Going (desk state₀ stream-memory₀ message-memory₀ response₀) log at count out₀ (desk state stream-memory message-memory response) place number out used
 
 abbrev μ-loop : tie.MeasureT-loop
 μ-loop state₀ stream-memory₀ message-memory₀ response₀ log at count out₀ place₀ number₀ used₀ state stream-memory message-memory response out place number used =
@@ -24,13 +24,13 @@ abbrev μ-loop : tie.MeasureT-loop
 returns : tie.Need-returns Inv-loop μ-loop
 returns c =
     let s = c .before .before .before .before .before .before .before .args in
-    let p = refuses (board (s .state .now) (s .stream-memory .now) (s .message-memory .now) (s .response .now)) (s .log .now) (s .at) (s .count) (s .out .now) (c .if1 .taken) in
+    let p = refuses (desk (s .state .now) (s .stream-memory .now) (s .message-memory .now) (s .response .now)) (s .log .now) (s .at) (s .count) (s .out .now) (c .if1 .taken) in
     (p, onward-by _ _ _ _ _ _ _ _ p (omega arith))
 
 loop-holds : tie.Need-loop-holds Inv-loop μ-loop
 loop-holds c =
     let s = c .before .before .before .before .before .before .before .args in
-    (refl, refl, refl, refl, begins (board (s .state .now) (s .stream-memory .now) (s .message-memory .now) (s .response .now)) (s .log .now) (s .at) (s .count) (s .out .now) (c .if1 .left))
+    (refl, refl, refl, refl, begins (desk (s .state .now) (s .stream-memory .now) (s .message-memory .now) (s .response .now)) (s .log .now) (s .at) (s .count) (s .out .now) (c .if1 .left))
 
 sub-loop : tie.Need-sub-loop Inv-loop μ-loop
 sub-loop c = search needs
@@ -75,7 +75,7 @@ loop-again c =
       n .kept .1 .0 ∙ i .1,
       n .kept .1 .1 .0 ∙ i .2,
       n .kept .1 .1 .1 .0 ∙ i .3,
-      turn _ _ _ _ _ _ _ _ _ _ (i .4) _ _ _ (board (n .last .0) (n .last .1 .0) (n .last .1 .1 .0) (n .last .1 .1 .1 .0)) _ (c .before .piece .given .1) (c .before .before .before .before .before .before .before .before .before .before .before .before .before .before .before .before .before .before .before .loop-test .taken) (n .ensures .1) (n .ensures .0),
+      turn _ _ _ _ _ _ _ _ _ _ (i .4) _ _ _ (desk (n .last .0) (n .last .1 .0) (n .last .1 .1 .0) (n .last .1 .1 .1 .0)) _ (c .before .piece .given .1) (c .before .before .before .before .before .before .before .before .before .before .before .before .before .before .before .before .before .before .before .loop-test .taken) (n .ensures .1) (n .ensures .0),
     )
 
 enum-known-piece-2 : tie.Need-enum-known-piece-2 Inv-loop μ-loop
@@ -106,9 +106,9 @@ returns-2 : tie.Need-returns-2 Inv-loop μ-loop
 returns-2 c =
     let i = c .before .before .before .before .before .before .before .before .before .before .before .before .before .before .before .before .before .before .before .before .loop .inv in
     let n = c .before .before .before .before .before .before .before .before .before .before .before .before .before .next-line in
-    let p = ends _ _ _ _ _ _ _ _ _ _ (i .4) _ _ (board (n .last .0) (n .last .1 .0) (n .last .1 .1 .0) (n .last .1 .1 .1 .0)) _ (c .before .piece2 .given .1) (c .before .before .before .before .before .before .before .before .before .before .before .before .before .before .before .before .before .before .before .loop-test .taken) (n .ensures .1) (n .ensures .0) in
+    let p = ends _ _ _ _ _ _ _ _ _ _ (i .4) _ _ (desk (n .last .0) (n .last .1 .0) (n .last .1 .1 .0) (n .last .1 .1 .1 .0)) _ (c .before .piece2 .given .1) (c .before .before .before .before .before .before .before .before .before .before .before .before .before .before .before .before .before .before .before .loop-test .taken) (n .ensures .1) (n .ensures .0) in
     let o = of-last _ _ _ _ (c .before .before .before .before .before .before .before .before .before .before .before .before .before .next-line .ensures .1) (c .before .piece2 .given .1) in
-    (p, onward-by _ _ _ _ _ _ (board (n .last .0) (n .last .1 .0) (n .last .1 .1 .0) (n .last .1 .1 .1 .0)) _ p (omega (arith, o, i .4 .fits, i .4 .same)))
+    (p, onward-by _ _ _ _ _ _ (desk (n .last .0) (n .last .1 .0) (n .last .1 .1 .0) (n .last .1 .1 .1 .0)) _ p (omega (arith, o, i .4 .fits, i .4 .same)))
 
 same-length-6 : tie.Need-same-length-6 Inv-loop μ-loop
 same-length-6 c = search needs
