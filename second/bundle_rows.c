@@ -92,8 +92,7 @@ static void row_1(void)
     for (size_t length = 5; length < 7; length++) {
         for (int i = 0; i < 4; i++)
             leaves_all("1: type 9 under 7 bytes", 1, cut_to(full(kinds[i]), length));
-        leaves_all("1: type 11 under 7 bytes", 1,
-                   cut_to(message_packet(box, 0, 9, 0, 8), length));
+        leaves_all("1: type 11 under 7 bytes", 1, cut_to(message_packet(box, 0, 9, 0, 8), length));
     }
     for (size_t length = 7; length < 9; length++) {
         leaves_all("1: start under 9 bytes", 1, cut_to(full(START), length));
@@ -559,8 +558,7 @@ static void order_of_heads(void)
         leaves_all("5 before 6, odd bytes", 5, longer_by(extended, 1));
         leaves_all("5 before 6, no data", 5,
                    with_flipped(stream_packet(flow, kinds[i], 40, 0), 6, BIT_XH));
-        leaves_all("5 before 7", 5,
-                   with_flipped(stream_packet(flow, kinds[i], 40, 64), 6, BIT_XH));
+        leaves_all("5 before 7", 5, with_flipped(stream_packet(flow, kinds[i], 40, 64), 6, BIT_XH));
     }
 }
 

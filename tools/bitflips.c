@@ -31,7 +31,7 @@ static void claim(bool holds, const char *words)
 struct sent {
     bool message;
     unsigned source, cos_or_letter, stream_or_mailbox;
-    unsigned number;            /* the scan number, 0 to 255 */
+    unsigned number; /* the scan number, 0 to 255 */
     size_t length;
     uint8_t bytes[800];
 };
@@ -39,8 +39,8 @@ struct sent {
 struct packet {
     uint8_t bytes[300];
     size_t length;
-    unsigned flow;              /* 0: the flow that is hurt, 1: another */
-    unsigned sent;              /* the place of its PDU or message below */
+    unsigned flow; /* 0: the flow that is hurt, 1: another */
+    unsigned sent; /* the place of its PDU or message below */
 };
 
 static struct sent sents[MOST_SENT];
@@ -80,8 +80,12 @@ static unsigned add_sent(bool message, unsigned a, unsigned b, unsigned c, unsig
                          size_t length)
 {
     struct sent *s = &sents[sent_count];
-    *s = (struct sent){ .message = message, .source = a, .cos_or_letter = b,
-                        .stream_or_mailbox = c, .number = number, .length = length };
+    *s = (struct sent){ .message = message,
+                        .source = a,
+                        .cos_or_letter = b,
+                        .stream_or_mailbox = c,
+                        .number = number,
+                        .length = length };
     for (size_t i = 0; i < length; i++)
         s->bytes[i] = (uint8_t)(17 * (i + 1) + 61 * sent_count + 5 * (i / 8));
     s->bytes[0] = (uint8_t)number;
@@ -97,14 +101,18 @@ static unsigned cut(struct packet *out, unsigned flow, unsigned which)
 {
     const struct sent *s = &sents[which];
     const struct second_heading heading = {
-        .priority = 1, .destination = DEVICE, .source = (uint16_t)s->source,
-        .cos = (uint8_t)s->cos_or_letter, .stream_id = (uint16_t)s->stream_or_mailbox
+        .priority = 1,
+        .destination = DEVICE,
+        .source = (uint16_t)s->source,
+        .cos = (uint8_t)s->cos_or_letter,
+        .stream_id = (uint16_t)s->stream_or_mailbox,
     };
     unsigned count = (unsigned)second_segment_count(mtu, s->length);
     for (unsigned k = 0; k < count; k++) {
         out[k] = (struct packet){ .flow = flow, .sent = which };
         out[k].length = second_write_segment(out[k].bytes, sizeof out[k].bytes, heading, mtu,
-                                             s->bytes, s->length, k).length;
+                                             s->bytes, s->length, k)
+                            .length;
     }
     return count;
 }
@@ -119,9 +127,13 @@ static unsigned cut_message(struct packet *out, unsigned flow, unsigned which)
         size_t bytes = k + 1 == count ? s->length - from : 16;
         out[k] = (struct packet){ .flow = flow, .sent = which, .length = 7 + bytes };
         const uint8_t head[] = {
-            0x5B, 0, DEVICE, (uint8_t)(s->source >> 8), (uint8_t)s->source,
+            0x5B,
+            0,
+            DEVICE,
+            (uint8_t)(s->source >> 8),
+            (uint8_t)s->source,
             (uint8_t)((count - 1) << 4 | 10),
-            (uint8_t)(s->cos_or_letter << 6 | (s->stream_or_mailbox & 3) << 4 | k)
+            (uint8_t)(s->cos_or_letter << 6 | (s->stream_or_mailbox & 3) << 4 | k),
         };
         memcpy(out[k].bytes, head, 7);
         memcpy(out[k].bytes + 7, s->bytes + from, bytes);
@@ -135,12 +147,12 @@ enum outcome { RIGHT, LOST, TWICE, WRONG };
 
 struct run {
     enum outcome outcome;
-    bool other_hurt;            /* a PDU of the other flow was not delivered, or wrongly */
-    bool quiet;                 /* no packet refused, none dropped */
-    bool stays_open;            /* a context is open at the end */
-    bool passes_number;         /* wrong or twice, and the scan number at both ends agrees */
-    bool passes_all;            /* wrong or twice, and all checks of the member agree */
-    unsigned wrongs, rights;    /* deliveries that nobody sent; PDUs that were delivered */
+    bool other_hurt;         /* a PDU of the other flow was not delivered, or wrongly */
+    bool quiet;              /* no packet refused, none dropped */
+    bool stays_open;         /* a context is open at the end */
+    bool passes_number;      /* wrong or twice, and the scan number at both ends agrees */
+    bool passes_all;         /* wrong or twice, and all checks of the member agree */
+    unsigned wrongs, rights; /* deliveries that nobody sent; PDUs that were delivered */
     struct second_answer watched;
 };
 
@@ -155,8 +167,7 @@ struct board {
 
 static bool same_flow(const struct sent *a, const struct sent *b)
 {
-    if (a->message != b->message || a->source != b->source
-        || a->cos_or_letter != b->cos_or_letter)
+    if (a->message != b->message || a->source != b->source || a->cos_or_letter != b->cos_or_letter)
         return false;
     return !a->message || a->stream_or_mailbox == b->stream_or_mailbox;
 }
@@ -179,8 +190,8 @@ static bool checksum_agrees(const struct sent *got)
 {
     if (got->length < 6)
         return false;
-    uint32_t crc = checksum(got->source, got->cos_or_letter, got->stream_or_mailbox, got->bytes,
-                            got->length);
+    uint32_t crc =
+        checksum(got->source, got->cos_or_letter, got->stream_or_mailbox, got->bytes, got->length);
     for (int i = 0; i < 4; i++)
         if (got->bytes[1 + i] != (uint8_t)(crc >> (24 - 8 * i)))
             return false;
@@ -211,9 +222,11 @@ static bool is_sent(const struct sent *got, const struct sent *s)
 static struct sent taken(struct second_answer answer)
 {
     struct sent got = {
-        .message = answer.kind == SECOND_MESSAGE, .source = (unsigned)answer.source,
+        .message = answer.kind == SECOND_MESSAGE,
+        .source = (unsigned)answer.source,
         .cos_or_letter = (unsigned)answer.cos_or_letter,
-        .stream_or_mailbox = (unsigned)answer.stream_or_mailbox, .length = answer.length
+        .stream_or_mailbox = (unsigned)answer.stream_or_mailbox,
+        .length = answer.length,
     };
     const uint8_t *room = got.message ? message_memory + answer.context * SECOND_MESSAGE_ROOM
                                       : stream_memory + answer.context * ROOM;
@@ -237,12 +250,11 @@ static struct run run(const struct packet *const *order, unsigned count, unsigne
         board.last[i] = -1;
     const struct second_lent lent = {
         stream_memory, sizeof stream_memory, message_memory, sizeof message_memory,
-        response, sizeof response
+        response,      sizeof response,
     };
     second_setup(&state, DEVICE, mtu, ROOM);
     for (unsigned i = 0; i < count; i++) {
-        struct second_answer answer =
-            second_read(&state, lent, order[i]->bytes, order[i]->length);
+        struct second_answer answer = second_read(&state, lent, order[i]->bytes, order[i]->length);
         flows[order[i]->sent] = order[i]->flow;
         if (i == watch)
             r.watched = answer;
@@ -287,7 +299,7 @@ static struct run run(const struct packet *const *order, unsigned count, unsigne
 struct tally {
     char name[96];
     unsigned long runs, outcomes[4], other_hurt, quiet, open, number, all;
-    unsigned char answers[64];  /* which answers the touched packet got */
+    unsigned char answers[64]; /* which answers the touched packet got */
 };
 
 static struct tally rows[200];
@@ -307,8 +319,8 @@ static struct tally *row(const char *name)
 static unsigned answer_code(struct second_answer a)
 {
     unsigned code = a.kind == SECOND_REFUSED ? a.refusal
-                  : a.kind == SECOND_HELD    ? 26
-                  : a.kind == SECOND_PDU     ? 27
+                    : a.kind == SECOND_HELD  ? 26
+                    : a.kind == SECOND_PDU   ? 27
                                              : 28;
     return code + (a.dropped ? 32 : 0);
 }
@@ -480,12 +492,15 @@ static void stream_mixtures(const unsigned *shape, size_t byte, unsigned bit, un
     sent_count = 0;
     unsigned a = cut(first, 0, add_sent(false, source, cos, 7, 1, size_of(shape[0], 0)));
     a += cut(first + a, 0, add_sent(false, source, cos, 8, 2, size_of(shape[1], 1)));
-    unsigned b = cut(second, 1, add_sent(false, other_source, other_cos, 70, 101, size_of(shape[2], 0)));
-    b += cut(second + b, 1, add_sent(false, other_source, other_cos, 71, 102, size_of(shape[3], 1)));
+    unsigned b =
+        cut(second, 1, add_sent(false, other_source, other_cos, 70, 101, size_of(shape[2], 0)));
+    b +=
+        cut(second + b, 1, add_sent(false, other_source, other_cos, 71, 102, size_of(shape[3], 1)));
     if (at >= a || byte >= first[at].length)
         return;
     char name[96];
-    snprintf(name, sizeof name, "%s | %s", kind_name(&first[at]), stream_field(&first[at], byte, bit));
+    snprintf(name, sizeof name, "%s | %s", kind_name(&first[at]),
+             stream_field(&first[at], byte, bit));
     if (other_mtu)
         as_at_32(row(name), first, a, second, b, at, byte, bit);
     else
@@ -519,9 +534,11 @@ static void print_row(const struct tally *t)
 static void print_rows_of(const char *kind)
 {
     static const char *fields[] = {
-        "priority", "tt", "type, to 11", "type, to 9", "type, other bits", "destination", "source", "cos",
-        "S", "E", "reserved", "xh", "O", "P", "streamID", "PDU length",
-        "msglen", "ssize", "letter", "mbox", "msgseg", "xmbox", "data", "pad byte"
+        "priority",    "tt",     "type, to 11", "type, to 9", "type, other bits",
+        "destination", "source", "cos",         "S",          "E",
+        "reserved",    "xh",     "O",           "P",          "streamID",
+        "PDU length",  "msglen", "ssize",       "letter",     "mbox",
+        "msgseg",      "xmbox",  "data",        "pad byte",
     };
     for (size_t f = 0; f < sizeof fields / sizeof fields[0]; f++) {
         char name[96];
@@ -614,12 +631,15 @@ static void message_mixtures(const unsigned *shape, size_t byte, unsigned bit, u
     sent_count = 0;
     unsigned a = cut_message(first, 0, add_sent(true, source, letter, mbox, 1, 16 * shape[0] - 8));
     a += cut_message(first + a, 0, add_sent(true, source, letter, mbox, 2, 16 * shape[1]));
-    unsigned b = cut_message(second, 1, add_sent(true, other_source, other_letter, other_mbox, 101, 16 * shape[2] - 8));
-    b += cut_message(second + b, 1, add_sent(true, other_source, other_letter, other_mbox, 102, 16 * shape[3]));
+    unsigned b = cut_message(
+        second, 1, add_sent(true, other_source, other_letter, other_mbox, 101, 16 * shape[2] - 8));
+    b += cut_message(second + b, 1,
+                     add_sent(true, other_source, other_letter, other_mbox, 102, 16 * shape[3]));
     if (at >= a || byte >= first[at].length)
         return;
     char name[96];
-    snprintf(name, sizeof name, "%s | %s", segment_name(&first[at]), message_field(&first[at], byte, bit));
+    snprintf(name, sizeof name, "%s | %s", segment_name(&first[at]),
+             message_field(&first[at], byte, bit));
     in_every_mixture(row(name), first, a, second, b, at, byte, bit);
 }
 
@@ -646,11 +666,13 @@ static void three(bool messages, unsigned n)
     for (unsigned i = 0; i < 3; i++, n /= 4) {
         unsigned packets = 1 + n % 4;
         if (messages)
-            flow_count += cut_message(flow_packets + flow_count, 0,
+            flow_count += cut_message(
+                flow_packets + flow_count, 0,
                 add_sent(true, 2, 1, 2, i + 1, 16 * packets - (packets > 1 || i != 1 ? 8 : 0)));
         else
-            flow_count += cut(flow_packets + flow_count, 0,
-                add_sent(false, 2, 5, 7 + i, i + 1, (packets - 1) * mtu + 18 + 2 * i));
+            flow_count +=
+                cut(flow_packets + flow_count, 0,
+                    add_sent(false, 2, 5, 7 + i, i + 1, (packets - 1) * mtu + 18 + 2 * i));
     }
 }
 
@@ -684,9 +706,11 @@ static void claim_joined(const struct packet *p, unsigned its_packets, unsigned 
 {
     unsigned kind = p->bytes[6] >> 6;
     if (kind == 2)
-        claim(wrong == (come(behind) == 1), "a strange start is joined exactly directly behind a start");
+        claim(wrong == (come(behind) == 1),
+              "a strange start is joined exactly directly behind a start");
     if (kind == 1)
-        claim(wrong == (come(behind) == its_packets - 1), "a strange end is joined exactly if as many packets have come");
+        claim(wrong == (come(behind) == its_packets - 1),
+              "a strange end is joined exactly if as many packets have come");
     if (kind == 0)
         claim(!wrong, "a strange continuation is never delivered");
 }
@@ -730,7 +754,8 @@ static void move(const char *what, bool messages, unsigned from, unsigned behind
     }
     bool wrong = fault(moved_name(what, messages, from, behind, copy), order, n, watch);
     const struct packet *p = &flow_packets[from];
-    bool inside = behind + 1 < flow_count && flow_packets[behind + 1].sent == flow_packets[behind].sent;
+    bool inside = behind + 1 < flow_count
+                  && flow_packets[behind + 1].sent == flow_packets[behind].sent;
     if (!messages && inside && flow_packets[behind].sent != p->sent)
         claim_joined(p, packets_in(p->sent), behind, wrong);
 }
@@ -746,9 +771,11 @@ static void lose(bool messages)
                     order[n++] = &flow_packets[i];
             unsigned apart = flow_packets[y].sent - flow_packets[x].sent;
             fault(x == y ? (messages ? "one lost | a segment | " : "one lost | any | ")
-                  : apart == 0 ? (messages ? "two lost | of one message | " : "two lost | of one PDU | ")
+                  : apart == 0
+                      ? (messages ? "two lost | of one message | " : "two lost | of one PDU | ")
                   : apart == 1 ? "two lost | of two neighbours | "
-                               : "two lost | of two others | ", order, n, 0);
+                               : "two lost | of two others | ",
+                  order, n, 0);
         }
 }
 
@@ -793,15 +820,18 @@ static void swap_neighbours(bool messages)
             order[i] = &flow_packets[i == x ? x + 1 : i == x + 1 ? x : i];
         char name[96];
         if (messages)
-            snprintf(name, sizeof name, "swapped | neighbours | %s", one ? "of one message" : "of two messages");
+            snprintf(name, sizeof name, "swapped | neighbours | %s",
+                     one ? "of one message" : "of two messages");
         else
             snprintf(name, sizeof name, "swapped | %s and %s | %s", kind_name(&flow_packets[x]),
                      kind_name(&flow_packets[x + 1]), one ? "of one PDU" : "of two PDUs");
         bool wrong = fault(name, order, flow_count, x);
         if (!messages) {
-            bool end_and_start = !one && flow_packets[x].bytes[6] >> 6 == 1 && flow_packets[x + 1].bytes[6] >> 6 == 2;
-            claim(wrong == (end_and_start && packets_in(flow_packets[x].sent) == 2),
-                  "an end and a start that change places are joined exactly if the first PDU has two packets");
+            bool end_and_start = !one && flow_packets[x].bytes[6] >> 6 == 1
+                                 && flow_packets[x + 1].bytes[6] >> 6 == 2;
+            claim(
+                wrong == (end_and_start && packets_in(flow_packets[x].sent) == 2),
+                "an end and a start that change places are joined exactly if the first PDU has two packets");
         }
     }
 }
@@ -816,7 +846,7 @@ static void put_in(bool messages)
         unsigned which = messages ? add_sent(true, 2, 1, 2, 77, 16 * packets - 8)
                                   : add_sent(false, 2, 5, 99, 77, (packets - 1) * mtu + 12);
         unsigned count_forged = messages ? cut_message(forged, 0, which) : cut(forged, 0, which);
-        sent_count--;       /* nobody of ours sent it */
+        sent_count--; /* nobody of ours sent it */
         for (unsigned f = 0; f < count_forged; f++) {
             forged[f].sent = 0;
             for (unsigned at = 0; at <= flow_count; at++) {
@@ -883,8 +913,8 @@ static void faults(bool messages)
     }
     static const char *moved[] = { "repeated", "delayed", "swapped", "forged" };
     static const char *kinds[] = {
-        "single", "only", "start", "continuation", "other", "end", "last",
-        "all its packets", "two continuations", "neighbours"
+        "single", "only", "start",           "continuation",      "other",
+        "end",    "last", "all its packets", "two continuations", "neighbours",
     };
     print_fault_rows("one lost", "");
     print_fault_rows("two lost", "");
@@ -926,7 +956,8 @@ static void two_faults(void)
     send_one(sent, &n, &a[0]);
     for (unsigned k = 1; k < 4; k++)
         send_one(sent, &n, &b[k]);
-    claim(run_these(sent, n, 7).wrongs == 1, "a start that comes again is joined to a PDU that lost its start");
+    claim(run_these(sent, n, 7).wrongs == 1,
+          "a start that comes again is joined to a PDU that lost its start");
 }
 
 /* The page's example, and the fault that does not heal. */
@@ -948,7 +979,8 @@ static void message_examples(void)
         for (unsigned k = i == 0; k < 2; k++)
             send_one(sent, &n, &m[i][k]);
     struct run r = run_these(sent, n, 0);
-    claim(r.wrongs == TEN - 1 && r.rights == 0 && r.quiet, "a lost segment 0 spoils every message, and nothing is refused");
+    claim(r.wrongs == TEN - 1 && r.rights == 0 && r.quiet,
+          "a lost segment 0 spoils every message, and nothing is refused");
     n = 0;
     for (unsigned i = 0; i < TEN; i++) {
         send_one(sent, &n, &m[i][0]);
@@ -957,7 +989,8 @@ static void message_examples(void)
             send_one(sent, &n, &m[i][1]);
     }
     r = run_these(sent, n, 0);
-    claim(r.wrongs == TEN - 1 && r.rights == 1 && r.quiet, "a last segment that comes again does so too");
+    claim(r.wrongs == TEN - 1 && r.rights == 1 && r.quiet,
+          "a last segment that comes again does so too");
 }
 
 /* ---- Table 4: a packet cut short, or with bytes behind it -------------------- */
@@ -981,8 +1014,8 @@ static void resize(bool messages, unsigned at, unsigned by, bool longer)
         order[i] = i == at ? &changed : &flow_packets[i];
     char name[96];
     snprintf(name, sizeof name, "%s | %s | %s",
-             messages ? segment_name(&changed) : kind_name(&changed),
-             longer ? "longer" : "shorter", by_bytes(messages, by));
+             messages ? segment_name(&changed) : kind_name(&changed), longer ? "longer" : "shorter",
+             by_bytes(messages, by));
     fault(name, order, flow_count, at);
 }
 
@@ -1004,9 +1037,12 @@ static void print_size_rows(const char *kind)
 
 static void sizes(bool messages)
 {
-    static const char *kinds[] = { "single", "start", "continuation", "end", "only", "other", "last" };
-    begin(messages ? "message-sizes" : "stream-sizes",
-          "| packet | made | by | answers to it | runs | right | lost | wrong | past the number | past all checks |");
+    static const char *kinds[] = {
+        "single", "start", "continuation", "end", "only", "other", "last"
+    };
+    begin(
+        messages ? "message-sizes" : "stream-sizes",
+        "| packet | made | by | answers to it | runs | right | lost | wrong | past the number | past all checks |");
     for (unsigned n = 0; n < 64; n++) {
         three(messages, n);
         for (unsigned at = 0; at < flow_count; at++)
@@ -1068,7 +1104,9 @@ static void lasting(bool messages, const char *fault_name, bool lost, bool insid
 
 static void how_long(void)
 {
-    begin("how-long", "| ten are sent, and the first one's | fault | of ten right, at least | wrong, at most |");
+    begin(
+        "how-long",
+        "| ten are sent, and the first one's | fault | of ten right, at least | wrong, at most |");
     for (int messages = 0; messages < 2; messages++) {
         lasting(messages, "packet is lost", true, false);
         lasting(messages, "packet comes again behind its last", false, false);
@@ -1083,7 +1121,7 @@ static struct second_answer alone(const uint8_t *packet, size_t length)
     static struct second_endpoint state;
     const struct second_lent lent = {
         stream_memory, sizeof stream_memory, message_memory, sizeof message_memory,
-        response, sizeof response
+        response,      sizeof response,
     };
     second_setup(&state, DEVICE, mtu, ROOM);
     return second_read(&state, lent, packet, length);
@@ -1111,7 +1149,9 @@ static void type_9_as_11(void)
         for (size_t length = 1; length <= 96; length++)
             for (unsigned k = 0; k < second_segment_count(mtu, length); k++) {
                 const struct second_heading heading = { 1, DEVICE, 2, (uint8_t)cos, 7 };
-                size_t bytes = second_write_segment(packet, sizeof packet, heading, mtu, pdu, length, k).length;
+                size_t bytes =
+                    second_write_segment(packet, sizeof packet, heading, mtu, pdu, length, k)
+                        .length;
                 packet[0] ^= 2;
                 bool reserved = cos % 16 < 9 || cos % 16 == 15;
                 (reserved ? safe : unsafe)[kind_of(alone(packet, bytes))]++;

@@ -75,7 +75,7 @@ struct guarded {
 
 static struct guarded guarded(size_t length)
 {
-    struct guarded g = {malloc(length + 2 * GUARD), NULL, length};
+    struct guarded g = { malloc(length + 2 * GUARD), NULL, length };
     if (g.whole == NULL)
         fail("no memory");
     g.bytes = g.whole + GUARD;
@@ -164,12 +164,12 @@ static uint64_t *second_word(struct second_endpoint *s, size_t i)
         return &s->room;
     if (i < 83) {
         struct second_stream *c = &s->stream[(i - 3) / 5];
-        uint64_t *field[] = {&c->open, &c->source, &c->cos, &c->stream_id, &c->held};
+        uint64_t *field[] = { &c->open, &c->source, &c->cos, &c->stream_id, &c->held };
         return field[(i - 3) % 5];
     }
     struct second_message *c = &s->message[(i - 83) / 8];
-    uint64_t *field[] = {&c->open,   &c->source, &c->letter, &c->mbox,
-                         &c->msglen, &c->ssize,  &c->marks,  &c->last};
+    uint64_t *field[] = { &c->open,   &c->source, &c->letter, &c->mbox,
+                          &c->msglen, &c->ssize,  &c->marks,  &c->last };
     return field[(i - 83) % 8];
 }
 
@@ -251,17 +251,17 @@ static void same_report(const struct kaiverohm_report *a, struct second_answer b
     if (b.kind == SECOND_REFUSED)
         refusals[b.refusal % 32]++;
     if (a->kind != kind_of(b.kind) || a->number != b.refusal || a->dropped != b.dropped
-        || a->context != b.context || a->source != b.source
-        || a->cos_or_letter != b.cos_or_letter || a->stream_or_mailbox != b.stream_or_mailbox
-        || a->length != b.length)
-        fail("report %llu %llu %llu, %llu %llu %llu %llu %llu and answer %d %u %d, %llu %llu %llu %llu %llu",
-             (unsigned long long)a->kind, (unsigned long long)a->number,
-             (unsigned long long)a->dropped, (unsigned long long)a->context,
-             (unsigned long long)a->source, (unsigned long long)a->cos_or_letter,
-             (unsigned long long)a->stream_or_mailbox, (unsigned long long)a->length, b.kind,
-             b.refusal, b.dropped, (unsigned long long)b.context, (unsigned long long)b.source,
-             (unsigned long long)b.cos_or_letter, (unsigned long long)b.stream_or_mailbox,
-             (unsigned long long)b.length);
+        || a->context != b.context || a->source != b.source || a->cos_or_letter != b.cos_or_letter
+        || a->stream_or_mailbox != b.stream_or_mailbox || a->length != b.length)
+        fail(
+            "report %llu %llu %llu, %llu %llu %llu %llu %llu and answer %d %u %d, %llu %llu %llu %llu %llu",
+            (unsigned long long)a->kind, (unsigned long long)a->number,
+            (unsigned long long)a->dropped, (unsigned long long)a->context,
+            (unsigned long long)a->source, (unsigned long long)a->cos_or_letter,
+            (unsigned long long)a->stream_or_mailbox, (unsigned long long)a->length, b.kind,
+            b.refusal, b.dropped, (unsigned long long)b.context, (unsigned long long)b.source,
+            (unsigned long long)b.cos_or_letter, (unsigned long long)b.stream_or_mailbox,
+            (unsigned long long)b.length);
     if (a->response != (message ? 7u : 0u))
         fail("report says %llu bytes of response", (unsigned long long)a->response);
     if (clear && (response[0] != 0) != (a->response == 7))
@@ -291,7 +291,7 @@ static size_t same_segment(uint8_t *packet, size_t room, struct kaiverohm_headin
     uint8_t *theirs = malloc(room + 1);
     scatter(out.bytes, room);
     memcpy(theirs, out.bytes, room);
-    struct second_heading heading = {h.priority, h.destination, h.source, h.cos, h.stream};
+    struct second_heading heading = { h.priority, h.destination, h.source, h.cos, h.stream };
     struct kaiverohm_answer a =
         kaiverohm_write_segment(out.bytes, room, h, mtu, pdu, pdu_length, number);
     same_answer(a, second_write_segment(theirs, room, heading, mtu, pdu, pdu_length, number),
@@ -376,28 +376,18 @@ static size_t message_packet(uint8_t *packet)
 static size_t damaged(uint8_t *packet, size_t length)
 {
     switch (below(7)) {
-    case 0: /* a bit of the head */
-        packet[below(9)] ^= (uint8_t)(1 << below(8));
-        return length;
-    case 1: /* a byte of the fields */
-        packet[5 + below(4)] = (uint8_t)draw();
-        return length;
-    case 2: /* cut */
-        return below(length + 1);
-    case 3: /* longer by a little */
-        scatter(packet + length, 9);
-        return length + below(9);
-    case 4: /* any bytes at all */
-        scatter(packet, PACKET);
-        return below(one_in(2) ? 20 : PACKET);
+    case 0: /* a bit of the head */ packet[below(9)] ^= (uint8_t)(1 << below(8)); return length;
+    case 1: /* a byte of the fields */ packet[5 + below(4)] = (uint8_t)draw(); return length;
+    case 2: /* cut */ return below(length + 1);
+    case 3: /* longer by a little */ scatter(packet + length, 9); return length + below(9);
+    case 4: /* any bytes at all */ scatter(packet, PACKET); return below(one_in(2) ? 20 : PACKET);
     case 5: /* any fields, ours, of type 9 or 11 */
         scatter(packet, PACKET);
         packet[0] = (uint8_t)((packet[0] & 0xc0) | 0x10 | (one_in(2) ? 9 : 11));
         packet[1] = 0;
         packet[2] = 1;
         return 5 + below(40);
-    default: /* cut to an even length */
-        return length & ~(size_t)1;
+    default: /* cut to an even length */ return length & ~(size_t)1;
     }
 }
 
@@ -431,17 +421,17 @@ static void read_one(struct board *b, size_t state_words, size_t streams, size_t
                      size_t response, const uint8_t *packet, size_t length)
 {
     int clear = one_in(2);
-    struct second_lent lent = {b->second_streams,  streams,  b->second_messages, messages,
-                               b->second_response, response};
+    struct second_lent lent = { b->second_streams,  streams, b->second_messages, messages,
+                                b->second_response, response };
     struct second_answer there;
     if (clear) {
         memset(b->response.bytes, 0, 16);
         memset(b->second_response, 0, 16);
     }
     memcpy(b->packet.bytes, packet, length);
-    struct kaiverohm_report here = kaiverohm_read(
-        words(b), state_words, b->streams.bytes, streams, b->messages.bytes, messages,
-        b->response.bytes, response, b->packet.bytes, length);
+    struct kaiverohm_report here = kaiverohm_read(words(b), state_words, b->streams.bytes, streams,
+                                                  b->messages.bytes, messages, b->response.bytes,
+                                                  response, b->packet.bytes, length);
     if (state_words == WORDS) {
         there = second_read(&b->second, lent, packet, length);
     } else {
@@ -495,9 +485,9 @@ static void other_calls(struct board *b)
 /* Numbers near every bound that the state's fields have. */
 static uint64_t odd_number(const struct board *b)
 {
-    static const uint64_t bounds[] = {0,   1,    2,    3,     7,     8,     9,     14,
-                                      15,  16,   31,   32,    33,    64,    128,   255,
-                                      256, 2047, 2048, 65535, 65536, 65537, 1u << 31};
+    static const uint64_t bounds[] = { 0,   1,    2,    3,     7,     8,     9,       14,
+                                       15,  16,   31,   32,    33,    64,    128,     255,
+                                       256, 2047, 2048, 65535, 65536, 65537, 1u << 31 };
     switch (below(7)) {
     case 0: return draw();
     case 1: return UINT64_MAX - below(3);
@@ -534,8 +524,10 @@ static void odd_state(struct board *b)
     }
     if (one_in(4)) /* an open message, nearly right */ {
         size_t c = 83 + 8 * below(8);
-        uint64_t values[] = {1 + below(2), below(6), below(4),      below(4),
-                             below(17),    8 + below(8), below(1u << below(17)), 8 * below(34)};
+        uint64_t values[] = {
+            1 + below(2),           below(6),     below(4), below(4), below(17), 8 + below(8),
+            below(1u << below(17)), 8 * below(34)
+        };
         for (size_t i = 0; i < 8; i++)
             words(b)[c + i] = *second_word(&b->second, c + i) = values[i];
     }
@@ -629,10 +621,19 @@ static void burst(uint64_t mtu, uint64_t room, struct board *b)
     starts[count] = at;
     if (bad) {
         switch (below(4)) {
-        case 0: bytes[at++] = 5; bytes[at++] = 1; break;               /* cut */
-        case 1: bytes[at++] = 130; break;                              /* a cut length */
-        case 2: bytes[at++] = 130; bytes[at++] = 0; break;             /* a second byte of 0 */
-        default: bytes[at++] = 130; bytes[at++] = 129; bytes[at++] = 1; /* a third byte */
+        case 0:
+            bytes[at++] = 5;
+            bytes[at++] = 1;
+            break;                        /* cut */
+        case 1: bytes[at++] = 130; break; /* a cut length */
+        case 2:
+            bytes[at++] = 130;
+            bytes[at++] = 0;
+            break; /* a second byte of 0 */
+        default:
+            bytes[at++] = 130;
+            bytes[at++] = 129;
+            bytes[at++] = 1; /* a third byte */
         }
     }
 
@@ -663,9 +664,9 @@ static void burst(uint64_t mtu, uint64_t room, struct board *b)
         lent.bytes, at, pause);
 
     /* What it must be: the packets one after another. */
-    struct kaiverohm_burst want = {KAIVEROHM_BURST_END, 0, 0, 0};
+    struct kaiverohm_burst want = { KAIVEROHM_BURST_END, 0, 0, 0 };
     size_t most = reports.length / 72 < replies_length / 8 ? reports.length / 72
-                                                            : replies_length / 8;
+                                                           : replies_length / 8;
     if (second_refusal19(&b->second)) {
         want.stop = KAIVEROHM_BURST_REFUSED;
         want.number = 19;
@@ -683,8 +684,9 @@ static void burst(uint64_t mtu, uint64_t room, struct board *b)
                 want.stop = KAIVEROHM_BURST_FULL;
                 break;
             }
-            struct second_lent l = {b->second_streams,     streams, b->second_messages,
-                                    KAIVEROHM_MESSAGE_MEMORY, their_replies + 8 * k, 8};
+            struct second_lent l = { b->second_streams,     streams,
+                                     b->second_messages,    KAIVEROHM_MESSAGE_MEMORY,
+                                     their_replies + 8 * k, 8 };
             struct second_answer there = second_read(&b->second, l, list[k], lengths[k]);
             struct kaiverohm_report report;
             packets++;
@@ -742,7 +744,9 @@ static void longest(void)
     enum { LONGEST = KAIVEROHM_LARGEST_PDU };
     static uint8_t pdu[LONGEST + 1];
     struct board b = board(256, LONGEST);
-    struct kaiverohm_heading h = {.destination = 1, .source = 9, .stream = 3, .cos = 1, .priority = 1};
+    struct kaiverohm_heading h = {
+        .destination = 1, .source = 9, .stream = 3, .cos = 1, .priority = 1
+    };
     uint8_t packet[PACKET];
     same_answer(kaiverohm_setup(words(&b), WORDS, 1, 256, LONGEST),
                 second_setup(&b.second, 1, 256, LONGEST), "setup");
@@ -765,8 +769,8 @@ int main(int argc, char **argv)
     static const struct {
         uint64_t mtu, room;
         unsigned share; /* of 100 */
-    } sizes[] = {{32, 2048, 30}, {32, 32, 10},    {36, 100, 10},  {64, 4095, 15},
-                 {128, 128, 5},  {252, 1024, 10}, {256, 2048, 18}, {256, 65536, 2}};
+    } sizes[] = { { 32, 2048, 30 }, { 32, 32, 10 },    { 36, 100, 10 },   { 64, 4095, 15 },
+                  { 128, 128, 5 },  { 252, 1024, 10 }, { 256, 2048, 18 }, { 256, 65536, 2 } };
     seed = argc > 1 ? strtoull(argv[1], NULL, 0) : 20261115;
     unsigned long long total = argc > 2 ? strtoull(argv[2], NULL, 0) : 20000;
     random_state = seed;
@@ -780,8 +784,9 @@ int main(int argc, char **argv)
 
     longest();
 
-    printf("packets %llu, bursts %llu, other calls %llu, states that 19 names %llu, with twins %llu\n",
-           packets, bursts, calls, states19, twins);
+    printf(
+        "packets %llu, bursts %llu, other calls %llu, states that 19 names %llu, with twins %llu\n",
+        packets, bursts, calls, states19, twins);
     printf("held %llu, delivered %llu, messages %llu, refused:", kinds[KAIVEROHM_HELD],
            kinds[KAIVEROHM_DELIVERED], kinds[KAIVEROHM_MESSAGE]);
     for (unsigned n = 0; n < 32; n++)
@@ -791,8 +796,8 @@ int main(int argc, char **argv)
            stops[1], stops[2], stops[3], stops[4]);
 
     /* Every answer has to occur, or the traffic is too tame. */
-    static const unsigned needed[] = {1,  2,  3,  4,  5,  6,  7,  8,  9,  10, 11, 12,
-                                      13, 14, 15, 16, 17, 18, 19, 20, 21, 22, 23, 24, 25};
+    static const unsigned needed[] = { 1,  2,  3,  4,  5,  6,  7,  8,  9,  10, 11, 12, 13,
+                                       14, 15, 16, 17, 18, 19, 20, 21, 22, 23, 24, 25 };
     for (size_t i = 0; i < sizeof needed / sizeof needed[0] && total >= 10000; i++)
         if (refusals[needed[i]] == 0)
             fail("refusal %u did not occur", needed[i]);

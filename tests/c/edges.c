@@ -16,9 +16,15 @@
 #include "want.h"
 
 enum {
-    DEVICE = 0x0102, MTU = 32, ROOM = 100, MOST = 70000,
-    WORDS = KAIVEROHM_STATE_WORDS, REPLY = KAIVEROHM_RESPONSE_BYTES, SLOT = KAIVEROHM_SLOT_BYTES,
-    REPORT = KAIVEROHM_REPORT_WORDS, STREAM_MEMORY = KAIVEROHM_STREAM_CONTEXTS * ROOM
+    DEVICE = 0x0102,
+    MTU = 32,
+    ROOM = 100,
+    MOST = 70000,
+    WORDS = KAIVEROHM_STATE_WORDS,
+    REPLY = KAIVEROHM_RESPONSE_BYTES,
+    SLOT = KAIVEROHM_SLOT_BYTES,
+    REPORT = KAIVEROHM_REPORT_WORDS,
+    STREAM_MEMORY = KAIVEROHM_STREAM_CONTEXTS * ROOM
 };
 
 /* A number whose low 32 bits are 0. */
@@ -29,7 +35,8 @@ enum {
 static uint8_t *fenced(size_t length)
 {
     size_t page = (size_t)sysconf(_SC_PAGESIZE), whole = (length + page - 1) / page * page;
-    uint8_t *at = mmap(NULL, whole + page, PROT_READ | PROT_WRITE, MAP_PRIVATE | MAP_ANONYMOUS, -1, 0);
+    uint8_t *at =
+        mmap(NULL, whole + page, PROT_READ | PROT_WRITE, MAP_PRIVATE | MAP_ANONYMOUS, -1, 0);
     if (at == MAP_FAILED || mprotect(at + whole, page, PROT_NONE) != 0) {
         perror("edges: no memory");
         exit(1);
@@ -49,8 +56,8 @@ static uint64_t *state(size_t words)
 
 /* The buffers as they stood, with the longest lengths that are lent. */
 static struct {
-    uint8_t state[8 * (WORDS + 1)], streams[STREAM_MEMORY + 1], messages[KAIVEROHM_MESSAGE_MEMORY + 1],
-        response[64];
+    uint8_t state[8 * (WORDS + 1)], streams[STREAM_MEMORY + 1],
+        messages[KAIVEROHM_MESSAGE_MEMORY + 1], response[64];
 } kept;
 
 static void keep(void)
@@ -119,8 +126,9 @@ static struct kaiverohm_report lent(size_t words, size_t streams, size_t message
 {
     memcpy(packet_end - length, packet, length);
     keep();
-    return kaiverohm_read(state(words), words, streams_end - streams, streams, messages_end - messages,
-                          messages, response_end - response, response, packet_end - length, length);
+    return kaiverohm_read(state(words), words, streams_end - streams, streams,
+                          messages_end - messages, messages, response_end - response, response,
+                          packet_end - length, length);
 }
 
 static struct kaiverohm_report read_it(size_t length)
@@ -132,14 +140,17 @@ static struct kaiverohm_report read_it(size_t length)
 static void refuses(size_t length, unsigned number, unsigned dropped, int changes, int line)
 {
     struct kaiverohm_report r = read_it(length);
-    want(r.kind == KAIVEROHM_REFUSED && r.number == number && r.dropped == dropped, "refusal", line);
+    want(r.kind == KAIVEROHM_REFUSED && r.number == number && r.dropped == dropped, "refusal",
+         line);
     want(r.response == (number >= 20 ? REPLY : 0), "response", line);
     want(r.context == 0 && r.source == 0 && r.cos_or_letter == 0 && r.stream_or_mailbox == 0
-             && r.length == 0, "fields that a refusal does not name are 0", line);
+             && r.length == 0,
+         "fields that a refusal does not name are 0", line);
     want(changed() == changes, "what is left", line);
 }
 
-#define REFUSES(length, number, dropped, changes) refuses(length, number, dropped, changes, __LINE__)
+#define REFUSES(length, number, dropped, changes) \
+    refuses(length, number, dropped, changes, __LINE__)
 
 /* ---- setup */
 
@@ -188,15 +199,17 @@ static void setups(void)
 static void lengths(void)
 {
     const size_t s = STREAM_MEMORY, m = KAIVEROHM_MESSAGE_MEMORY;
-    const size_t wrong[][4] = {
-        {WORDS - 1, s, m, REPLY}, {WORDS + 1, s, m, REPLY}, {0, s, m, REPLY},
-        {WORDS, s - 1, m, REPLY}, {WORDS, s + 1, m, REPLY}, {WORDS, 0, m, REPLY},
-        {WORDS, s, m - 1, REPLY}, {WORDS, s, m + 1, REPLY}, {WORDS, s, 0, REPLY},
-        {WORDS, s, m, REPLY - 1}, {WORDS, s, m, 0},         {0, 0, 0, 0}};
+    const size_t wrong[][4] = { { WORDS - 1, s, m, REPLY }, { WORDS + 1, s, m, REPLY },
+                                { 0, s, m, REPLY },         { WORDS, s - 1, m, REPLY },
+                                { WORDS, s + 1, m, REPLY }, { WORDS, 0, m, REPLY },
+                                { WORDS, s, m - 1, REPLY }, { WORDS, s, m + 1, REPLY },
+                                { WORDS, s, 0, REPLY },     { WORDS, s, m, REPLY - 1 },
+                                { WORDS, s, m, 0 },         { 0, 0, 0, 0 } };
     for (size_t i = 0; i < sizeof wrong / sizeof wrong[0]; i++) {
         fresh();
         size_t length = i % 2 ? START("\x09") : 0;
-        struct kaiverohm_report r = lent(wrong[i][0], wrong[i][1], wrong[i][2], wrong[i][3], length);
+        struct kaiverohm_report r =
+            lent(wrong[i][0], wrong[i][1], wrong[i][2], wrong[i][3], length);
         WANT(r.kind == KAIVEROHM_REFUSED && r.number == 12 && changed() == 0);
         if (wrong[i][0] != WORDS)
             continue;
@@ -214,8 +227,8 @@ static void lengths(void)
 
 static void states(void)
 {
-    static const uint64_t mtus[] = {0, 28, 33, 260, UINT64_MAX - 3};
-    static const uint64_t rooms[] = {0, MTU - 1, 65537, UINT64_MAX};
+    static const uint64_t mtus[] = { 0, 28, 33, 260, UINT64_MAX - 3 };
+    static const uint64_t rooms[] = { 0, MTU - 1, 65537, UINT64_MAX };
     for (size_t i = 0; i < 9; i++) {
         fresh();
         if (i < 5)
@@ -261,17 +274,21 @@ static int bad_message(uint64_t msglen, uint64_t ssize, uint64_t marks, uint64_t
 
 static void row_19(void)
 {
-    static const uint64_t open[] = {0, 1, 2, FAR, UINT64_MAX};
-    static const uint64_t held[] = {0, 1, ROOM - 1, ROOM, ROOM + 1, FAR, FAR + 1, UINT64_MAX};
-    static const uint64_t msglen[] = {0, 1, 2, 15, 16, FAR + 1, UINT64_MAX};
-    static const uint64_t ssize[] = {0, 8, 9, 10, 14, 15, 16, 25, FAR + 9, UINT64_MAX};
-    static const uint64_t marks[] = {0, 1, 2, 3, 4, 5, 7, 8, 0x7fff, 0x8000, 0xfffe, 0xffff, 0x10000,
-                                     FAR + 1, UINT64_MAX};
-    static const uint64_t last[] = {0, 4, 7, 8, 9, 16, 24, 256, 264, FAR, FAR + 8, UINT64_MAX - 7};
+    static const uint64_t open[] = { 0, 1, 2, FAR, UINT64_MAX };
+    static const uint64_t held[] = { 0, 1, ROOM - 1, ROOM, ROOM + 1, FAR, FAR + 1, UINT64_MAX };
+    static const uint64_t msglen[] = { 0, 1, 2, 15, 16, FAR + 1, UINT64_MAX };
+    static const uint64_t ssize[] = { 0, 8, 9, 10, 14, 15, 16, 25, FAR + 9, UINT64_MAX };
+    static const uint64_t marks[] = { 0,      1,      2,       3,       4,
+                                      5,      7,      8,       0x7fff,  0x8000,
+                                      0xfffe, 0xffff, 0x10000, FAR + 1, UINT64_MAX };
+    static const uint64_t last[] = {
+        0, 4, 7, 8, 9, 16, 24, 256, 264, FAR, FAR + 8, UINT64_MAX - 7
+    };
     fresh();
     for (size_t n = 0; n < KAIVEROHM_STREAM_CONTEXTS; n++) {
         uint64_t *c = state(WORDS) + 3 + 5 * n;
-        EACH(o, open) EACH(h, held) {
+        EACH(o, open) EACH(h, held)
+        {
             c[0] = open[o];
             c[4] = held[h];
             WANT(is_state() == !(open[o] != 0 && (held[h] == 0 || held[h] > ROOM)));
@@ -280,7 +297,8 @@ static void row_19(void)
     }
     for (size_t n = 0; n < KAIVEROHM_MESSAGE_CONTEXTS; n++) {
         uint64_t *c = state(WORDS) + 83 + 8 * n;
-        EACH(o, open) EACH(m, msglen) EACH(z, ssize) EACH(k, marks) EACH(l, last) {
+        EACH(o, open) EACH(m, msglen) EACH(z, ssize) EACH(k, marks) EACH(l, last)
+        {
             c[0] = open[o];
             c[4] = msglen[m];
             c[5] = ssize[z];
@@ -295,7 +313,7 @@ static void row_19(void)
         for (size_t word = 1; word < 3; word++) {
             uint64_t *c = state(WORDS) + 3 + 5 * n;
             fresh();
-            const uint64_t open_one[] = {1, 9, 5, 7, MTU};
+            const uint64_t open_one[] = { 1, 9, 5, 7, MTU };
             memcpy(c, open_one, sizeof open_one);
             c[word] += FAR;
             REFUSES(MADE("\x19\x01\x02\x00\x09\x05\x00", MTU), 8, 0, 0);
@@ -306,7 +324,7 @@ static void row_19(void)
         for (size_t word = 1; word < 4; word++) {
             uint64_t *c = state(WORDS) + 83 + 8 * n;
             fresh();
-            const uint64_t open_one[] = {1, 9, 1, 2, 1, 9, 1, 0};
+            const uint64_t open_one[] = { 1, 9, 1, 2, 1, 9, 1, 0 };
             memcpy(c, open_one, sizeof open_one);
             REFUSES(MADE("\x1b\x01\x02\x00\x09\x19\x60", 8), 24, 0, RESPONSE);
             c[word] += FAR;
@@ -330,13 +348,14 @@ static void rows(void)
         begin(open);
         REFUSES(0, 1, 0, 0);
         REFUSES(MADE("\x0f\x00\x00\x00", 0), 1, 0, 0);
-        REFUSES(MADE("\x0f\x00\x00\x00\x09", 0), 2, 0, 0);  /* 1, under 7 bytes, comes later */
+        REFUSES(MADE("\x0f\x00\x00\x00\x09", 0), 2, 0, 0); /* 1, under 7 bytes, comes later */
         REFUSES(MADE("\x2b\x00\x00\x00\x09", 0), 2, 0, 0);
         REFUSES(MADE("\x1f\x01\x03\x00\x09", 0), 3, 0, 0);
         REFUSES(MADE("\x15\x01\x02\x00\x09", 0), 4, 0, 0);
         REFUSES(MADE("\x19\x01\x02\x00\x09\x05", 0), 1, 0, 0);
         REFUSES(MADE("\x1b\x01\x02\x00\x09\x00", 0), 1, 0, 0);
-        REFUSES(MADE("\x19\x01\x02\x00\x09\x05\xc4", 1), 5, 0, 0); /* 1, under 9 bytes, comes later */
+        REFUSES(MADE("\x19\x01\x02\x00\x09\x05\xc4", 1), 5, 0,
+                0); /* 1, under 9 bytes, comes later */
         REFUSES(MADE("\x19\x01\x02\x00\x09\x05\xc0", 1), 1, 0, 0);
         REFUSES(MADE("\x19\x01\x02\x00\x09\x05\x40", 1), 1, 0, 0);
         REFUSES(MADE("\x19\x01\x02\x00\x09\x05\x00", 0), 6, open, closes);
@@ -371,7 +390,8 @@ static void rows(void)
     WANT(r.kind == KAIVEROHM_HELD && r.dropped == 1);
     /* A whole PDU: the pad byte stays out of the room. */
     r = read_it(MADE("\x19\x01\x02\x00\x1f\x05\x43\x00\x21", 2));
-    WANT(r.kind == KAIVEROHM_DELIVERED && r.context == 15 && r.source == 0x1f && r.cos_or_letter == 5);
+    WANT(r.kind == KAIVEROHM_DELIVERED && r.context == 15 && r.source == 0x1f
+         && r.cos_or_letter == 5);
     WANT(r.stream_or_mailbox == 7 && r.length == 33 && r.response == 0 && r.dropped == 0);
     WANT(changed() == (STATE | STREAMS));
     WANT(streams_end[-ROOM + 32] == 1 && streams_end[-ROOM + 33] == 0xe1);
@@ -409,8 +429,8 @@ static void messages(void)
 
 /* ---- bursts */
 
-static struct kaiverohm_burst burst(size_t responses, size_t words, const char *records, size_t length,
-                                    uint64_t pause)
+static struct kaiverohm_burst burst(size_t responses, size_t words, const char *records,
+                                    size_t length, uint64_t pause)
 {
     memset(response_end - 64, 0xe3, 64);
     memset(reports_end - 8 * 32, 0xe4, 8 * 32);
@@ -423,17 +443,20 @@ static struct kaiverohm_burst burst(size_t responses, size_t words, const char *
                                 packet_end - length, length, pause);
 }
 
-static void says(struct kaiverohm_burst b, unsigned stop, unsigned number, uint64_t count, uint64_t next,
-                 int line)
+static void says(struct kaiverohm_burst b, unsigned stop, unsigned number, uint64_t count,
+                 uint64_t next, int line)
 {
     want(b.stop == stop && b.number == number && b.count == count && b.next == next, "burst", line);
 }
 
 #define BURST(responses, words, records, pause, stop, number, count, next) \
-    says(burst(responses, words, records, sizeof records - 1, pause), stop, number, count, next, __LINE__)
+    says(burst(responses, words, records, sizeof records - 1, pause), stop, number, count, next, \
+         __LINE__)
 
 #define EMPTY "\x00"
-#define MESSAGE "\x0f\x1b\x01\x02\x00\x09\x09\x60""abcdefgh"
+#define MESSAGE \
+    "\x0f\x1b\x01\x02\x00\x09\x09\x60" \
+    "abcdefgh"
 
 static void bursts(void)
 {
@@ -454,7 +477,10 @@ static void bursts(void)
     WANT(changed() == 0);
     /* lengths */
     BURST(64, 27, EMPTY "\x80", 0, KAIVEROHM_BURST_BAD, 0, 1, 1);
-    BURST(64, 27, EMPTY "\x81\x00""abc", 0, KAIVEROHM_BURST_BAD, 0, 1, 1);
+    BURST(64, 27,
+          EMPTY "\x81\x00"
+                "abc",
+          0, KAIVEROHM_BURST_BAD, 0, 1, 1);
     BURST(64, 27, EMPTY "\x81\x81\x01", 0, KAIVEROHM_BURST_BAD, 0, 1, 1);
     BURST(64, 27, EMPTY "\x02x", 0, KAIVEROHM_BURST_BAD, 0, 1, 1);
     static char longest[2 + 16383 + 1];
@@ -472,7 +498,8 @@ static void bursts(void)
     BURST(24, 27, EMPTY MESSAGE, 0, KAIVEROHM_BURST_END, 0, 2, 17);
     const uint64_t *reports = (const uint64_t *)(const void *)(reports_end - 8 * 27);
     WANT(reports[0] == KAIVEROHM_REFUSED && reports[1] == 1 && zeros(reports + 2, 56));
-    WANT(reports[9] == KAIVEROHM_MESSAGE && reports[12] == 7 && reports[14] == 9 && reports[17] == 8);
+    WANT(reports[9] == KAIVEROHM_MESSAGE && reports[12] == 7 && reports[14] == 9
+         && reports[17] == 8);
     WANT(all(reports + 18, 72, 0xe4) && all(reports - 1, 8, 0xe4));
     WANT(memcmp(response_end - 16, "\x5d\x00\x09\x01\x02\x10\x60", 7) == 0);
     WANT(all(response_end - 25, 9, 0xe3) && all(response_end - 9, 9, 0xe3));
@@ -504,7 +531,7 @@ static void bursts(void)
 
 static void abandons(void)
 {
-    static const uint64_t past[] = {0, UINT64_C(1) << 32, UINT64_C(1) << 63, UINT64_MAX};
+    static const uint64_t past[] = { 0, UINT64_C(1) << 32, UINT64_C(1) << 63, UINT64_MAX };
     for (int messages = 0; messages < 2; messages++) {
         struct kaiverohm_answer (*abandon)(uint64_t *, size_t, uint64_t) =
             messages ? kaiverohm_abandon_message : kaiverohm_abandon_stream;
@@ -655,11 +682,14 @@ static ucontext_t outside, inside;
 static void calls(void)
 {
     lent(WORDS, STREAM_MEMORY, KAIVEROHM_MESSAGE_MEMORY, REPLY, START("\x09"));
-    lent(WORDS, STREAM_MEMORY, KAIVEROHM_MESSAGE_MEMORY, REPLY, MADE("\x1b\x01\x02\x00\x09\x1a\x01", 16));
+    lent(WORDS, STREAM_MEMORY, KAIVEROHM_MESSAGE_MEMORY, REPLY,
+         MADE("\x1b\x01\x02\x00\x09\x1a\x01", 16));
     burst(64, 27, MESSAGE MESSAGE, sizeof MESSAGE MESSAGE - 1, 0);
     kaiverohm_abandon_stream(state(WORDS), WORDS, 0);
     kaiverohm_abandon_message(state(WORDS), WORDS, 0);
-    struct kaiverohm_heading h = {.destination = 1, .source = 2, .stream = 3, .cos = 4, .priority = 0};
+    struct kaiverohm_heading h = {
+        .destination = 1, .source = 2, .stream = 3, .cos = 4, .priority = 0
+    };
     kaiverohm_write_segment(reports_end - 64, 64, h, MTU, packet_end - 100, 100, 3);
 }
 

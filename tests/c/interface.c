@@ -48,16 +48,18 @@ uint64_t kaiverohm_state_length(void);
 struct kaiverohm_answer kaiverohm_setup(uint64_t *, size_t, uint16_t, uint64_t, uint64_t);
 struct kaiverohm_report kaiverohm_read(uint64_t *, size_t, uint8_t *, size_t, uint8_t *, size_t,
                                        uint8_t *, size_t, const uint8_t *, size_t);
-struct kaiverohm_burst kaiverohm_read_burst(uint64_t *, size_t, uint8_t *, size_t, uint8_t *, size_t,
-                                            uint8_t *, size_t, uint64_t *, size_t, const uint8_t *,
-                                            size_t, uint64_t);
+struct kaiverohm_burst kaiverohm_read_burst(uint64_t *, size_t, uint8_t *, size_t, uint8_t *,
+                                            size_t, uint8_t *, size_t, uint64_t *, size_t,
+                                            const uint8_t *, size_t, uint64_t);
 struct kaiverohm_answer kaiverohm_abandon_stream(uint64_t *, size_t, uint64_t);
 struct kaiverohm_answer kaiverohm_abandon_message(uint64_t *, size_t, uint64_t);
-struct kaiverohm_place kaiverohm_stream_room(const uint64_t *, size_t, uint64_t, uint64_t, uint64_t);
-struct kaiverohm_place kaiverohm_message_room(const uint64_t *, size_t, uint64_t, uint64_t, uint64_t);
+struct kaiverohm_place kaiverohm_stream_room(const uint64_t *, size_t, uint64_t, uint64_t,
+                                             uint64_t);
+struct kaiverohm_place kaiverohm_message_room(const uint64_t *, size_t, uint64_t, uint64_t,
+                                              uint64_t);
 uint64_t kaiverohm_segment_count(uint64_t, uint64_t);
-struct kaiverohm_answer kaiverohm_write_segment(uint8_t *, size_t, struct kaiverohm_heading, uint64_t,
-                                                const uint8_t *, size_t, uint64_t);
+struct kaiverohm_answer kaiverohm_write_segment(uint8_t *, size_t, struct kaiverohm_heading,
+                                                uint64_t, const uint8_t *, size_t, uint64_t);
 
 enum { MTU = 32, ROOM = 2048 };
 
@@ -155,14 +157,15 @@ int main(void)
     memcpy(burst + at, end, 17);
     at += 17;
     struct kaiverohm_report reports[3];
-    uint8_t responses[3 * KAIVEROHM_SLOT_BYTES] = {0};
+    uint8_t responses[3 * KAIVEROHM_SLOT_BYTES] = { 0 };
     struct kaiverohm_burst b = kaiverohm_read_burst(
-        state, KAIVEROHM_STATE_WORDS, streams, sizeof streams, messages, sizeof messages,
-        responses, sizeof responses, (uint64_t *)reports, 3 * KAIVEROHM_REPORT_WORDS, burst, at, 0);
+        state, KAIVEROHM_STATE_WORDS, streams, sizeof streams, messages, sizeof messages, responses,
+        sizeof responses, (uint64_t *)reports, 3 * KAIVEROHM_REPORT_WORDS, burst, at, 0);
     WANT(b.stop == KAIVEROHM_BURST_END && b.number == 0 && b.count == 3 && b.next == at);
     WANT(reports[0].kind == KAIVEROHM_HELD && reports[0].response == 0);
     WANT(reports[1].kind == KAIVEROHM_MESSAGE && reports[1].stream_or_mailbox == 62);
-    WANT(reports[1].response == 7 && memcmp(responses + 8, "\x5d\x12\x34\xff\xfe\x10\x6f\0", 8) == 0);
+    WANT(reports[1].response == 7
+         && memcmp(responses + 8, "\x5d\x12\x34\xff\xfe\x10\x6f\0", 8) == 0);
     WANT(responses[0] == 0 && responses[16] == 0);
     WANT(reports[2].kind == KAIVEROHM_DELIVERED && reports[2].length == sizeof pdu);
     b = kaiverohm_read_burst(state, KAIVEROHM_STATE_WORDS, streams, sizeof streams, messages,
