@@ -253,15 +253,15 @@ static void same_report(const struct kaiverohm_report *a, struct second_answer b
     if (a->kind != kind_of(b.kind) || a->number != b.refusal || a->dropped != b.dropped
         || a->context != b.context || a->source != b.source || a->cos_or_letter != b.cos_or_letter
         || a->stream_or_mailbox != b.stream_or_mailbox || a->length != b.length)
-        fail(
-            "report %llu %llu %llu, %llu %llu %llu %llu %llu and answer %d %u %d, %llu %llu %llu %llu %llu",
-            (unsigned long long)a->kind, (unsigned long long)a->number,
-            (unsigned long long)a->dropped, (unsigned long long)a->context,
-            (unsigned long long)a->source, (unsigned long long)a->cos_or_letter,
-            (unsigned long long)a->stream_or_mailbox, (unsigned long long)a->length, b.kind,
-            b.refusal, b.dropped, (unsigned long long)b.context, (unsigned long long)b.source,
-            (unsigned long long)b.cos_or_letter, (unsigned long long)b.stream_or_mailbox,
-            (unsigned long long)b.length);
+        fail("report %llu %llu %llu, %llu %llu %llu %llu %llu "
+             "and answer %d %u %d, %llu %llu %llu %llu %llu",
+             (unsigned long long)a->kind, (unsigned long long)a->number,
+             (unsigned long long)a->dropped, (unsigned long long)a->context,
+             (unsigned long long)a->source, (unsigned long long)a->cos_or_letter,
+             (unsigned long long)a->stream_or_mailbox, (unsigned long long)a->length, b.kind,
+             b.refusal, b.dropped, (unsigned long long)b.context, (unsigned long long)b.source,
+             (unsigned long long)b.cos_or_letter, (unsigned long long)b.stream_or_mailbox,
+             (unsigned long long)b.length);
     if (a->response != (message ? 7u : 0u))
         fail("report says %llu bytes of response", (unsigned long long)a->response);
     if (clear && (response[0] != 0) != (a->response == 7))
@@ -483,12 +483,16 @@ static void make_one_wrong(struct lengths *l)
 }
 
 /* The second program's state is a struct: it has no wrong length. */
-static struct second_answer second_reads(struct board *b, struct lengths l, const uint8_t *packet,
-                                         size_t length)
+static struct second_answer second_reads(struct board *b, struct lengths l, uint8_t *response,
+                                         const uint8_t *packet, size_t length)
 {
     struct second_lent lent = {
-        b->second_streams, l.streams,          b->second_messages,
-        l.messages,        b->second_response, l.response,
+        .stream_memory = b->second_streams,
+        .stream_length = l.streams,
+        .message_memory = b->second_messages,
+        .message_length = l.messages,
+        .response = response,
+        .response_length = l.response,
     };
     if (l.words != WORDS)
         return (struct second_answer){ .kind = SECOND_REFUSED, .refusal = 12 };
@@ -506,7 +510,7 @@ static void read_one(struct board *b, struct lengths l, const uint8_t *packet, s
     struct kaiverohm_report here = kaiverohm_read(words(b), l.words, b->streams.bytes, l.streams,
                                                   b->messages.bytes, l.messages, b->response.bytes,
                                                   l.response, b->packet.bytes, length);
-    struct second_answer there = second_reads(b, l, packet, length);
+    struct second_answer there = second_reads(b, l, b->second_response, packet, length);
     packets++;
     same_report(&here, there, packet, length, clear && l.response >= 7, b->response.bytes);
     same_bytes(b->packet.bytes, packet, length, "the packet");
@@ -771,11 +775,9 @@ static struct kaiverohm_burst read_burst(struct board *b, struct burst *u)
 /* Packet k, read by the second program, has that report. Says whether it delivers. */
 static int same_packet(struct board *b, struct burst *u, size_t k)
 {
-    struct second_lent l = {
-        b->second_streams,        u->streams, b->second_messages, KAIVEROHM_MESSAGE_MEMORY,
-        u->their_replies + 8 * k, 8,
-    };
-    struct second_answer there = second_read(&b->second, l, u->packets[k], u->lengths[k]);
+    struct lengths l = { WORDS, u->streams, KAIVEROHM_MESSAGE_MEMORY, 8 };
+    struct second_answer there =
+        second_reads(b, l, u->their_replies + 8 * k, u->packets[k], u->lengths[k]);
     struct kaiverohm_report report;
     packets++;
     memcpy(&report, u->reports.bytes + 72 * k, 72);
