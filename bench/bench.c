@@ -41,8 +41,10 @@ static void make_streams(void)
     for (int round = 0; count + 128 <= PACKETS; round++)
         for (uint64_t k = 0; k < 8; k++)
             for (int flow = 0; flow < 16; flow++) {
-                struct kaiverohm_heading h = {
-                    .destination = 1, .source = (uint16_t)(flow + 2), .stream = (uint16_t)round, .cos = 5};
+                struct kaiverohm_heading h = { .destination = 1,
+                                               .source = (uint16_t)(flow + 2),
+                                               .stream = (uint16_t)round,
+                                               .cos = 5 };
                 struct kaiverohm_answer a =
                     kaiverohm_write_segment(out, sizeof out, h, mtu, pdu, 8 * mtu, k);
                 payload += mtu;
@@ -53,7 +55,7 @@ static void make_streams(void)
 /* messages of sixteen segments of 64 bytes, four senders in turn */
 static void make_messages(void)
 {
-    uint8_t p[7 + 64] = {0x1b, 0, 1, 0, 0, 0xfc, 0};
+    uint8_t p[7 + 64] = { 0x1b, 0, 1, 0, 0, 0xfc, 0 };
     for (size_t i = 7; i < sizeof p; i++)
         p[i] = (uint8_t)(3 * i);
     while (count + 64 <= PACKETS)
@@ -70,19 +72,19 @@ static void make_messages(void)
 static void make_refused(void)
 {
     static const uint8_t heads[11][9] = {
-        {0x19, 0, 1, 0},                    /* 1 */
-        {0x09, 0, 1, 0, 2, 5, 0x80, 0, 1},  /* 2 */
-        {0x19, 0, 9, 0, 2, 5, 0x80, 0, 1},  /* 3 */
-        {0x15, 0, 1, 0, 2, 5, 0x80, 0, 1},  /* 4 */
-        {0x19, 0, 1, 0, 2, 5, 0x84, 0, 1},  /* 5 */
-        {0x19, 0, 1, 0, 2, 5, 0x82, 0, 1},  /* 6 */
-        {0x19, 0, 1, 0, 2, 5, 0x81, 0, 1},  /* 7 */
-        {0x19, 0, 1, 0, 2, 5, 0x40, 0, 32}, /* 8 */
-        {0x1b, 0, 1, 0, 2, 0x00, 0x00},     /* 20 */
-        {0x1b, 0, 1, 0, 2, 0x0c, 0x00},     /* 21 */
-        {0x1b, 0, 1, 0, 2, 0x1b, 0x02},     /* 22 */
+        { 0x19, 0, 1, 0 },                    /* 1 */
+        { 0x09, 0, 1, 0, 2, 5, 0x80, 0, 1 },  /* 2 */
+        { 0x19, 0, 9, 0, 2, 5, 0x80, 0, 1 },  /* 3 */
+        { 0x15, 0, 1, 0, 2, 5, 0x80, 0, 1 },  /* 4 */
+        { 0x19, 0, 1, 0, 2, 5, 0x84, 0, 1 },  /* 5 */
+        { 0x19, 0, 1, 0, 2, 5, 0x82, 0, 1 },  /* 6 */
+        { 0x19, 0, 1, 0, 2, 5, 0x81, 0, 1 },  /* 7 */
+        { 0x19, 0, 1, 0, 2, 5, 0x40, 0, 32 }, /* 8 */
+        { 0x1b, 0, 1, 0, 2, 0x00, 0x00 },     /* 20 */
+        { 0x1b, 0, 1, 0, 2, 0x0c, 0x00 },     /* 21 */
+        { 0x1b, 0, 1, 0, 2, 0x1b, 0x02 },     /* 22 */
     };
-    uint8_t p[9 + 32] = {0};
+    uint8_t p[9 + 32] = { 0 };
     for (int i = 0; count < PACKETS; i++) {
         int kind = i % 11;
         memcpy(p, heads[kind], 9);
@@ -112,24 +114,25 @@ static uint64_t sum;
 static void round_single(void)
 {
     for (size_t i = 0; i < count; i++) {
-        struct kaiverohm_report r = kaiverohm_read(state, STATE, streams, 16 * ROOM, messages, 32768, response, 7,
-                                                   packets[i], lengths[i]);
+        struct kaiverohm_report r = kaiverohm_read(state, STATE, streams, 16 * ROOM, messages,
+                                                   32768, response, 7, packets[i], lengths[i]);
         sum += r.kind + r.length;
     }
 }
 
 static void round_burst(void)
 {
-    struct kaiverohm_burst b = kaiverohm_read_burst(state, STATE, streams, 16 * ROOM, messages, 32768, responses,
-                                                    sizeof responses, reports, PACKETS * 9, burst, burst_length, 0);
+    struct kaiverohm_burst b = kaiverohm_read_burst(state, STATE, streams, 16 * ROOM, messages,
+                                                    32768, responses, sizeof responses, reports,
+                                                    PACKETS * 9, burst, burst_length, 0);
     sum += b.count;
 }
 
 static void round_twin(void)
 {
     for (size_t i = 0; i < count; i++) {
-        struct twin_report r =
-            twin_read(&twin, streams, 16 * ROOM, messages, 32768, response, 7, packets[i], lengths[i]);
+        struct twin_report r = twin_read(&twin, streams, 16 * ROOM, messages, 32768, response, 7,
+                                         packets[i], lengths[i]);
         sum += r.kind + r.length;
     }
 }
@@ -137,8 +140,8 @@ static void round_twin(void)
 static void round_unchecked(void)
 {
     for (size_t i = 0; i < count; i++) {
-        struct twin_report r =
-            twin_read_unchecked(&twin, streams, 16 * ROOM, messages, 32768, response, 7, packets[i], lengths[i]);
+        struct twin_report r = twin_read_unchecked(&twin, streams, 16 * ROOM, messages, 32768,
+                                                   response, 7, packets[i], lengths[i]);
         sum += r.kind + r.length;
     }
 }
@@ -155,11 +158,11 @@ static void round_memcpy(void)
 static const struct {
     const char *name;
     void (*round)(void);
-} endpoints[] = {{"single", round_single},
-                 {"burst", round_burst},
-                 {"twin", round_twin},
-                 {"unchecked", round_unchecked},
-                 {"memcpy", round_memcpy}};
+} endpoints[] = { { "single", round_single },
+                  { "burst", round_burst },
+                  { "twin", round_twin },
+                  { "unchecked", round_unchecked },
+                  { "memcpy", round_memcpy } };
 
 static void same(int holds, const char *what, size_t packet)
 {
@@ -172,37 +175,44 @@ static void same(int holds, const char *what, size_t packet)
 /* Library and twin give the same answers, and leave the same states, responses and memories. So does the burst call. */
 static void agree(void)
 {
-    static uint8_t twin_streams[sizeof streams], twin_messages[sizeof messages], twin_response[sizeof response];
+    static uint8_t twin_streams[sizeof streams], twin_messages[sizeof messages],
+        twin_response[sizeof response];
     static struct kaiverohm_report answers[PACKETS];
     static uint8_t answered[PACKETS][7];
     for (size_t i = 0; i < count; i++) {
-        struct kaiverohm_report a = kaiverohm_read(state, STATE, streams, 16 * ROOM, messages, 32768, response, 7,
-                                                   packets[i], lengths[i]);
-        struct twin_report b = twin_read(&twin, twin_streams, 16 * ROOM, twin_messages, 32768, twin_response, 7,
-                                         packets[i], lengths[i]);
-        same(a.kind == b.kind && a.number == b.number && a.dropped == b.dropped && a.context == b.context &&
-                 a.source == b.source && a.cos_or_letter == b.cos_or_letter &&
-                 a.stream_or_mailbox == b.stream_or_mailbox && a.length == b.length,
+        struct kaiverohm_report a = kaiverohm_read(state, STATE, streams, 16 * ROOM, messages,
+                                                   32768, response, 7, packets[i], lengths[i]);
+        struct twin_report b = twin_read(&twin, twin_streams, 16 * ROOM, twin_messages, 32768,
+                                         twin_response, 7, packets[i], lengths[i]);
+        same(a.kind == b.kind && a.number == b.number && a.dropped == b.dropped
+                 && a.context == b.context && a.source == b.source
+                 && a.cos_or_letter == b.cos_or_letter && a.stream_or_mailbox == b.stream_or_mailbox
+                 && a.length == b.length,
              "answers", i);
         same(memcmp(state, &twin, sizeof twin) == 0, "states", i);
         same(memcmp(response, twin_response, sizeof response) == 0, "responses", i);
         if (a.kind == KAIVEROHM_DELIVERED)
-            same(memcmp(streams + a.context * ROOM, twin_streams + a.context * ROOM, a.length) == 0, "PDUs", i);
+            same(memcmp(streams + a.context * ROOM, twin_streams + a.context * ROOM, a.length) == 0,
+                 "PDUs", i);
         if (a.kind == KAIVEROHM_MESSAGE)
-            same(memcmp(messages + a.context * 4096, twin_messages + a.context * 4096, a.length) == 0, "messages", i);
+            same(memcmp(messages + a.context * 4096, twin_messages + a.context * 4096, a.length)
+                     == 0,
+                 "messages", i);
         answers[i] = a;
         memcpy(answered[i], response, sizeof response);
     }
     same(memcmp(streams, twin_streams, sizeof streams) == 0, "stream memories", count);
     same(memcmp(messages, twin_messages, sizeof messages) == 0, "message memories", count);
 
-    struct kaiverohm_burst b = kaiverohm_read_burst(state, STATE, streams, 16 * ROOM, messages, 32768, responses,
-                                                    sizeof responses, reports, PACKETS * 9, burst, burst_length, 0);
+    struct kaiverohm_burst b = kaiverohm_read_burst(state, STATE, streams, 16 * ROOM, messages,
+                                                    32768, responses, sizeof responses, reports,
+                                                    PACKETS * 9, burst, burst_length, 0);
     same(b.stop == KAIVEROHM_BURST_END && b.count == count, "bursts", b.count);
     same(memcmp(reports, answers, count * sizeof answers[0]) == 0, "reports of a burst", count);
     same(memcmp(state, &twin, sizeof twin) == 0, "states behind a burst", count);
     for (size_t i = 0; i < count; i++)
-        same(answers[i].response == 0 || memcmp(responses + 8 * i, answered[i], 7) == 0, "responses of a burst", i);
+        same(answers[i].response == 0 || memcmp(responses + 8 * i, answered[i], 7) == 0,
+             "responses of a burst", i);
 }
 
 int main(int argc, char **argv)
@@ -231,8 +241,8 @@ int main(int argc, char **argv)
             endpoints[e].round();
         clock_gettime(CLOCK_MONOTONIC, &to);
         double ns = (double)(to.tv_sec - from.tv_sec) * 1e9 + (double)(to.tv_nsec - from.tv_nsec);
-        printf("%zu %zu %d %.1f %llu\n", count, payload, rounds, rounds ? ns / rounds / (double)count : 0.0,
-               (unsigned long long)sum);
+        printf("%zu %zu %d %.1f %llu\n", count, payload, rounds,
+               rounds ? ns / rounds / (double)count : 0.0, (unsigned long long)sum);
         return 0;
     }
     return 2;

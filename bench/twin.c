@@ -42,12 +42,12 @@ static bool bad_state(const struct twin *t)
 
 static inline struct twin_report refused(unsigned number, bool dropped)
 {
-    return (struct twin_report){.kind = TWIN_REFUSED, .number = number, .dropped = dropped};
+    return (struct twin_report){ .kind = TWIN_REFUSED, .number = number, .dropped = dropped };
 }
 
 static inline void close_stream(struct twin *t, int n)
 {
-    t->streams[n] = (struct twin_stream){0};
+    t->streams[n] = (struct twin_stream){ 0 };
 }
 
 static inline struct twin_report refused_closing(struct twin *t, int found, unsigned number)
@@ -74,7 +74,8 @@ static inline int free_stream(const struct twin *t)
     return 16;
 }
 
-static inline struct twin_report read_stream(struct twin *t, uint8_t *memory, const uint8_t *p, size_t length)
+static inline struct twin_report read_stream(struct twin *t, uint8_t *memory, const uint8_t *p,
+                                             size_t length)
 {
     unsigned flags = p[6];
     if (flags & 4)
@@ -111,11 +112,11 @@ static inline struct twin_report read_stream(struct twin *t, uint8_t *memory, co
     }
     memcpy(memory + n * t->room + base, p + from, size);
     if (!end) {
-        t->streams[n] = (struct twin_stream){1, source, cos, stream, base + size};
-        return (struct twin_report){.kind = TWIN_HELD, .dropped = dropped};
+        t->streams[n] = (struct twin_stream){ 1, source, cos, stream, base + size };
+        return (struct twin_report){ .kind = TWIN_HELD, .dropped = dropped };
     }
     close_stream(t, n);
-    return (struct twin_report){TWIN_DELIVERED, 0, dropped, n, source, cos, stream, base + size};
+    return (struct twin_report){ TWIN_DELIVERED, 0, dropped, n, source, cos, stream, base + size };
 }
 
 static inline void respond(uint8_t *r, const uint8_t *p, unsigned status)
@@ -130,16 +131,18 @@ static inline void respond(uint8_t *r, const uint8_t *p, unsigned status)
     r[6] = p[6];
 }
 
-static inline struct twin_report answered(uint8_t *response, const uint8_t *p, unsigned number, unsigned status)
+static inline struct twin_report answered(uint8_t *response, const uint8_t *p, unsigned number,
+                                          unsigned status)
 {
     respond(response, p, status);
     return refused(number, false);
 }
 
-static inline struct twin_report read_message(struct twin *t, uint8_t *memory, uint8_t *response, const uint8_t *p,
-                                              size_t length)
+static inline struct twin_report read_message(struct twin *t, uint8_t *memory, uint8_t *response,
+                                              const uint8_t *p, size_t length)
 {
-    unsigned msglen = p[5] >> 4, ssize = p[5] & 15, letter = p[6] >> 6, mbox = p[6] >> 4 & 3, msgseg = p[6] & 15;
+    unsigned msglen = p[5] >> 4, ssize = p[5] & 15, letter = p[6] >> 6, mbox = p[6] >> 4 & 3,
+             msgseg = p[6] & 15;
     uint64_t source = p[3] << 8 | p[4];
     size_t raw = length - 7;
     unsigned size = bytes_of(ssize);
@@ -153,11 +156,11 @@ static inline struct twin_report read_message(struct twin *t, uint8_t *memory, u
     int n = 8;
     if (msglen > 0) {
         for (n = 0; n < 8; n++)
-            if (t->messages[n].source == source && t->messages[n].letter == letter && t->messages[n].mbox == mbox &&
-                t->messages[n].live)
+            if (t->messages[n].source == source && t->messages[n].letter == letter
+                && t->messages[n].mbox == mbox && t->messages[n].live)
                 break;
     }
-    struct twin_message m = {1, source, letter, mbox, msglen, ssize, 0, 0};
+    struct twin_message m = { 1, source, letter, mbox, msglen, ssize, 0, 0 };
     if (n < 8) {
         m = t->messages[n];
         if (m.msglen != msglen || m.ssize != ssize)
@@ -173,24 +176,28 @@ static inline struct twin_report read_message(struct twin *t, uint8_t *memory, u
     respond(response, p, 0);
     if (msglen == 0) {
         memcpy(memory + n * 4096, p + 7, raw);
-        t->messages[n] = (struct twin_message){0};
-        return (struct twin_report){TWIN_MESSAGE, 0, 0, n, source, letter, 4 * msgseg + mbox, raw};
+        t->messages[n] = (struct twin_message){ 0 };
+        return (
+            struct twin_report){ TWIN_MESSAGE, 0, 0, n, source, letter, 4 * msgseg + mbox, raw };
     }
     memcpy(memory + n * 4096 + msgseg * size, p + 7, raw);
     m.marks |= 1u << msgseg;
     if (last)
         m.last = raw;
     if (m.marks == (2u << msglen) - 1) {
-        t->messages[n] = (struct twin_message){0};
-        return (struct twin_report){TWIN_MESSAGE, 0, 0, n, source, letter, mbox, msglen * size + m.last};
+        t->messages[n] = (struct twin_message){ 0 };
+        return (struct twin_report){ TWIN_MESSAGE, 0,      0,    n,
+                                     source,       letter, mbox, msglen * size + m.last };
     }
     t->messages[n] = m;
-    return (struct twin_report){.kind = TWIN_HELD};
+    return (struct twin_report){ .kind = TWIN_HELD };
 }
 
-static inline struct twin_report read_packet(struct twin *t, uint8_t *streams, size_t streams_length,
-                                             uint8_t *messages, size_t messages_length, uint8_t *response,
-                                             size_t response_length, const uint8_t *p, size_t length)
+static inline struct twin_report read_packet(struct twin *t, uint8_t *streams,
+                                             size_t streams_length, uint8_t *messages,
+                                             size_t messages_length, uint8_t *response,
+                                             size_t response_length, const uint8_t *p,
+                                             size_t length)
 {
     if (streams_length != 16 * t->room || messages_length != 32768 || response_length < 7)
         return refused(12, false);
@@ -210,25 +217,25 @@ static inline struct twin_report read_packet(struct twin *t, uint8_t *streams, s
     return read_message(t, messages, response, p, length);
 }
 
-struct twin_report twin_read(struct twin *t, uint8_t *streams, size_t streams_length, uint8_t *messages,
-                             size_t messages_length, uint8_t *response, size_t response_length,
-                             const uint8_t *packet, size_t length)
+struct twin_report twin_read(struct twin *t, uint8_t *streams, size_t streams_length,
+                             uint8_t *messages, size_t messages_length, uint8_t *response,
+                             size_t response_length, const uint8_t *packet, size_t length)
 {
     if (bad_state(t))
         return refused(19, false);
-    return read_packet(t, streams, streams_length, messages, messages_length, response, response_length, packet,
-                       length);
+    return read_packet(t, streams, streams_length, messages, messages_length, response,
+                       response_length, packet, length);
 }
 
-struct twin_report twin_read_unchecked(struct twin *t, uint8_t *streams, size_t streams_length, uint8_t *messages,
-                                       size_t messages_length, uint8_t *response, size_t response_length,
-                                       const uint8_t *packet, size_t length)
+struct twin_report twin_read_unchecked(struct twin *t, uint8_t *streams, size_t streams_length,
+                                       uint8_t *messages, size_t messages_length, uint8_t *response,
+                                       size_t response_length, const uint8_t *packet, size_t length)
 {
-    return read_packet(t, streams, streams_length, messages, messages_length, response, response_length, packet,
-                       length);
+    return read_packet(t, streams, streams_length, messages, messages_length, response,
+                       response_length, packet, length);
 }
 
 void twin_setup(struct twin *t, unsigned device, size_t mtu, size_t room)
 {
-    *t = (struct twin){.device = device, .mtu = mtu, .room = room};
+    *t = (struct twin){ .device = device, .mtu = mtu, .room = room };
 }

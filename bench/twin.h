@@ -30,13 +30,14 @@ struct twin_report {
 void twin_setup(struct twin *t, unsigned device, size_t mtu, size_t room);
 
 /* With every check of the refusal table. */
-struct twin_report twin_read(struct twin *t, uint8_t *streams, size_t streams_length, uint8_t *messages,
-                             size_t messages_length, uint8_t *response, size_t response_length,
-                             const uint8_t *packet, size_t length);
+struct twin_report twin_read(struct twin *t, uint8_t *streams, size_t streams_length,
+                             uint8_t *messages, size_t messages_length, uint8_t *response,
+                             size_t response_length, const uint8_t *packet, size_t length);
 
 /* The same without the test of the state, row 19. */
-struct twin_report twin_read_unchecked(struct twin *t, uint8_t *streams, size_t streams_length, uint8_t *messages,
-                                       size_t messages_length, uint8_t *response, size_t response_length,
-                                       const uint8_t *packet, size_t length);
+struct twin_report twin_read_unchecked(struct twin *t, uint8_t *streams, size_t streams_length,
+                                       uint8_t *messages, size_t messages_length, uint8_t *response,
+                                       size_t response_length, const uint8_t *packet,
+                                       size_t length);
 
 #endif

@@ -24,14 +24,12 @@ static void print_part(const uint8_t *memory, struct kaiverohm_place place)
 /* What a board does with a packet that came. Answers whether it was accepted. */
 static int packet_came(const uint8_t *packet, size_t length)
 {
-    struct kaiverohm_report report = kaiverohm_read(
-        state, KAIVEROHM_STATE_WORDS, streams, sizeof streams, messages, sizeof messages,
-        response, sizeof response, packet, length);
+    struct kaiverohm_report report = kaiverohm_read(state, KAIVEROHM_STATE_WORDS, streams,
+                                                    sizeof streams, messages, sizeof messages,
+                                                    response, sizeof response, packet, length);
 
     switch (report.kind) {
-    case KAIVEROHM_HELD:
-        printf("held\n");
-        break;
+    case KAIVEROHM_HELD: printf("held\n"); break;
     case KAIVEROHM_DELIVERED:
         /* Its bytes are in our own memory. The next packet may write over them. */
         printf("delivered, source %" PRIu64 ", cos %" PRIu64 ", stream %" PRIu64 "\n",
@@ -45,9 +43,7 @@ static int packet_came(const uint8_t *packet, size_t length)
         print_part(messages, kaiverohm_message_room(state, KAIVEROHM_STATE_WORDS, sizeof messages,
                                                     report.context, report.length));
         break;
-    default:
-        printf("refused: %" PRIu64 "\n", report.number);
-        break;
+    default: printf("refused: %" PRIu64 "\n", report.number); break;
     }
     /* A packet, refused or not, may have given an unfinished PDU of its flow up. */
     if (report.dropped)
@@ -81,8 +77,8 @@ int main(void)
 
     for (uint64_t k = 0; k < count; k++) {
         uint8_t packet[KAIVEROHM_LARGEST_PACKET];
-        answer = kaiverohm_write_segment(packet, sizeof packet, heading, MTU,
-                                         (const uint8_t *)text, length, k);
+        answer = kaiverohm_write_segment(packet, sizeof packet, heading, MTU, (const uint8_t *)text,
+                                         length, k);
         if (answer.kind != KAIVEROHM_WRITTEN) {
             printf("writer refused: %" PRIu64 "\n", answer.number);
             return 1;

@@ -76,39 +76,39 @@ extern "C" {
 #define KAIVEROHM_STATE_WORDS 147      /* a state: 147 words of 8 bytes */
 #define KAIVEROHM_STREAM_CONTEXTS 16   /* stream memory: 16 rooms of R bytes */
 #define KAIVEROHM_MESSAGE_CONTEXTS 8   /* message memory: 8 rooms of 4,096 */
-#define KAIVEROHM_MESSAGE_ROOM 4096
-#define KAIVEROHM_MESSAGE_MEMORY 32768
+#define KAIVEROHM_MESSAGE_ROOM 4096    /* one room */
+#define KAIVEROHM_MESSAGE_MEMORY 32768 /* all 8 rooms */
 #define KAIVEROHM_RESPONSE_BYTES 7     /* a type 13 response */
-#define KAIVEROHM_LARGEST_PDU 65536
+#define KAIVEROHM_LARGEST_PDU 65536    /* the bytes of a PDU: 1 to 65,536 */
 #define KAIVEROHM_LARGEST_PACKET 265   /* of what the segment writer writes */
 #define KAIVEROHM_REPORT_WORDS 9       /* a report in a burst: 9 words */
 #define KAIVEROHM_SLOT_BYTES 8         /* a response in a burst: 8 bytes */
 
 /* What a call says: crates/c_reports/specs/Reports.antt, kindOf. */
 enum {
-    KAIVEROHM_REFUSED = 0,    /* number: the refusal */
-    KAIVEROHM_HELD = 1,       /* a segment is stored, more is to come */
-    KAIVEROHM_DELIVERED = 2,  /* a PDU is whole */
-    KAIVEROHM_MESSAGE = 3,    /* a message is whole */
-    KAIVEROHM_READY = 4,      /* a state is made */
-    KAIVEROHM_CLOSED = 5,     /* a context was open, and is closed */
-    KAIVEROHM_WAS_FREE = 6,   /* a context was free, and stays so */
-    KAIVEROHM_WRITTEN = 7     /* number: the bytes of the packet written */
+    KAIVEROHM_REFUSED = 0,   /* number: the refusal */
+    KAIVEROHM_HELD = 1,      /* a segment is stored, more is to come */
+    KAIVEROHM_DELIVERED = 2, /* a PDU is whole */
+    KAIVEROHM_MESSAGE = 3,   /* a message is whole */
+    KAIVEROHM_READY = 4,     /* a state is made */
+    KAIVEROHM_CLOSED = 5,    /* a context was open, and is closed */
+    KAIVEROHM_WAS_FREE = 6,  /* a context was free, and stays so */
+    KAIVEROHM_WRITTEN = 7    /* number: the bytes of the packet written */
 };
 
 /* Why a burst stopped: crates/c_bursts/specs/Bursts.antt. */
 enum {
-    KAIVEROHM_BURST_REFUSED = 0,  /* number: 19 or 12. Nothing was read */
-    KAIVEROHM_BURST_END = 1,      /* all its packets were read */
-    KAIVEROHM_BURST_BAD = 2,      /* the record at next is no record */
-    KAIVEROHM_BURST_FULL = 3,     /* a packet more, but no report or no response left */
-    KAIVEROHM_BURST_DELIVERY = 4  /* the last packet read delivered something */
+    KAIVEROHM_BURST_REFUSED = 0, /* number: 19 or 12. Nothing was read */
+    KAIVEROHM_BURST_END = 1,     /* all its packets were read */
+    KAIVEROHM_BURST_BAD = 2,     /* the record at next is no record */
+    KAIVEROHM_BURST_FULL = 3,    /* a packet more, but no report or no response left */
+    KAIVEROHM_BURST_DELIVERY = 4 /* the last packet read delivered something */
 };
 
 /* The answer of a call that reads no packet. */
 struct kaiverohm_answer {
     uint64_t kind;
-    uint64_t number;  /* the refusal, or the bytes written; else 0 */
+    uint64_t number; /* the refusal, or the bytes written; else 0 */
 };
 
 /* The answer to a packet. Fields that a kind does not name are 0. */
@@ -128,10 +128,10 @@ struct kaiverohm_report {
 
 /* The answer to a burst. */
 struct kaiverohm_burst {
-    uint64_t stop;    /* why it stopped */
-    uint64_t number;  /* refused: the refusal. Else 0 */
-    uint64_t count;   /* the packets read, so the reports written */
-    uint64_t next;    /* the byte of burst where the first unread record begins */
+    uint64_t stop;   /* why it stopped */
+    uint64_t number; /* refused: the refusal. Else 0 */
+    uint64_t count;  /* the packets read, so the reports written */
+    uint64_t next;   /* the byte of burst where the first unread record begins */
 };
 
 /* A part of a memory of yours. */
@@ -146,7 +146,7 @@ struct kaiverohm_heading {
     uint16_t source;
     uint16_t stream;
     uint8_t cos;
-    uint8_t priority;  /* 0 to 3 */
+    uint8_t priority; /* 0 to 3 */
 };
 
 /* The words of a state: 147.
@@ -162,9 +162,10 @@ uint64_t kaiverohm_state_length(void);
      19  R is under the MTU or over 65,536. The state is zeros.
    A state of zeros is none: reading and abandoning refuse it by 19.
    Promise: crates/kaiverohm/specs/Exports.antt, SetupFromCPromise. */
-struct kaiverohm_answer kaiverohm_setup(uint64_t *state, size_t state_words,
-                                        uint16_t device, uint64_t mtu, uint64_t room);
+struct kaiverohm_answer kaiverohm_setup(uint64_t *state, size_t state_words, uint16_t device,
+                                        uint64_t mtu, uint64_t room);
 
+/* clang-format off */
 /* Reads one packet: the wire packet without its first link byte, CRC and fill.
 
    state:          147 words, read and written.
@@ -195,6 +196,7 @@ struct kaiverohm_report kaiverohm_read(uint64_t *state, size_t state_words,
                                        uint8_t *message_memory, size_t message_length,
                                        uint8_t *response, size_t response_length,
                                        const uint8_t *packet, size_t packet_length);
+/* clang-format on */
 
 /* Reads many packets, as kaiverohm_read would one after another. The state
    and the lengths are tested once.

@@ -129,9 +129,8 @@ void must_be_same(const char *name, const struct buffer *is, const struct buffer
 {
     if (is->length == wanted->length && memcmp(is->bytes, wanted->bytes, is->length) == 0)
         return;
-    fprintf(stderr, "%s: the output is\n%.*sbut should be\n%.*s", name,
-            (int)is->length, (const char *)is->bytes,
-            (int)wanted->length, (const char *)wanted->bytes);
+    fprintf(stderr, "%s: the output is\n%.*sbut should be\n%.*s", name, (int)is->length,
+            (const char *)is->bytes, (int)wanted->length, (const char *)wanted->bytes);
     exit(1);
 }
 
@@ -205,8 +204,8 @@ const struct buffer *bundle_out(void)
 void print_sections(FILE *to)
 {
     for (unsigned i = 0; i < section_count; i++)
-        fprintf(to, "%-44s %4u logs %6u lines %7zu bytes\n", sections[i].name,
-                sections[i].logs, sections[i].lines, sections[i].bytes);
+        fprintf(to, "%-44s %4u logs %6u lines %7zu bytes\n", sections[i].name, sections[i].logs,
+                sections[i].lines, sections[i].bytes);
 }
 
 void release_bundle(void)

@@ -91,8 +91,10 @@ static void singles(void)
         unsigned number = 0;
         for (size_t bytes = 8; bytes <= ssize_of(code); bytes += ssize_of(code) > 64 ? 40 : 8) {
             const struct box box = {
-                .priority = number % 4, .source = 7 + number, .letter = number % 4,
-                .mbox = number / 2 % 4
+                .priority = number % 4,
+                .source = 7 + number,
+                .letter = number % 4,
+                .mbox = number / 2 % 4,
             };
             put(message_packet(box, 0, code, 3 * number % 16, bytes));
             number++;
@@ -148,8 +150,10 @@ static void side_by_side(void)
             unsigned which = below(&random, 10);
             unsigned msglen = 1 + which % 5;
             const struct box of = {
-                .priority = below(&random, 4), .source = 50 + which / 4, .letter = which % 4,
-                .mbox = run % 4
+                .priority = below(&random, 4),
+                .source = 50 + which / 4,
+                .letter = which % 4,
+                .mbox = run % 4,
             };
             put(segment_of(of, msglen, 9 + run % 2, below(&random, msglen + 1), 8));
         }

@@ -9,8 +9,8 @@ static const struct flow flow = { .priority = 0, .source = 2, .cos = 5 };
 /* The joint: the first has two packets and loses its end, the second has
    two or more and loses its start. The parts fit, and a PDU is delivered
    that nobody sent: the first one's stream, the second one's length. */
-static bool is_joint(unsigned first_packets, unsigned first_lost,
-                     unsigned second_packets, unsigned second_lost)
+static bool is_joint(unsigned first_packets, unsigned first_lost, unsigned second_packets,
+                     unsigned second_lost)
 {
     return first_packets == 2 && first_lost == 1 && second_packets >= 2 && second_lost == 0;
 }
@@ -50,10 +50,10 @@ static void neighbours(void)
 
 struct sender {
     struct pdu pdu;
-    unsigned next;          /* the packet that comes next */
-    unsigned lost;          /* the packet that will be lost */
-    bool lost_before;       /* the PDU before lost one */
-    unsigned left;          /* PDUs still to send */
+    unsigned next;    /* the packet that comes next */
+    unsigned lost;    /* the packet that will be lost */
+    bool lost_before; /* the PDU before lost one */
+    unsigned left;    /* PDUs still to send */
 };
 
 static size_t random_length(struct random *random)

@@ -32,9 +32,10 @@ static void wants_refused(const char *before, unsigned number, const char *after
     wants(lines);
 }
 
-/* A refusal that leaves all. Once the flow is not open, once it is.
-   The end behind it shows that the context is still there. */
-static void leaves_all(const char *name, unsigned number, struct packet bad)
+/* A refusal of a packet. Once the flow is not open, once it is.
+   The end behind it shows whether the context is still there. */
+static void stream_refused(const char *name, unsigned number, struct packet bad,
+                           const char *after_open)
 {
     begin(name);
     put(bad);
@@ -45,22 +46,19 @@ static void leaves_all(const char *name, unsigned number, struct packet bad)
     put(start());
     put(bad);
     put(end());
-    wants_refused("held, ", number, ", pdu 2 5 7 40, end 3");
+    wants_refused("held, ", number, after_open);
+}
+
+/* A refusal that leaves all. */
+static void leaves_all(const char *name, unsigned number, struct packet bad)
+{
+    stream_refused(name, number, bad, ", pdu 2 5 7 40, end 3");
 }
 
 /* A refusal that closes the flow's context. */
 static void closes(const char *name, unsigned number, struct packet bad)
 {
-    begin(name);
-    put(bad);
-    put(end());
-    wants_refused("", number, ", refused 8, end 2");
-
-    begin(name);
-    put(start());
-    put(bad);
-    put(end());
-    wants_refused("held, ", number, " dropped, refused 8, end 3");
+    stream_refused(name, number, bad, " dropped, refused 8, end 3");
 }
 
 /* A refused message packet. Once the message is not open, once it is. */
@@ -92,8 +90,7 @@ static void row_1(void)
     for (size_t length = 5; length < 7; length++) {
         for (int i = 0; i < 4; i++)
             leaves_all("1: type 9 under 7 bytes", 1, cut_to(full(kinds[i]), length));
-        leaves_all("1: type 11 under 7 bytes", 1,
-                   cut_to(message_packet(box, 0, 9, 0, 8), length));
+        leaves_all("1: type 11 under 7 bytes", 1, cut_to(message_packet(box, 0, 9, 0, 8), length));
     }
     for (size_t length = 7; length < 9; length++) {
         leaves_all("1: start under 9 bytes", 1, cut_to(full(START), length));
@@ -237,6 +234,17 @@ static void row_8(void)
     wants("held, refused 11 dropped, refused 8, end 3");
 }
 
+/* So many lines of packets that are held, and then these. */
+static void wants_after_held(int count, const char *lines)
+{
+    char all[1000];
+    size_t place = 0;
+    for (int i = 0; i < count; i++)
+        place += (size_t)snprintf(all + place, sizeof all - place, "held, ");
+    snprintf(all + place, sizeof all - place, "%s", lines);
+    wants(all);
+}
+
 /* A start and 63 continuations fill the room of 2,048. */
 static void begin_full_room(const char *name)
 {
@@ -246,15 +254,9 @@ static void begin_full_room(const char *name)
         put(full(CONTINUATION));
 }
 
-/* The 64 lines of a full room, and then these. */
 static void wants_after_full_room(const char *lines)
 {
-    char all[1000];
-    size_t place = 0;
-    for (int i = 0; i < 64; i++)
-        place += (size_t)snprintf(all + place, sizeof all - place, "held, ");
-    snprintf(all + place, sizeof all - place, "%s", lines);
-    wants(all);
+    wants_after_held(64, lines);
 }
 
 static void row_9(void)
@@ -291,15 +293,9 @@ static void put_sixteen_starts(void)
     }
 }
 
-/* The sixteen lines of sixteen starts, and then these. */
 static void wants_after_sixteen(const char *lines)
 {
-    char all[600];
-    size_t place = 0;
-    for (int i = 0; i < 16; i++)
-        place += (size_t)snprintf(all + place, sizeof all - place, "held, ");
-    snprintf(all + place, sizeof all - place, "%s", lines);
-    wants(all);
+    wants_after_held(16, lines);
 }
 
 static void row_10(void)
@@ -559,8 +555,7 @@ static void order_of_heads(void)
         leaves_all("5 before 6, odd bytes", 5, longer_by(extended, 1));
         leaves_all("5 before 6, no data", 5,
                    with_flipped(stream_packet(flow, kinds[i], 40, 0), 6, BIT_XH));
-        leaves_all("5 before 7", 5,
-                   with_flipped(stream_packet(flow, kinds[i], 40, 64), 6, BIT_XH));
+        leaves_all("5 before 7", 5, with_flipped(stream_packet(flow, kinds[i], 40, 64), 6, BIT_XH));
     }
 }
 

@@ -100,12 +100,13 @@ struct packet packet_of(struct pdu pdu, unsigned number)
         .destination = LOG_DEVICE,
         .source = (uint16_t)pdu.flow.source,
         .cos = (uint8_t)pdu.flow.cos,
-        .stream_id = (uint16_t)pdu.stream
+        .stream_id = (uint16_t)pdu.stream,
     };
     for (size_t i = 0; i < pdu.length; i++)
         bytes[i] = (uint8_t)(pdu.stream + 7 * i);
-    packet.length = second_write_segment(packet.bytes, sizeof packet.bytes, heading, LOG_MTU,
-                                         bytes, pdu.length, number).length;
+    struct second_answer written = second_write_segment(packet.bytes, sizeof packet.bytes, heading,
+                                                        LOG_MTU, bytes, pdu.length, number);
+    packet.length = written.length;
     return packet;
 }
 

@@ -43,10 +43,12 @@ static uint8_t *block(size_t length, unsigned value)
 static struct second_lent lend(uint64_t room)
 {
     const struct second_lent lent = {
-        .stream_memory = block(16 * room, 0xEE), .stream_length = 16 * room,
+        .stream_memory = block(16 * room, 0xEE),
+        .stream_length = 16 * room,
         .message_memory = block(SECOND_MESSAGE_MEMORY, 0xEE),
         .message_length = SECOND_MESSAGE_MEMORY,
-        .response = block(9, 0xEE), .response_length = 9
+        .response = block(9, 0xEE),
+        .response_length = 9,
     };
     return lent;
 }
@@ -61,9 +63,8 @@ static void give_back(struct second_lent lent)
 /* ---- The sample ---------------------------------------------------------- */
 
 static const uint8_t sample_log[] = {
-    0x0D, 0x19, 0x00, 0x01, 0x00, 0x02, 0x05, 0xC1, 0x00, 0x07, 0xAA, 0xBB, 0xCC, 0x00,
-    0x0F, 0x1B, 0x00, 0x01, 0x00, 0x02, 0x09, 0x60, 0x11, 0x12, 0x13, 0x14, 0x15, 0x16,
-    0x17, 0x18
+    0x0D, 0x19, 0x00, 0x01, 0x00, 0x02, 0x05, 0xC1, 0x00, 0x07, 0xAA, 0xBB, 0xCC, 0x00, 0x0F,
+    0x1B, 0x00, 0x01, 0x00, 0x02, 0x09, 0x60, 0x11, 0x12, 0x13, 0x14, 0x15, 0x16, 0x17, 0x18,
 };
 
 static void sample(void)
@@ -449,8 +450,12 @@ static void message_places(void)
 static struct second_message random_message(struct random *random)
 {
     struct second_message c = {
-        .open = 1, .source = below(random, 2), .letter = below(random, 2), .mbox = below(random, 2),
-        .msglen = between(random, 1, 3), .ssize = between(random, 9, 10)
+        .open = 1,
+        .source = below(random, 2),
+        .letter = below(random, 2),
+        .mbox = below(random, 2),
+        .msglen = between(random, 1, 3),
+        .ssize = between(random, 9, 10),
     };
     uint64_t all = ((uint64_t)2 << c.msglen) - 1;
     c.marks = between(random, 1, (uint32_t)all - 1);
@@ -468,7 +473,7 @@ static struct second_endpoint random_state(struct random *random)
     for (int i = 0; i < SECOND_STREAM_CONTEXTS; i++)
         if (!one_in(random, full))
             state.stream[i] = (struct second_stream){
-                1, below(random, 5), below(random, 5), i, between(random, 1, (uint32_t)state.room)
+                1, below(random, 5), below(random, 5), i, between(random, 1, (uint32_t)state.room),
             };
     for (int i = 0; i < SECOND_MESSAGE_CONTEXTS; i++)
         if (!one_in(random, full))
@@ -483,7 +488,10 @@ static struct packet random_packet(struct random *random, uint64_t mtu)
     static const enum segment_kind kinds[4] = { CONTINUATION, END, START, SINGLE };
     const struct flow flow = { below(random, 4), below(random, 5), below(random, 5) };
     const struct box box = {
-        below(random, 4), below(random, 2), below(random, 2), below(random, 2)
+        below(random, 4),
+        below(random, 2),
+        below(random, 2),
+        below(random, 2),
     };
     size_t bytes = one_in(random, 4) ? below(random, 50) : (size_t)mtu % 500;
     struct packet packet = stream_packet(flow, kinds[below(random, 4)], below(random, 150), bytes);
@@ -561,10 +569,13 @@ static void one_random(struct random *random)
     struct second_lent copy = lend(room);
     struct second_answer answer = read_one(&state, lent, packet);
     const struct outcome outcome = {
-        .before = &before, .after = &state, .answer = answer,
-        .memory_same = same(lent.stream_memory, copy.stream_memory, 16 * room) &&
-                       same(lent.message_memory, copy.message_memory, SECOND_MESSAGE_MEMORY),
-        .response = lent.response, .packet = &packet
+        .before = &before,
+        .after = &state,
+        .answer = answer,
+        .memory_same = same(lent.stream_memory, copy.stream_memory, 16 * room)
+                       && same(lent.message_memory, copy.message_memory, SECOND_MESSAGE_MEMORY),
+        .response = lent.response,
+        .packet = &packet,
     };
     must(second_refusal19(&before) == refused_by(answer, 19), "19 exactly if the state is named");
     must(second_refusal19(&before) || !second_refusal19(&state), "a good state stays good");

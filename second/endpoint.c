@@ -497,6 +497,7 @@ static bool no_message_free(const struct reading *r)
 
 enum leaves { ALL, CLOSED, ALL_AND_ERROR, ALL_AND_RETRY };
 
+/* clang-format off */
 static const struct row {
     unsigned number;
     bool (*given)(const struct reading *r);
@@ -524,6 +525,7 @@ static const struct row {
     { 24, already_marked,          ALL_AND_ERROR },
     { 25, no_message_free,         ALL_AND_RETRY },
 };
+/* clang-format on */
 
 /* The first row whose test holds; NULL if none does. */
 static const struct row *first_row(const struct reading *r)
@@ -588,7 +590,7 @@ static struct second_answer deliver_pdu(struct second_endpoint *state, int conte
         .source = c->source,
         .cos_or_letter = c->cos,
         .stream_or_mailbox = c->stream_id,
-        .length = c->held
+        .length = c->held,
     };
     close_stream(state, context);
     return answer;
@@ -613,7 +615,7 @@ static struct second_answer accept_start_or_single(struct second_endpoint *state
         .open = 1,
         .source = source(r),
         .cos = class_of_service(r),
-        .stream_id = stream_id(r)
+        .stream_id = stream_id(r),
     };
     store_stream_data(state, r, context);
     if (is_single(r))
@@ -638,8 +640,8 @@ static void store_message_data(const struct reading *r, int context)
     copy(room + segment(r) * ssize_bytes(ssize(r)), data(r), data_bytes(r));
 }
 
-static struct second_answer message_answer(const struct reading *r, int context,
-                                           unsigned mailbox, uint64_t length)
+static struct second_answer message_answer(const struct reading *r, int context, unsigned mailbox,
+                                           uint64_t length)
 {
     struct second_answer answer = {
         .kind = SECOND_MESSAGE,
@@ -647,7 +649,7 @@ static struct second_answer message_answer(const struct reading *r, int context,
         .source = source(r),
         .cos_or_letter = letter(r),
         .stream_or_mailbox = mailbox,
-        .length = length
+        .length = length,
     };
     return answer;
 }
@@ -674,7 +676,7 @@ static int take_message(struct second_endpoint *state, const struct reading *r)
         .letter = letter(r),
         .mbox = mbox(r),
         .msglen = msglen(r),
-        .ssize = ssize(r)
+        .ssize = ssize(r),
     };
     return context;
 }
@@ -718,8 +720,8 @@ struct second_answer second_read(struct second_endpoint *state, struct second_le
 }
 
 /* 18 before 19. Refused, it hands back a state of zeros. */
-struct second_answer second_setup(struct second_endpoint *state, uint16_t device,
-                                  uint64_t mtu, uint64_t room)
+struct second_answer second_setup(struct second_endpoint *state, uint16_t device, uint64_t mtu,
+                                  uint64_t room)
 {
     *state = (struct second_endpoint){ 0 };
     if (!mtu_allowed(mtu))
@@ -764,9 +766,8 @@ static struct second_part empty_part(const uint8_t *memory)
     return part;
 }
 
-struct second_part second_stream_room(const struct second_endpoint *state,
-                                      const uint8_t *memory, size_t memory_length,
-                                      uint64_t context, uint64_t length)
+struct second_part second_stream_room(const struct second_endpoint *state, const uint8_t *memory,
+                                      size_t memory_length, uint64_t context, uint64_t length)
 {
     if (second_refusal19(state))
         return empty_part(memory);
@@ -778,9 +779,8 @@ struct second_part second_stream_room(const struct second_endpoint *state,
     return part;
 }
 
-struct second_part second_message_room(const struct second_endpoint *state,
-                                       const uint8_t *memory, size_t memory_length,
-                                       uint64_t context, uint64_t length)
+struct second_part second_message_room(const struct second_endpoint *state, const uint8_t *memory,
+                                       size_t memory_length, uint64_t context, uint64_t length)
 {
     if (second_refusal19(state))
         return empty_part(memory);
@@ -808,8 +808,7 @@ uint64_t second_segment_count(uint64_t mtu, uint64_t pdu_length)
 
 struct second_answer second_write_segment(uint8_t *out, size_t out_length,
                                           struct second_heading heading, uint64_t mtu,
-                                          const uint8_t *pdu, size_t pdu_length,
-                                          uint64_t number)
+                                          const uint8_t *pdu, size_t pdu_length, uint64_t number)
 {
     if (!mtu_allowed(mtu))
         return refused(18);

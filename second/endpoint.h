@@ -27,28 +27,28 @@ enum {
    The state is 147 words of 64 bits, in the order in which they stand here. */
 
 struct second_stream {
-    uint64_t open;          /* 0 is free, anything else is open; we write 1 */
+    uint64_t open; /* 0 is free, anything else is open; we write 1 */
     uint64_t source;
     uint64_t cos;
     uint64_t stream_id;
-    uint64_t held;          /* the bytes its room holds */
+    uint64_t held; /* the bytes its room holds */
 };
 
 struct second_message {
-    uint64_t open;          /* as above */
+    uint64_t open; /* as above */
     uint64_t source;
     uint64_t letter;
     uint64_t mbox;
-    uint64_t msglen;        /* the field: one less than the segments */
-    uint64_t ssize;         /* the code, 9 to 14 */
-    uint64_t marks;         /* bit k is set once segment k has come */
-    uint64_t last;          /* the bytes of segment msglen, 0 until it has come */
+    uint64_t msglen; /* the field: one less than the segments */
+    uint64_t ssize;  /* the code, 9 to 14 */
+    uint64_t marks;  /* bit k is set once segment k has come */
+    uint64_t last;   /* the bytes of segment msglen, 0 until it has come */
 };
 
 struct second_endpoint {
     uint64_t device;
     uint64_t mtu;
-    uint64_t room;          /* R */
+    uint64_t room; /* R */
     struct second_stream stream[SECOND_STREAM_CONTEXTS];
     struct second_message message[SECOND_MESSAGE_CONTEXTS];
 };
@@ -56,22 +56,22 @@ struct second_endpoint {
 /* What is lent for reading a packet. */
 struct second_lent {
     uint8_t *stream_memory;
-    size_t stream_length;   /* has to be 16 times R */
+    size_t stream_length; /* has to be 16 times R */
     uint8_t *message_memory;
-    size_t message_length;  /* has to be 32,768 */
+    size_t message_length; /* has to be 32,768 */
     uint8_t *response;
     size_t response_length; /* has to be 7 or more */
 };
 
 enum second_kind {
-    SECOND_REFUSED,         /* any call: refusal is the paper's number */
-    SECOND_READY,           /* setup */
-    SECOND_HELD,            /* reading: stored, more is to come */
-    SECOND_PDU,             /* reading: a PDU is delivered */
-    SECOND_MESSAGE,         /* reading: a message is delivered */
-    SECOND_ABANDONED,       /* abandon: the context was open and is closed */
-    SECOND_WAS_FREE,        /* abandon: the context was free and stays so */
-    SECOND_WRITTEN          /* writer: length is the packet's */
+    SECOND_REFUSED,   /* any call: refusal is the paper's number */
+    SECOND_READY,     /* setup */
+    SECOND_HELD,      /* reading: stored, more is to come */
+    SECOND_PDU,       /* reading: a PDU is delivered */
+    SECOND_MESSAGE,   /* reading: a message is delivered */
+    SECOND_ABANDONED, /* abandon: the context was open and is closed */
+    SECOND_WAS_FREE,  /* abandon: the context was free and stays so */
+    SECOND_WRITTEN    /* writer: length is the packet's */
 };
 
 /* Fields that a kind does not name are 0. */
@@ -104,8 +104,8 @@ struct second_heading {
 /* Row 19: a state that every call refuses. */
 bool second_refusal19(const struct second_endpoint *state);
 
-struct second_answer second_setup(struct second_endpoint *state, uint16_t device,
-                                  uint64_t mtu, uint64_t room);
+struct second_answer second_setup(struct second_endpoint *state, uint16_t device, uint64_t mtu,
+                                  uint64_t room);
 
 struct second_answer second_read(struct second_endpoint *state, struct second_lent lent,
                                  const uint8_t *packet, size_t length);
@@ -114,20 +114,17 @@ struct second_answer second_abandon_stream(struct second_endpoint *state, uint64
 
 struct second_answer second_abandon_message(struct second_endpoint *state, uint64_t context);
 
-struct second_part second_stream_room(const struct second_endpoint *state,
-                                      const uint8_t *memory, size_t memory_length,
-                                      uint64_t context, uint64_t length);
+struct second_part second_stream_room(const struct second_endpoint *state, const uint8_t *memory,
+                                      size_t memory_length, uint64_t context, uint64_t length);
 
-struct second_part second_message_room(const struct second_endpoint *state,
-                                       const uint8_t *memory, size_t memory_length,
-                                       uint64_t context, uint64_t length);
+struct second_part second_message_room(const struct second_endpoint *state, const uint8_t *memory,
+                                       size_t memory_length, uint64_t context, uint64_t length);
 
 /* The number of packets of a PDU; 0 where the MTU or the length is not allowed. */
 uint64_t second_segment_count(uint64_t mtu, uint64_t pdu_length);
 
 struct second_answer second_write_segment(uint8_t *out, size_t out_length,
                                           struct second_heading heading, uint64_t mtu,
-                                          const uint8_t *pdu, size_t pdu_length,
-                                          uint64_t number);
+                                          const uint8_t *pdu, size_t pdu_length, uint64_t number);
 
 #endif

@@ -91,16 +91,16 @@ struct record next_record(const uint8_t *log, size_t length, size_t place)
     place++;
     if (more) {
         if (place == length)
-            return bad_log();       /* nothing behind */
+            return bad_log(); /* nothing behind */
         if (log[place] == 0)
-            return bad_log();       /* a second byte is never 0 */
+            return bad_log(); /* a second byte is never 0 */
         if (log[place] & 128)
-            return bad_log();       /* at most two bytes */
+            return bad_log(); /* at most two bytes */
         bytes |= (size_t)log[place] << 7;
         place++;
     }
     if (bytes > length - place)
-        return bad_log();           /* a cut record */
+        return bad_log(); /* a cut record */
 
     record.kind = RECORD;
     record.packet = log + place;
@@ -125,7 +125,7 @@ struct second_answer log_read(struct log_endpoint *endpoint, const uint8_t *pack
         .message_memory = endpoint->message_memory,
         .message_length = sizeof endpoint->message_memory,
         .response = endpoint->response,
-        .response_length = sizeof endpoint->response
+        .response_length = sizeof endpoint->response,
     };
     return second_read(&endpoint->state, lent, packet, length);
 }

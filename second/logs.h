@@ -10,7 +10,7 @@ enum {
     LOG_MTU = 32,
     LOG_ROOM = 2048,
     LARGEST_LOG = 65536,
-    LARGEST_RECORD = 16383
+    LARGEST_RECORD = 16383,
 };
 
 /* Bytes that grow. Start with all zeros. */
@@ -52,7 +52,7 @@ struct record {
     enum record_kind kind;
     const uint8_t *packet;
     size_t length;
-    size_t next;            /* the place behind it */
+    size_t next; /* the place behind it */
 };
 
 struct record next_record(const uint8_t *log, size_t length, size_t place);

@@ -21,7 +21,7 @@ static struct box box_of(unsigned number)
         .priority = number % 4,
         .source = sources[number / 4 % 6],
         .letter = number / 3 % 4,
-        .mbox = number / 5 % 4
+        .mbox = number / 5 % 4,
     };
     return box;
 }
@@ -120,8 +120,10 @@ static void mixed(void)
     for (unsigned i = 0; i < 700; i++) {
         unsigned which = below(&random, 12);
         const struct box box = {
-            .priority = below(&random, 4), .source = 250 + which, .letter = which % 4,
-            .mbox = which / 4
+            .priority = below(&random, 4),
+            .source = 250 + which,
+            .letter = which % 4,
+            .mbox = which / 4,
         };
         unsigned msglen = one_in(&random, 12) ? below(&random, 16) : which % 4;
         unsigned ssize = one_in(&random, 12) ? below(&random, 16) : 9;

@@ -52,8 +52,15 @@ static uint32_t get_bytes(const uint8_t *bytes, int count)
 static struct segment_case plain(uint32_t mtu, uint32_t length)
 {
     const struct segment_case made = {
-        .mtu = mtu, .priority = 1, .destination = 1, .source = 2, .cos = 5, .stream = 7,
-        .length = length, .seed = 0xA0, .room = 300
+        .mtu = mtu,
+        .priority = 1,
+        .destination = 1,
+        .source = 2,
+        .cos = 5,
+        .stream = 7,
+        .length = length,
+        .seed = 0xA0,
+        .room = 300,
     };
     return made;
 }
@@ -110,8 +117,8 @@ static void headings(void)
 static void refusal_18(void)
 {
     static const uint32_t mtus[] = {
-        0, 1, 4, 28, 30, 31, 33, 34, 35, 38, 254, 255, 257, 258, 260, 288, 512, 65536, 65568,
-        4294967040u, 4294967292u, 4294967295u
+        0,   1,   4,   28,  30,  31,  33,    34,    35,          38,          254,
+        255, 257, 258, 260, 288, 512, 65536, 65568, 4294967040u, 4294967292u, 4294967295u,
     };
     for (size_t i = 0; i < sizeof mtus / sizeof mtus[0]; i++) {
         struct segment_case c = plain(mtus[i], 40);
@@ -260,7 +267,7 @@ static void run_case(struct buffer *out, const uint8_t *bytes)
         .destination = (uint16_t)get_bytes(bytes + 5, 2),
         .source = (uint16_t)get_bytes(bytes + 7, 2),
         .cos = bytes[9],
-        .stream_id = (uint16_t)get_bytes(bytes + 10, 2)
+        .stream_id = (uint16_t)get_bytes(bytes + 10, 2),
     };
     for (uint32_t i = 0; i < length; i++)
         pdu[i] = (uint8_t)(seed + 7 * i + i / 256);

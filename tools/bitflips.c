@@ -31,7 +31,7 @@ static void claim(bool holds, const char *words)
 struct sent {
     bool message;
     unsigned source, cos_or_letter, stream_or_mailbox;
-    unsigned number;            /* the scan number, 0 to 255 */
+    unsigned number; /* the scan number, 0 to 255 */
     size_t length;
     uint8_t bytes[800];
 };
@@ -39,8 +39,8 @@ struct sent {
 struct packet {
     uint8_t bytes[300];
     size_t length;
-    unsigned flow;              /* 0: the flow that is hurt, 1: another */
-    unsigned sent;              /* the place of its PDU or message below */
+    unsigned flow; /* 0: the flow that is hurt, 1: another */
+    unsigned sent; /* the place of its PDU or message below */
 };
 
 static struct sent sents[MOST_SENT];
@@ -80,8 +80,12 @@ static unsigned add_sent(bool message, unsigned a, unsigned b, unsigned c, unsig
                          size_t length)
 {
     struct sent *s = &sents[sent_count];
-    *s = (struct sent){ .message = message, .source = a, .cos_or_letter = b,
-                        .stream_or_mailbox = c, .number = number, .length = length };
+    *s = (struct sent){ .message = message,
+                        .source = a,
+                        .cos_or_letter = b,
+                        .stream_or_mailbox = c,
+                        .number = number,
+                        .length = length };
     for (size_t i = 0; i < length; i++)
         s->bytes[i] = (uint8_t)(17 * (i + 1) + 61 * sent_count + 5 * (i / 8));
     s->bytes[0] = (uint8_t)number;
@@ -93,18 +97,22 @@ static unsigned add_sent(bool message, unsigned a, unsigned b, unsigned c, unsig
 }
 
 /* The packets of a PDU, cut by the writer; answers how many. */
-static unsigned cut(struct packet *out, unsigned flow, unsigned which)
+static unsigned cut_pdu(struct packet *out, unsigned flow, unsigned which)
 {
     const struct sent *s = &sents[which];
     const struct second_heading heading = {
-        .priority = 1, .destination = DEVICE, .source = (uint16_t)s->source,
-        .cos = (uint8_t)s->cos_or_letter, .stream_id = (uint16_t)s->stream_or_mailbox
+        .priority = 1,
+        .destination = DEVICE,
+        .source = (uint16_t)s->source,
+        .cos = (uint8_t)s->cos_or_letter,
+        .stream_id = (uint16_t)s->stream_or_mailbox,
     };
     unsigned count = (unsigned)second_segment_count(mtu, s->length);
     for (unsigned k = 0; k < count; k++) {
         out[k] = (struct packet){ .flow = flow, .sent = which };
-        out[k].length = second_write_segment(out[k].bytes, sizeof out[k].bytes, heading, mtu,
-                                             s->bytes, s->length, k).length;
+        struct second_answer written = second_write_segment(out[k].bytes, sizeof out[k].bytes,
+                                                            heading, mtu, s->bytes, s->length, k);
+        out[k].length = written.length;
     }
     return count;
 }
@@ -119,14 +127,30 @@ static unsigned cut_message(struct packet *out, unsigned flow, unsigned which)
         size_t bytes = k + 1 == count ? s->length - from : 16;
         out[k] = (struct packet){ .flow = flow, .sent = which, .length = 7 + bytes };
         const uint8_t head[] = {
-            0x5B, 0, DEVICE, (uint8_t)(s->source >> 8), (uint8_t)s->source,
+            0x5B,
+            0,
+            DEVICE,
+            (uint8_t)(s->source >> 8),
+            (uint8_t)s->source,
             (uint8_t)((count - 1) << 4 | 10),
-            (uint8_t)(s->cos_or_letter << 6 | (s->stream_or_mailbox & 3) << 4 | k)
+            (uint8_t)(s->cos_or_letter << 6 | (s->stream_or_mailbox & 3) << 4 | k),
         };
         memcpy(out[k].bytes, head, 7);
         memcpy(out[k].bytes + 7, s->bytes + from, bytes);
     }
     return count;
+}
+
+static unsigned cut(struct packet *out, unsigned flow, unsigned which)
+{
+    return sents[which].message ? cut_message(out, flow, which) : cut_pdu(out, flow, which);
+}
+
+/* This one, and the next one behind it. */
+static unsigned cut_two(struct packet *out, unsigned flow, unsigned which)
+{
+    unsigned count = cut(out, flow, which);
+    return count + cut(out + count, flow, which + 1);
 }
 
 /* ---- A run, and what it comes to ---------------------------------------- */
@@ -135,12 +159,12 @@ enum outcome { RIGHT, LOST, TWICE, WRONG };
 
 struct run {
     enum outcome outcome;
-    bool other_hurt;            /* a PDU of the other flow was not delivered, or wrongly */
-    bool quiet;                 /* no packet refused, none dropped */
-    bool stays_open;            /* a context is open at the end */
-    bool passes_number;         /* wrong or twice, and the scan number at both ends agrees */
-    bool passes_all;            /* wrong or twice, and all checks of the member agree */
-    unsigned wrongs, rights;    /* deliveries that nobody sent; PDUs that were delivered */
+    bool other_hurt;         /* a PDU of the other flow was not delivered, or wrongly */
+    bool quiet;              /* no packet refused, none dropped */
+    bool stays_open;         /* a context is open at the end */
+    bool passes_number;      /* wrong or twice, and the scan number at both ends agrees */
+    bool passes_all;         /* wrong or twice, and all checks of the member agree */
+    unsigned wrongs, rights; /* deliveries that nobody sent; PDUs that were delivered */
     struct second_answer watched;
 };
 
@@ -148,15 +172,31 @@ static uint8_t stream_memory[SECOND_STREAM_CONTEXTS * ROOM];
 static uint8_t message_memory[SECOND_MESSAGE_MEMORY];
 static uint8_t response[SECOND_RESPONSE_BYTES];
 
-/* The judging board, with the number of the last scan it took from each. */
+/* Reads a packet. Every memory here is lent with it. */
+static struct second_answer read_packet(struct second_endpoint *state, const uint8_t *packet,
+                                        size_t length)
+{
+    const struct second_lent lent = {
+        .stream_memory = stream_memory,
+        .stream_length = sizeof stream_memory,
+        .message_memory = message_memory,
+        .message_length = sizeof message_memory,
+        .response = response,
+        .response_length = sizeof response,
+    };
+    return second_read(state, lent, packet, length);
+}
+
+/* The judging board: the number of the last scan it took from each flow, -1 for
+   none. Beside it, for each PDU: how often it came, and its flow. */
 struct board {
     int last[MOST_SENT];
+    unsigned times[MOST_SENT], flows[MOST_SENT];
 };
 
 static bool same_flow(const struct sent *a, const struct sent *b)
 {
-    if (a->message != b->message || a->source != b->source
-        || a->cos_or_letter != b->cos_or_letter)
+    if (a->message != b->message || a->source != b->source || a->cos_or_letter != b->cos_or_letter)
         return false;
     return !a->message || a->stream_or_mailbox == b->stream_or_mailbox;
 }
@@ -179,8 +219,8 @@ static bool checksum_agrees(const struct sent *got)
 {
     if (got->length < 6)
         return false;
-    uint32_t crc = checksum(got->source, got->cos_or_letter, got->stream_or_mailbox, got->bytes,
-                            got->length);
+    uint32_t crc =
+        checksum(got->source, got->cos_or_letter, got->stream_or_mailbox, got->bytes, got->length);
     for (int i = 0; i < 4; i++)
         if (got->bytes[1 + i] != (uint8_t)(crc >> (24 - 8 * i)))
             return false;
@@ -211,9 +251,11 @@ static bool is_sent(const struct sent *got, const struct sent *s)
 static struct sent taken(struct second_answer answer)
 {
     struct sent got = {
-        .message = answer.kind == SECOND_MESSAGE, .source = (unsigned)answer.source,
+        .message = answer.kind == SECOND_MESSAGE,
+        .source = (unsigned)answer.source,
         .cos_or_letter = (unsigned)answer.cos_or_letter,
-        .stream_or_mailbox = (unsigned)answer.stream_or_mailbox, .length = answer.length
+        .stream_or_mailbox = (unsigned)answer.stream_or_mailbox,
+        .length = answer.length,
     };
     const uint8_t *room = got.message ? message_memory + answer.context * SECOND_MESSAGE_ROOM
                                       : stream_memory + answer.context * ROOM;
@@ -225,25 +267,63 @@ static struct sent taken(struct second_answer answer)
     return got;
 }
 
+/* A delivery: of a PDU that was sent, or one that nobody sent; and whether the
+   board would take it. */
+static void judge(struct run *r, struct board *board, const struct sent *got)
+{
+    unsigned which = 0;
+    while (which < sent_count && !is_sent(got, &sents[which]))
+        which++;
+    bool bad = which == sent_count || board->times[which] > 0;
+    if (which == sent_count)
+        r->wrongs++;
+    else
+        board->times[which]++;
+    if (bad && ends_agree(got) && flow_of(got) != MOST_SENT)
+        r->passes_number = true;
+    if (takes(board, got) && bad)
+        r->passes_all = true;
+}
+
+/* What has come of all that was sent. */
+static void sum_up(struct run *r, const struct board *board)
+{
+    for (unsigned i = 0; i < sent_count; i++) {
+        r->rights += board->times[i] > 0;
+        if (board->times[i] == 0 && board->flows[i] == 1)
+            r->other_hurt = true;
+        if (board->times[i] == 0 && r->outcome == RIGHT)
+            r->outcome = LOST;
+        if (board->times[i] > 1)
+            r->outcome = TWICE;
+    }
+    if (r->wrongs)
+        r->outcome = WRONG;
+}
+
+static bool any_open(const struct second_endpoint *state)
+{
+    for (int i = 0; i < SECOND_STREAM_CONTEXTS; i++)
+        if (state->stream[i].open)
+            return true;
+    for (int i = 0; i < SECOND_MESSAGE_CONTEXTS; i++)
+        if (state->message[i].open)
+            return true;
+    return false;
+}
+
 /* The packets in order; the answer to number `watch` is kept. */
 static struct run run(const struct packet *const *order, unsigned count, unsigned watch)
 {
     static struct second_endpoint state;
     struct run r = { .outcome = RIGHT, .quiet = true };
-    unsigned times[MOST_SENT] = { 0 };
-    unsigned flows[MOST_SENT] = { 0 };
-    struct board board;
+    struct board board = { .times = { 0 } };
     for (int i = 0; i < MOST_SENT; i++)
         board.last[i] = -1;
-    const struct second_lent lent = {
-        stream_memory, sizeof stream_memory, message_memory, sizeof message_memory,
-        response, sizeof response
-    };
     second_setup(&state, DEVICE, mtu, ROOM);
     for (unsigned i = 0; i < count; i++) {
-        struct second_answer answer =
-            second_read(&state, lent, order[i]->bytes, order[i]->length);
-        flows[order[i]->sent] = order[i]->flow;
+        struct second_answer answer = read_packet(&state, order[i]->bytes, order[i]->length);
+        board.flows[order[i]->sent] = order[i]->flow;
         if (i == watch)
             r.watched = answer;
         if (answer.kind == SECOND_REFUSED || answer.dropped)
@@ -251,34 +331,10 @@ static struct run run(const struct packet *const *order, unsigned count, unsigne
         if (answer.kind != SECOND_PDU && answer.kind != SECOND_MESSAGE)
             continue;
         struct sent got = taken(answer);
-        unsigned which = 0;
-        while (which < sent_count && !is_sent(&got, &sents[which]))
-            which++;
-        bool bad = which == sent_count || times[which] > 0;
-        if (which == sent_count)
-            r.wrongs++;
-        else
-            times[which]++;
-        if (bad && ends_agree(&got) && flow_of(&got) != MOST_SENT)
-            r.passes_number = true;
-        if (takes(&board, &got) && bad)
-            r.passes_all = true;
+        judge(&r, &board, &got);
     }
-    for (unsigned i = 0; i < sent_count; i++) {
-        r.rights += times[i] > 0;
-        if (times[i] == 0 && flows[i] == 1)
-            r.other_hurt = true;
-        if (times[i] == 0 && r.outcome == RIGHT)
-            r.outcome = LOST;
-        if (times[i] > 1)
-            r.outcome = TWICE;
-    }
-    if (r.wrongs)
-        r.outcome = WRONG;
-    for (int i = 0; i < SECOND_STREAM_CONTEXTS; i++)
-        r.stays_open |= state.stream[i].open != 0;
-    for (int i = 0; i < SECOND_MESSAGE_CONTEXTS; i++)
-        r.stays_open |= state.message[i].open != 0;
+    sum_up(&r, &board);
+    r.stays_open = any_open(&state);
     return r;
 }
 
@@ -287,7 +343,7 @@ static struct run run(const struct packet *const *order, unsigned count, unsigne
 struct tally {
     char name[96];
     unsigned long runs, outcomes[4], other_hurt, quiet, open, number, all;
-    unsigned char answers[64];  /* which answers the touched packet got */
+    unsigned char answers[64]; /* which answers the touched packet got */
 };
 
 static struct tally rows[200];
@@ -307,8 +363,8 @@ static struct tally *row(const char *name)
 static unsigned answer_code(struct second_answer a)
 {
     unsigned code = a.kind == SECOND_REFUSED ? a.refusal
-                  : a.kind == SECOND_HELD    ? 26
-                  : a.kind == SECOND_PDU     ? 27
+                    : a.kind == SECOND_HELD  ? 26
+                    : a.kind == SECOND_PDU   ? 27
                                              : 28;
     return code + (a.dropped ? 32 : 0);
 }
@@ -476,16 +532,18 @@ static void stream_mixtures(const unsigned *shape, size_t byte, unsigned bit, un
         other_cos ^= weight;
     else
         other_source ^= 1;
-    struct packet first[8], second[8];
     sent_count = 0;
-    unsigned a = cut(first, 0, add_sent(false, source, cos, 7, 1, size_of(shape[0], 0)));
-    a += cut(first + a, 0, add_sent(false, source, cos, 8, 2, size_of(shape[1], 1)));
-    unsigned b = cut(second, 1, add_sent(false, other_source, other_cos, 70, 101, size_of(shape[2], 0)));
-    b += cut(second + b, 1, add_sent(false, other_source, other_cos, 71, 102, size_of(shape[3], 1)));
+    add_sent(false, source, cos, 7, 1, size_of(shape[0], 0));
+    add_sent(false, source, cos, 8, 2, size_of(shape[1], 1));
+    add_sent(false, other_source, other_cos, 70, 101, size_of(shape[2], 0));
+    add_sent(false, other_source, other_cos, 71, 102, size_of(shape[3], 1));
+    struct packet first[8], second[8];
+    unsigned a = cut_two(first, 0, 0), b = cut_two(second, 1, 2);
     if (at >= a || byte >= first[at].length)
         return;
     char name[96];
-    snprintf(name, sizeof name, "%s | %s", kind_name(&first[at]), stream_field(&first[at], byte, bit));
+    snprintf(name, sizeof name, "%s | %s", kind_name(&first[at]),
+             stream_field(&first[at], byte, bit));
     if (other_mtu)
         as_at_32(row(name), first, a, second, b, at, byte, bit);
     else
@@ -519,9 +577,11 @@ static void print_row(const struct tally *t)
 static void print_rows_of(const char *kind)
 {
     static const char *fields[] = {
-        "priority", "tt", "type, to 11", "type, to 9", "type, other bits", "destination", "source", "cos",
-        "S", "E", "reserved", "xh", "O", "P", "streamID", "PDU length",
-        "msglen", "ssize", "letter", "mbox", "msgseg", "xmbox", "data", "pad byte"
+        "priority",    "tt",     "type, to 11", "type, to 9", "type, other bits",
+        "destination", "source", "cos",         "S",          "E",
+        "reserved",    "xh",     "O",           "P",          "streamID",
+        "PDU length",  "msglen", "ssize",       "letter",     "mbox",
+        "msgseg",      "xmbox",  "data",        "pad byte",
     };
     for (size_t f = 0; f < sizeof fields / sizeof fields[0]; f++) {
         char name[96];
@@ -594,6 +654,11 @@ static const char *segment_name(const struct packet *p)
     return msglen == 0 ? "only" : (p->bytes[6] & 15) == msglen ? "last" : "other";
 }
 
+static const char *packet_name(bool messages, const struct packet *p)
+{
+    return messages ? segment_name(p) : kind_name(p);
+}
+
 /* Two messages of one source, letter and mbox, and two of a neighbour. */
 static void message_mixtures(const unsigned *shape, size_t byte, unsigned bit, unsigned at)
 {
@@ -610,16 +675,18 @@ static void message_mixtures(const unsigned *shape, size_t byte, unsigned bit, u
         other_letter ^= weight >> 6;
     else
         other_source ^= 1;
-    struct packet first[8], second[8];
     sent_count = 0;
-    unsigned a = cut_message(first, 0, add_sent(true, source, letter, mbox, 1, 16 * shape[0] - 8));
-    a += cut_message(first + a, 0, add_sent(true, source, letter, mbox, 2, 16 * shape[1]));
-    unsigned b = cut_message(second, 1, add_sent(true, other_source, other_letter, other_mbox, 101, 16 * shape[2] - 8));
-    b += cut_message(second + b, 1, add_sent(true, other_source, other_letter, other_mbox, 102, 16 * shape[3]));
+    add_sent(true, source, letter, mbox, 1, 16 * shape[0] - 8);
+    add_sent(true, source, letter, mbox, 2, 16 * shape[1]);
+    add_sent(true, other_source, other_letter, other_mbox, 101, 16 * shape[2] - 8);
+    add_sent(true, other_source, other_letter, other_mbox, 102, 16 * shape[3]);
+    struct packet first[8], second[8];
+    unsigned a = cut_two(first, 0, 0), b = cut_two(second, 1, 2);
     if (at >= a || byte >= first[at].length)
         return;
     char name[96];
-    snprintf(name, sizeof name, "%s | %s", segment_name(&first[at]), message_field(&first[at], byte, bit));
+    snprintf(name, sizeof name, "%s | %s", segment_name(&first[at]),
+             message_field(&first[at], byte, bit));
     in_every_mixture(row(name), first, a, second, b, at, byte, bit);
 }
 
@@ -646,11 +713,10 @@ static void three(bool messages, unsigned n)
     for (unsigned i = 0; i < 3; i++, n /= 4) {
         unsigned packets = 1 + n % 4;
         if (messages)
-            flow_count += cut_message(flow_packets + flow_count, 0,
-                add_sent(true, 2, 1, 2, i + 1, 16 * packets - (packets > 1 || i != 1 ? 8 : 0)));
+            add_sent(true, 2, 1, 2, i + 1, 16 * packets - (packets > 1 || i != 1 ? 8 : 0));
         else
-            flow_count += cut(flow_packets + flow_count, 0,
-                add_sent(false, 2, 5, 7 + i, i + 1, (packets - 1) * mtu + 18 + 2 * i));
+            add_sent(false, 2, 5, 7 + i, i + 1, (packets - 1) * mtu + 18 + 2 * i);
+        flow_count += cut(flow_packets + flow_count, 0, i);
     }
 }
 
@@ -684,9 +750,11 @@ static void claim_joined(const struct packet *p, unsigned its_packets, unsigned 
 {
     unsigned kind = p->bytes[6] >> 6;
     if (kind == 2)
-        claim(wrong == (come(behind) == 1), "a strange start is joined exactly directly behind a start");
+        claim(wrong == (come(behind) == 1),
+              "a strange start is joined exactly directly behind a start");
     if (kind == 1)
-        claim(wrong == (come(behind) == its_packets - 1), "a strange end is joined exactly if as many packets have come");
+        claim(wrong == (come(behind) == its_packets - 1),
+              "a strange end is joined exactly if as many packets have come");
     if (kind == 0)
         claim(!wrong, "a strange continuation is never delivered");
 }
@@ -709,9 +777,8 @@ static const char *moved_name(const char *what, bool messages, unsigned packet, 
                               bool copy)
 {
     static char name[96];
-    const char *kind = messages ? segment_name(&flow_packets[packet])
-                                : kind_name(&flow_packets[packet]);
-    snprintf(name, sizeof name, "%s | %s | %s", what, kind, where(messages, packet, behind, copy));
+    snprintf(name, sizeof name, "%s | %s | %s", what, packet_name(messages, &flow_packets[packet]),
+             where(messages, packet, behind, copy));
     return name;
 }
 
@@ -730,11 +797,23 @@ static void move(const char *what, bool messages, unsigned from, unsigned behind
     }
     bool wrong = fault(moved_name(what, messages, from, behind, copy), order, n, watch);
     const struct packet *p = &flow_packets[from];
-    bool inside = behind + 1 < flow_count && flow_packets[behind + 1].sent == flow_packets[behind].sent;
+    bool inside = behind + 1 < flow_count
+                  && flow_packets[behind + 1].sent == flow_packets[behind].sent;
     if (!messages && inside && flow_packets[behind].sent != p->sent)
         claim_joined(p, packets_in(p->sent), behind, wrong);
 }
 
+static const char *lost_name(bool messages, unsigned x, unsigned y)
+{
+    unsigned apart = flow_packets[y].sent - flow_packets[x].sent;
+    if (x == y)
+        return messages ? "one lost | a segment | " : "one lost | any | ";
+    if (apart == 0)
+        return messages ? "two lost | of one message | " : "two lost | of one PDU | ";
+    return apart == 1 ? "two lost | of two neighbours | " : "two lost | of two others | ";
+}
+
+/* Each packet, and each two. */
 static void lose(bool messages)
 {
     const struct packet *order[MOST_PACKETS];
@@ -744,11 +823,7 @@ static void lose(bool messages)
             for (unsigned i = 0; i < flow_count; i++)
                 if (i != x && i != y)
                     order[n++] = &flow_packets[i];
-            unsigned apart = flow_packets[y].sent - flow_packets[x].sent;
-            fault(x == y ? (messages ? "one lost | a segment | " : "one lost | any | ")
-                  : apart == 0 ? (messages ? "two lost | of one message | " : "two lost | of one PDU | ")
-                  : apart == 1 ? "two lost | of two neighbours | "
-                               : "two lost | of two others | ", order, n, 0);
+            fault(lost_name(messages, x, y), order, n, 0);
         }
 }
 
@@ -767,18 +842,50 @@ static void repeat_whole(unsigned which)
     fault("repeated | all its packets | behind it", order, n, 0);
 }
 
+static bool is_continuation(const struct packet *p)
+{
+    return p->bytes[6] >> 6 == 0;
+}
+
+/* The order in which packet x and the next one change places. */
+static void swapped(const struct packet **order, unsigned x)
+{
+    for (unsigned i = 0; i < flow_count; i++)
+        order[i] = &flow_packets[i == x ? x + 1 : i == x + 1 ? x : i];
+}
+
 /* Two continuations of one PDU change places. */
 static void swap_continuations(void)
 {
     const struct packet *order[MOST_PACKETS];
     for (unsigned x = 0; x + 1 < flow_count; x++) {
-        if (flow_packets[x].bytes[6] >> 6 || flow_packets[x + 1].bytes[6] >> 6)
+        if (!is_continuation(&flow_packets[x]) || !is_continuation(&flow_packets[x + 1]))
             continue;
-        for (unsigned i = 0; i < flow_count; i++)
-            order[i] = &flow_packets[i == x ? x + 1 : i == x + 1 ? x : i];
+        swapped(order, x);
         claim(fault("swapped | two continuations | of one PDU", order, flow_count, x),
               "two swapped continuations are delivered wrong");
     }
+}
+
+static const char *swapped_name(bool messages, const struct packet *p, const struct packet *next)
+{
+    static char name[96];
+    bool one = p->sent == next->sent;
+    if (messages)
+        snprintf(name, sizeof name, "swapped | neighbours | %s",
+                 one ? "of one message" : "of two messages");
+    else
+        snprintf(name, sizeof name, "swapped | %s and %s | %s", kind_name(p), kind_name(next),
+                 one ? "of one PDU" : "of two PDUs");
+    return name;
+}
+
+static void claim_swapped(const struct packet *p, const struct packet *next, bool wrong)
+{
+    bool end_and_start = p->sent != next->sent && p->bytes[6] >> 6 == 1 && next->bytes[6] >> 6 == 2;
+    claim(wrong == (end_and_start && packets_in(p->sent) == 2),
+          "an end and a start that change places are joined exactly "
+          "if the first PDU has two packets");
 }
 
 /* Neighbours change places; continuations of one PDU have a row of their own. */
@@ -786,57 +893,47 @@ static void swap_neighbours(bool messages)
 {
     const struct packet *order[MOST_PACKETS];
     for (unsigned x = 0; x + 1 < flow_count; x++) {
-        bool one = flow_packets[x].sent == flow_packets[x + 1].sent;
-        if (!messages && !(flow_packets[x].bytes[6] >> 6) && !(flow_packets[x + 1].bytes[6] >> 6))
+        const struct packet *p = &flow_packets[x], *next = p + 1;
+        if (!messages && is_continuation(p) && is_continuation(next))
             continue;
-        for (unsigned i = 0; i < flow_count; i++)
-            order[i] = &flow_packets[i == x ? x + 1 : i == x + 1 ? x : i];
-        char name[96];
-        if (messages)
-            snprintf(name, sizeof name, "swapped | neighbours | %s", one ? "of one message" : "of two messages");
-        else
-            snprintf(name, sizeof name, "swapped | %s and %s | %s", kind_name(&flow_packets[x]),
-                     kind_name(&flow_packets[x + 1]), one ? "of one PDU" : "of two PDUs");
-        bool wrong = fault(name, order, flow_count, x);
-        if (!messages) {
-            bool end_and_start = !one && flow_packets[x].bytes[6] >> 6 == 1 && flow_packets[x + 1].bytes[6] >> 6 == 2;
-            claim(wrong == (end_and_start && packets_in(flow_packets[x].sent) == 2),
-                  "an end and a start that change places are joined exactly if the first PDU has two packets");
-        }
+        swapped(order, x);
+        bool wrong = fault(swapped_name(messages, p, next), order, flow_count, x);
+        if (!messages)
+            claim_swapped(p, next, wrong);
     }
+}
+
+/* A packet of a PDU of `packets` packets that nobody of ours sent, before packet
+   `at` of the flow. */
+static void put_in_at(bool messages, const struct packet *forged, unsigned packets, unsigned at)
+{
+    const struct packet *order[MOST_PACKETS];
+    for (unsigned i = 0; i <= flow_count; i++)
+        order[i] = i < at ? &flow_packets[i] : i == at ? forged : &flow_packets[i - 1];
+    bool inside = at > 0 && at < flow_count && flow_packets[at - 1].sent == flow_packets[at].sent;
+    char name[96];
+    snprintf(name, sizeof name, "forged | %s | %s", packet_name(messages, forged),
+             messages ? (inside ? "inside a message" : "between messages")
+                      : (inside ? "inside a PDU" : "between PDUs"));
+    bool wrong = fault(name, order, flow_count + 1, at);
+    if (!messages && inside && packets > 1)
+        claim_joined(forged, packets, at - 1, wrong);
 }
 
 /* Somebody puts in a packet under the flow's source and cos: of a PDU of his
    own, of 1 to 4 packets. */
 static void put_in(bool messages)
 {
-    const struct packet *order[MOST_PACKETS];
     for (unsigned packets = 1; packets <= 4; packets++) {
         struct packet forged[4];
         unsigned which = messages ? add_sent(true, 2, 1, 2, 77, 16 * packets - 8)
                                   : add_sent(false, 2, 5, 99, 77, (packets - 1) * mtu + 12);
-        unsigned count_forged = messages ? cut_message(forged, 0, which) : cut(forged, 0, which);
-        sent_count--;       /* nobody of ours sent it */
+        unsigned count_forged = cut(forged, 0, which);
+        sent_count--; /* nobody of ours sent it */
         for (unsigned f = 0; f < count_forged; f++) {
             forged[f].sent = 0;
-            for (unsigned at = 0; at <= flow_count; at++) {
-                unsigned n = 0;
-                for (unsigned i = 0; i < at; i++)
-                    order[n++] = &flow_packets[i];
-                order[n++] = &forged[f];
-                for (unsigned i = at; i < flow_count; i++)
-                    order[n++] = &flow_packets[i];
-                bool inside = at > 0 && at < flow_count
-                              && flow_packets[at - 1].sent == flow_packets[at].sent;
-                char name[96];
-                snprintf(name, sizeof name, "forged | %s | %s",
-                         messages ? segment_name(&forged[f]) : kind_name(&forged[f]),
-                         messages ? (inside ? "inside a message" : "between messages")
-                                  : (inside ? "inside a PDU" : "between PDUs"));
-                bool wrong = fault(name, order, n, at);
-                if (!messages && inside && packets > 1)
-                    claim_joined(&forged[f], packets, at - 1, wrong);
-            }
+            for (unsigned at = 0; at <= flow_count; at++)
+                put_in_at(messages, &forged[f], packets, at);
         }
     }
 }
@@ -883,8 +980,8 @@ static void faults(bool messages)
     }
     static const char *moved[] = { "repeated", "delayed", "swapped", "forged" };
     static const char *kinds[] = {
-        "single", "only", "start", "continuation", "other", "end", "last",
-        "all its packets", "two continuations", "neighbours"
+        "single", "only", "start",           "continuation",      "other",
+        "end",    "last", "all its packets", "two continuations", "neighbours",
     };
     print_fault_rows("one lost", "");
     print_fault_rows("two lost", "");
@@ -926,7 +1023,8 @@ static void two_faults(void)
     send_one(sent, &n, &a[0]);
     for (unsigned k = 1; k < 4; k++)
         send_one(sent, &n, &b[k]);
-    claim(run_these(sent, n, 7).wrongs == 1, "a start that comes again is joined to a PDU that lost its start");
+    claim(run_these(sent, n, 7).wrongs == 1,
+          "a start that comes again is joined to a PDU that lost its start");
 }
 
 /* The page's example, and the fault that does not heal. */
@@ -935,7 +1033,7 @@ static void message_examples(void)
     struct packet m[TEN][2], sent[MOST_PACKETS];
     sent_count = 0;
     for (unsigned i = 0; i < TEN; i++)
-        cut_message(m[i], 0, add_sent(true, 2, 1, 2, i + 1, 32));
+        cut(m[i], 0, add_sent(true, 2, 1, 2, i + 1, 32));
     unsigned n = 0;
     send_one(sent, &n, &m[0][0]);
     send_one(sent, &n, &m[1][0]);
@@ -948,7 +1046,8 @@ static void message_examples(void)
         for (unsigned k = i == 0; k < 2; k++)
             send_one(sent, &n, &m[i][k]);
     struct run r = run_these(sent, n, 0);
-    claim(r.wrongs == TEN - 1 && r.rights == 0 && r.quiet, "a lost segment 0 spoils every message, and nothing is refused");
+    claim(r.wrongs == TEN - 1 && r.rights == 0 && r.quiet,
+          "a lost segment 0 spoils every message, and nothing is refused");
     n = 0;
     for (unsigned i = 0; i < TEN; i++) {
         send_one(sent, &n, &m[i][0]);
@@ -957,7 +1056,8 @@ static void message_examples(void)
             send_one(sent, &n, &m[i][1]);
     }
     r = run_these(sent, n, 0);
-    claim(r.wrongs == TEN - 1 && r.rights == 1 && r.quiet, "a last segment that comes again does so too");
+    claim(r.wrongs == TEN - 1 && r.rights == 1 && r.quiet,
+          "a last segment that comes again does so too");
 }
 
 /* ---- Table 4: a packet cut short, or with bytes behind it -------------------- */
@@ -980,8 +1080,7 @@ static void resize(bool messages, unsigned at, unsigned by, bool longer)
     for (unsigned i = 0; i < flow_count; i++)
         order[i] = i == at ? &changed : &flow_packets[i];
     char name[96];
-    snprintf(name, sizeof name, "%s | %s | %s",
-             messages ? segment_name(&changed) : kind_name(&changed),
+    snprintf(name, sizeof name, "%s | %s | %s", packet_name(messages, &changed),
              longer ? "longer" : "shorter", by_bytes(messages, by));
     fault(name, order, flow_count, at);
 }
@@ -1002,11 +1101,15 @@ static void print_size_rows(const char *kind)
     }
 }
 
+static const char *size_head =
+    "| packet | made | by | answers to it | runs | right | lost | wrong | past the number | past all checks |";
+
 static void sizes(bool messages)
 {
-    static const char *kinds[] = { "single", "start", "continuation", "end", "only", "other", "last" };
-    begin(messages ? "message-sizes" : "stream-sizes",
-          "| packet | made | by | answers to it | runs | right | lost | wrong | past the number | past all checks |");
+    static const char *kinds[] = {
+        "single", "start", "continuation", "end", "only", "other", "last"
+    };
+    begin(messages ? "message-sizes" : "stream-sizes", size_head);
     for (unsigned n = 0; n < 64; n++) {
         three(messages, n);
         for (unsigned at = 0; at < flow_count; at++)
@@ -1029,8 +1132,7 @@ static void ten(bool messages, unsigned packets)
     for (unsigned i = 0; i < TEN; i++) {
         unsigned which = messages ? add_sent(true, 2, 1, 2, i + 1, 16 * packets - 8)
                                   : add_sent(false, 2, 5, 7 + i, i + 1, (packets - 1) * mtu + 18);
-        flow_count += messages ? cut_message(flow_packets + flow_count, 0, which)
-                               : cut(flow_packets + flow_count, 0, which);
+        flow_count += cut(flow_packets + flow_count, 0, which);
     }
 }
 
@@ -1066,9 +1168,12 @@ static void lasting(bool messages, const char *fault_name, bool lost, bool insid
     printf("\n");
 }
 
+static const char *long_head =
+    "| ten are sent, and the first one's | fault | of ten right, at least | wrong, at most |";
+
 static void how_long(void)
 {
-    begin("how-long", "| ten are sent, and the first one's | fault | of ten right, at least | wrong, at most |");
+    begin("how-long", long_head);
     for (int messages = 0; messages < 2; messages++) {
         lasting(messages, "packet is lost", true, false);
         lasting(messages, "packet comes again behind its last", false, false);
@@ -1081,12 +1186,8 @@ static void how_long(void)
 static struct second_answer alone(const uint8_t *packet, size_t length)
 {
     static struct second_endpoint state;
-    const struct second_lent lent = {
-        stream_memory, sizeof stream_memory, message_memory, sizeof message_memory,
-        response, sizeof response
-    };
     second_setup(&state, DEVICE, mtu, ROOM);
-    return second_read(&state, lent, packet, length);
+    return read_packet(&state, packet, length);
 }
 
 static void print_kinds(const char *name, const unsigned long *kinds)
@@ -1111,10 +1212,11 @@ static void type_9_as_11(void)
         for (size_t length = 1; length <= 96; length++)
             for (unsigned k = 0; k < second_segment_count(mtu, length); k++) {
                 const struct second_heading heading = { 1, DEVICE, 2, (uint8_t)cos, 7 };
-                size_t bytes = second_write_segment(packet, sizeof packet, heading, mtu, pdu, length, k).length;
+                struct second_answer written =
+                    second_write_segment(packet, sizeof packet, heading, mtu, pdu, length, k);
                 packet[0] ^= 2;
                 bool reserved = cos % 16 < 9 || cos % 16 == 15;
-                (reserved ? safe : unsafe)[kind_of(alone(packet, bytes))]++;
+                (reserved ? safe : unsafe)[kind_of(alone(packet, written.length))]++;
             }
     print_kinds("9 read as 11, cos ends in 0 to 8 or F (hex)", safe);
     print_kinds("9 read as 11, cos ends in 9 to E (hex)", unsafe);

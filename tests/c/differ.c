@@ -75,7 +75,7 @@ struct guarded {
 
 static struct guarded guarded(size_t length)
 {
-    struct guarded g = {malloc(length + 2 * GUARD), NULL, length};
+    struct guarded g = { malloc(length + 2 * GUARD), NULL, length };
     if (g.whole == NULL)
         fail("no memory");
     g.bytes = g.whole + GUARD;
@@ -164,12 +164,12 @@ static uint64_t *second_word(struct second_endpoint *s, size_t i)
         return &s->room;
     if (i < 83) {
         struct second_stream *c = &s->stream[(i - 3) / 5];
-        uint64_t *field[] = {&c->open, &c->source, &c->cos, &c->stream_id, &c->held};
+        uint64_t *field[] = { &c->open, &c->source, &c->cos, &c->stream_id, &c->held };
         return field[(i - 3) % 5];
     }
     struct second_message *c = &s->message[(i - 83) / 8];
-    uint64_t *field[] = {&c->open,   &c->source, &c->letter, &c->mbox,
-                         &c->msglen, &c->ssize,  &c->marks,  &c->last};
+    uint64_t *field[] = { &c->open,   &c->source, &c->letter, &c->mbox,
+                          &c->msglen, &c->ssize,  &c->marks,  &c->last };
     return field[(i - 83) % 8];
 }
 
@@ -251,10 +251,10 @@ static void same_report(const struct kaiverohm_report *a, struct second_answer b
     if (b.kind == SECOND_REFUSED)
         refusals[b.refusal % 32]++;
     if (a->kind != kind_of(b.kind) || a->number != b.refusal || a->dropped != b.dropped
-        || a->context != b.context || a->source != b.source
-        || a->cos_or_letter != b.cos_or_letter || a->stream_or_mailbox != b.stream_or_mailbox
-        || a->length != b.length)
-        fail("report %llu %llu %llu, %llu %llu %llu %llu %llu and answer %d %u %d, %llu %llu %llu %llu %llu",
+        || a->context != b.context || a->source != b.source || a->cos_or_letter != b.cos_or_letter
+        || a->stream_or_mailbox != b.stream_or_mailbox || a->length != b.length)
+        fail("report %llu %llu %llu, %llu %llu %llu %llu %llu "
+             "and answer %d %u %d, %llu %llu %llu %llu %llu",
              (unsigned long long)a->kind, (unsigned long long)a->number,
              (unsigned long long)a->dropped, (unsigned long long)a->context,
              (unsigned long long)a->source, (unsigned long long)a->cos_or_letter,
@@ -291,7 +291,7 @@ static size_t same_segment(uint8_t *packet, size_t room, struct kaiverohm_headin
     uint8_t *theirs = malloc(room + 1);
     scatter(out.bytes, room);
     memcpy(theirs, out.bytes, room);
-    struct second_heading heading = {h.priority, h.destination, h.source, h.cos, h.stream};
+    struct second_heading heading = { h.priority, h.destination, h.source, h.cos, h.stream };
     struct kaiverohm_answer a =
         kaiverohm_write_segment(out.bytes, room, h, mtu, pdu, pdu_length, number);
     same_answer(a, second_write_segment(theirs, room, heading, mtu, pdu, pdu_length, number),
@@ -376,27 +376,34 @@ static size_t message_packet(uint8_t *packet)
 static size_t damaged(uint8_t *packet, size_t length)
 {
     switch (below(7)) {
-    case 0: /* a bit of the head */
+    case 0:
+        /* a bit of the head */
         packet[below(9)] ^= (uint8_t)(1 << below(8));
         return length;
-    case 1: /* a byte of the fields */
+    case 1:
+        /* a byte of the fields */
         packet[5 + below(4)] = (uint8_t)draw();
         return length;
-    case 2: /* cut */
+    case 2:
+        /* cut */
         return below(length + 1);
-    case 3: /* longer by a little */
+    case 3:
+        /* longer by a little */
         scatter(packet + length, 9);
         return length + below(9);
-    case 4: /* any bytes at all */
+    case 4:
+        /* any bytes at all */
         scatter(packet, PACKET);
         return below(one_in(2) ? 20 : PACKET);
-    case 5: /* any fields, ours, of type 9 or 11 */
+    case 5:
+        /* any fields, ours, of type 9 or 11 */
         scatter(packet, PACKET);
         packet[0] = (uint8_t)((packet[0] & 0xc0) | 0x10 | (one_in(2) ? 9 : 11));
         packet[1] = 0;
         packet[2] = 1;
         return 5 + below(40);
-    default: /* cut to an even length */
+    default:
+        /* cut to an even length */
         return length & ~(size_t)1;
     }
 }
@@ -425,33 +432,87 @@ static size_t some_packet(uint8_t *packet, uint64_t mtu, uint64_t room)
     return one_in(5) ? damaged(packet, length) : length;
 }
 
+/* ---- setup, on both boards */
+
+static void set_up(struct board *b, uint64_t mtu, uint64_t room, const char *call)
+{
+    same_answer(kaiverohm_setup(words(b), WORDS, 1, mtu, room),
+                second_setup(&b->second, 1, mtu, room), call);
+}
+
+static void set_up_well(struct board *b)
+{
+    set_up(b, b->mtu, b->room, "setup");
+}
+
+/* An MTU and an R that are off, a state that is too long; then all is right. */
+static void setups(struct board *b)
+{
+    uint64_t off = one_in(2) ? b->mtu + 2 : 4 * below(80);
+    set_up(b, off, b->room, "setup, MTU off");
+    same_words(words(b), &b->second, "setup, MTU off");
+    set_up(b, b->mtu, 65537, "setup, R off");
+    same_words(words(b), &b->second, "setup, R off");
+    struct kaiverohm_answer a = kaiverohm_setup(words(b), WORDS + 1, 1, b->mtu, b->room);
+    if (a.kind != KAIVEROHM_REFUSED || a.number != 12)
+        fail("setup of a long state");
+    set_up_well(b);
+    same_board(b, "setup");
+}
+
 /* ---- one packet */
 
-static void read_one(struct board *b, size_t state_words, size_t streams, size_t messages,
-                     size_t response, const uint8_t *packet, size_t length)
+/* With what lengths the buffers are lent. */
+struct lengths {
+    size_t words, streams, messages, response;
+};
+
+static struct lengths right_lengths(const struct board *b, size_t response)
+{
+    return (struct lengths){ WORDS, 16 * b->room, KAIVEROHM_MESSAGE_MEMORY, response };
+}
+
+static void make_one_wrong(struct lengths *l)
+{
+    switch (below(4)) {
+    case 0: l->words = one_in(2) ? WORDS - 1 : WORDS + 1; break;
+    case 1: l->streams = one_in(4) ? 0 : l->streams + 1 - 2 * below(2); break;
+    case 2: l->messages = one_in(4) ? 0 : l->messages + 1 - 2 * below(2); break;
+    default: l->response = below(7); break;
+    }
+}
+
+/* The second program's state is a struct: it has no wrong length. */
+static struct second_answer second_reads(struct board *b, struct lengths l, uint8_t *response,
+                                         const uint8_t *packet, size_t length)
+{
+    struct second_lent lent = {
+        .stream_memory = b->second_streams,
+        .stream_length = l.streams,
+        .message_memory = b->second_messages,
+        .message_length = l.messages,
+        .response = response,
+        .response_length = l.response,
+    };
+    if (l.words != WORDS)
+        return (struct second_answer){ .kind = SECOND_REFUSED, .refusal = 12 };
+    return second_read(&b->second, lent, packet, length);
+}
+
+static void read_one(struct board *b, struct lengths l, const uint8_t *packet, size_t length)
 {
     int clear = one_in(2);
-    struct second_lent lent = {b->second_streams,  streams,  b->second_messages, messages,
-                               b->second_response, response};
-    struct second_answer there;
     if (clear) {
         memset(b->response.bytes, 0, 16);
         memset(b->second_response, 0, 16);
     }
     memcpy(b->packet.bytes, packet, length);
-    struct kaiverohm_report here = kaiverohm_read(
-        words(b), state_words, b->streams.bytes, streams, b->messages.bytes, messages,
-        b->response.bytes, response, b->packet.bytes, length);
-    if (state_words == WORDS) {
-        there = second_read(&b->second, lent, packet, length);
-    } else {
-        /* The second program's state is a struct: it has no wrong length. */
-        memset(&there, 0, sizeof there);
-        there.kind = SECOND_REFUSED;
-        there.refusal = 12;
-    }
+    struct kaiverohm_report here = kaiverohm_read(words(b), l.words, b->streams.bytes, l.streams,
+                                                  b->messages.bytes, l.messages, b->response.bytes,
+                                                  l.response, b->packet.bytes, length);
+    struct second_answer there = second_reads(b, l, b->second_response, packet, length);
     packets++;
-    same_report(&here, there, packet, length, clear && response >= 7, b->response.bytes);
+    same_report(&here, there, packet, length, clear && l.response >= 7, b->response.bytes);
     same_bytes(b->packet.bytes, packet, length, "the packet");
     same_board(b, "read");
 }
@@ -495,9 +556,9 @@ static void other_calls(struct board *b)
 /* Numbers near every bound that the state's fields have. */
 static uint64_t odd_number(const struct board *b)
 {
-    static const uint64_t bounds[] = {0,   1,    2,    3,     7,     8,     9,     14,
-                                      15,  16,   31,   32,    33,    64,    128,   255,
-                                      256, 2047, 2048, 65535, 65536, 65537, 1u << 31};
+    static const uint64_t bounds[] = { 0,   1,    2,    3,     7,     8,     9,       14,
+                                       15,  16,   31,   32,    33,    64,    128,     255,
+                                       256, 2047, 2048, 65535, 65536, 65537, 1u << 31 };
     switch (below(7)) {
     case 0: return draw();
     case 1: return UINT64_MAX - below(3);
@@ -534,8 +595,10 @@ static void odd_state(struct board *b)
     }
     if (one_in(4)) /* an open message, nearly right */ {
         size_t c = 83 + 8 * below(8);
-        uint64_t values[] = {1 + below(2), below(6), below(4),      below(4),
-                             below(17),    8 + below(8), below(1u << below(17)), 8 * below(34)};
+        uint64_t values[] = {
+            1 + below(2),           below(6),     below(4), below(4), below(17), 8 + below(8),
+            below(1u << below(17)), 8 * below(34)
+        };
         for (size_t i = 0; i < 8; i++)
             words(b)[c + i] = *second_word(&b->second, c + i) = values[i];
     }
@@ -545,192 +608,243 @@ static void odd_state(struct board *b)
 
 /* ---- a round of single calls on one board */
 
+struct kept {
+    uint64_t words[WORDS];
+    struct second_endpoint second;
+};
+
+static struct kept keep(struct board *b)
+{
+    struct kept kept = { .second = b->second };
+    memcpy(kept.words, words(b), sizeof kept.words);
+    return kept;
+}
+
+static void put_back(struct board *b, const struct kept *kept)
+{
+    memcpy(words(b), kept->words, sizeof kept->words);
+    b->second = kept->second;
+}
+
+/* Some odd states are gone on from, with our own device, MTU and R. */
+static void go_on(struct board *b, int odd, const struct kept *kept)
+{
+    b->second.device = words(b)[0] = 1;
+    b->second.mtu = words(b)[1] = b->mtu;
+    b->second.room = words(b)[2] = b->room;
+    if (odd && (!one_in(4) || second_refusal19(&b->second)))
+        put_back(b, kept);
+}
+
+/* Some packet, now and then lent a wrong length or an odd state; then other calls. */
+static void single(struct board *b)
+{
+    uint8_t packet[PACKET + 16];
+    size_t length = some_packet(packet, b->mtu, b->room);
+    struct lengths lengths = right_lengths(b, one_in(2) ? 7 : 7 + below(10));
+    struct kept kept = keep(b);
+    int odd = one_in(6);
+    if (one_in(12))
+        make_one_wrong(&lengths);
+    if (odd)
+        odd_state(b);
+    read_one(b, lengths, packet, length);
+    if (one_in(10))
+        other_calls(b);
+    if (one_in(10))
+        any_segment();
+    go_on(b, odd, &kept);
+}
+
 static void singles(uint64_t mtu, uint64_t room, unsigned long long count)
 {
     struct board b = board(mtu, room);
-    struct second_endpoint kept_second;
-    uint64_t kept[WORDS];
-    uint8_t packet[PACKET + 16];
-
-    uint64_t off = one_in(2) ? mtu + 2 : 4 * below(80);
-    same_answer(kaiverohm_setup(words(&b), WORDS, 1, off, room),
-                second_setup(&b.second, 1, off, room), "setup, MTU off");
-    same_words(words(&b), &b.second, "setup, MTU off");
-    same_answer(kaiverohm_setup(words(&b), WORDS, 1, mtu, 65537),
-                second_setup(&b.second, 1, mtu, 65537), "setup, R off");
-    same_words(words(&b), &b.second, "setup, R off");
-    struct kaiverohm_answer a = kaiverohm_setup(words(&b), WORDS + 1, 1, mtu, room);
-    if (a.kind != KAIVEROHM_REFUSED || a.number != 12)
-        fail("setup of a long state");
-    same_answer(kaiverohm_setup(words(&b), WORDS, 1, mtu, room),
-                second_setup(&b.second, 1, mtu, room), "setup");
-    same_board(&b, "setup");
-
+    setups(&b);
     while (count-- > 0) {
         if (one_in(150))
-            same_answer(kaiverohm_setup(words(&b), WORDS, 1, mtu, room),
-                        second_setup(&b.second, 1, mtu, room), "setup");
-        size_t length = some_packet(packet, mtu, room);
-        size_t state_words = WORDS, streams = 16 * room, messages = KAIVEROHM_MESSAGE_MEMORY;
-        size_t response = one_in(2) ? 7 : 7 + below(10);
-        int odd = one_in(6);
-        if (one_in(12)) {
-            switch (below(4)) {
-            case 0: state_words = one_in(2) ? WORDS - 1 : WORDS + 1; break;
-            case 1: streams = one_in(4) ? 0 : streams + 1 - 2 * below(2); break;
-            case 2: messages = one_in(4) ? 0 : messages + 1 - 2 * below(2); break;
-            default: response = below(7); break;
-            }
-        }
-        if (odd) {
-            memcpy(kept, words(&b), sizeof kept);
-            kept_second = b.second;
-            odd_state(&b);
-        }
-        read_one(&b, state_words, streams, messages, response, packet, length);
-        if (one_in(10))
-            other_calls(&b);
-        if (one_in(10))
-            any_segment();
-        /* Some odd states are gone on from, with our own device, MTU and R. */
-        b.second.device = words(&b)[0] = 1;
-        b.second.mtu = words(&b)[1] = mtu;
-        b.second.room = words(&b)[2] = room;
-        if (odd && (!one_in(4) || second_refusal19(&b.second))) {
-            memcpy(words(&b), kept, sizeof kept);
-            b.second = kept_second;
-        }
+            set_up_well(&b);
+        single(&b);
     }
     no_board(&b);
 }
 
 /* ---- bursts */
 
-static void burst(uint64_t mtu, uint64_t room, struct board *b)
+/* Packets as records, `bad` with one behind them that is none; what is lent for
+   them, and the second program's copies of it. */
+struct burst {
+    size_t count, length; /* of packets, of bytes */
+    uint64_t pause;
+    int bad, clear;
+    uint8_t packets[BURST][PACKET + 16];
+    size_t lengths[BURST], starts[BURST + 1];
+    uint8_t bytes[BURST * (PACKET + 20)];
+    struct guarded lent, reports, replies;
+    uint8_t *their_reports, *their_replies;
+    size_t streams, replies_length;
+};
+
+static void put_byte(struct burst *u, size_t byte)
 {
-    static uint8_t bytes[BURST * (PACKET + 20)];
-    static uint8_t list[BURST][PACKET + 16];
-    size_t lengths[BURST], starts[BURST + 1], at = 0, count = below(BURST);
-    uint64_t pause = one_in(2) ? below(3) : 0;
-    int bad = one_in(6), clear = one_in(2);
+    u->bytes[u->length++] = (uint8_t)byte;
+}
 
-    for (size_t k = 0; k < count; k++) {
-        lengths[k] = some_packet(list[k], mtu, room);
-        starts[k] = at;
-        if (lengths[k] < 128) {
-            bytes[at++] = (uint8_t)lengths[k];
-        } else {
-            bytes[at++] = (uint8_t)(128 + lengths[k] % 128);
-            bytes[at++] = (uint8_t)(lengths[k] / 128);
-        }
-        memcpy(bytes + at, list[k], lengths[k]);
-        at += lengths[k];
+static void put_record(struct burst *u, const uint8_t *packet, size_t length)
+{
+    if (length < 128) {
+        put_byte(u, length);
+    } else {
+        put_byte(u, 128 + length % 128);
+        put_byte(u, length / 128);
     }
-    starts[count] = at;
-    if (bad) {
-        switch (below(4)) {
-        case 0: bytes[at++] = 5; bytes[at++] = 1; break;               /* cut */
-        case 1: bytes[at++] = 130; break;                              /* a cut length */
-        case 2: bytes[at++] = 130; bytes[at++] = 0; break;             /* a second byte of 0 */
-        default: bytes[at++] = 130; bytes[at++] = 129; bytes[at++] = 1; /* a third byte */
-        }
-    }
+    memcpy(u->bytes + u->length, packet, length);
+    u->length += length;
+}
 
-    size_t room_reports = one_in(2) ? BURST + 2 : below(count + 2);
-    size_t room_replies = one_in(2) ? BURST + 2 : 1 + below(count + 2);
-    struct guarded lent = guarded(at);
-    struct guarded reports = guarded(72 * room_reports + 8 * below(9));
-    struct guarded replies = guarded(8 * room_replies + below(8));
-    uint8_t *their_reports = malloc(reports.length + 1), *their_replies = malloc(replies.length);
-    size_t streams = 16 * room, replies_length = replies.length;
-    if (one_in(20))
-        replies_length = below(9);
-    if (one_in(20))
-        streams--;
-    memcpy(lent.bytes, bytes, at);
-    scatter(reports.bytes, reports.length);
-    scatter(replies.bytes, replies.length);
-    if (clear)
-        memset(replies.bytes, 0, replies.length);
-    memcpy(their_reports, reports.bytes, reports.length);
-    memcpy(their_replies, replies.bytes, replies.length);
+static void put_no_record(struct burst *u)
+{
+    static const struct {
+        size_t length;
+        uint8_t bytes[3];
+    } none[] = {
+        { 2, { 5, 1 } },        /* cut */
+        { 1, { 130 } },         /* a cut length */
+        { 2, { 130, 0 } },      /* a second byte of 0 */
+        { 3, { 130, 129, 1 } }, /* a third byte */
+    };
+    size_t which = below(4);
+    for (size_t i = 0; i < none[which].length; i++)
+        put_byte(u, none[which].bytes[i]);
+}
+
+static void some_records(struct burst *u, uint64_t mtu, uint64_t room)
+{
+    u->length = 0;
+    u->count = below(BURST);
+    u->pause = one_in(2) ? below(3) : 0;
+    u->bad = one_in(6);
+    u->clear = one_in(2);
+    for (size_t k = 0; k < u->count; k++) {
+        u->lengths[k] = some_packet(u->packets[k], mtu, room);
+        u->starts[k] = u->length;
+        put_record(u, u->packets[k], u->lengths[k]);
+    }
+    u->starts[u->count] = u->length;
+    if (u->bad)
+        put_no_record(u);
+}
+
+/* Reports and responses for all packets or for fewer, now and then wrong lengths. */
+static void lend(struct burst *u, const struct board *b)
+{
+    size_t room_reports = one_in(2) ? BURST + 2 : below(u->count + 2);
+    size_t room_replies = one_in(2) ? BURST + 2 : 1 + below(u->count + 2);
+    u->lent = guarded(u->length);
+    u->reports = guarded(72 * room_reports + 8 * below(9));
+    u->replies = guarded(8 * room_replies + below(8));
+    u->their_reports = malloc(u->reports.length + 1);
+    u->their_replies = malloc(u->replies.length);
+    u->replies_length = one_in(20) ? below(9) : u->replies.length;
+    u->streams = 16 * b->room - (one_in(20) ? 1 : 0);
+    memcpy(u->lent.bytes, u->bytes, u->length);
+    scatter(u->reports.bytes, u->reports.length);
+    scatter(u->replies.bytes, u->replies.length);
+    if (u->clear)
+        memset(u->replies.bytes, 0, u->replies.length);
+    memcpy(u->their_reports, u->reports.bytes, u->reports.length);
+    memcpy(u->their_replies, u->replies.bytes, u->replies.length);
+}
+
+static void give_back(struct burst *u)
+{
+    free(u->lent.whole);
+    free(u->reports.whole);
+    free(u->replies.whole);
+    free(u->their_reports);
+    free(u->their_replies);
+}
+
+static struct kaiverohm_burst read_burst(struct board *b, struct burst *u)
+{
+    return kaiverohm_read_burst(words(b), WORDS, b->streams.bytes, u->streams, b->messages.bytes,
+                                KAIVEROHM_MESSAGE_MEMORY, u->replies.bytes, u->replies_length,
+                                (uint64_t *)(void *)u->reports.bytes, u->reports.length / 8,
+                                u->lent.bytes, u->length, u->pause);
+}
+
+/* Packet k, read by the second program, has that report. Says whether it delivers. */
+static int same_packet(struct board *b, struct burst *u, size_t k)
+{
+    struct lengths l = { WORDS, u->streams, KAIVEROHM_MESSAGE_MEMORY, 8 };
+    struct second_answer there =
+        second_reads(b, l, u->their_replies + 8 * k, u->packets[k], u->lengths[k]);
+    struct kaiverohm_report report;
+    packets++;
+    memcpy(&report, u->reports.bytes + 72 * k, 72);
+    same_report(&report, there, u->packets[k], u->lengths[k], u->clear, u->replies.bytes + 8 * k);
+    memcpy(u->their_reports + 72 * k, &report, 72);
+    return there.kind == SECOND_PDU || there.kind == SECOND_MESSAGE;
+}
+
+static struct kaiverohm_burst stopped(const struct burst *u, unsigned stop, size_t count)
+{
+    return (struct kaiverohm_burst){ stop, 0, count, u->starts[count] };
+}
+
+/* What the burst must say: the packets one after another. */
+static struct kaiverohm_burst one_after_another(struct board *b, struct burst *u)
+{
+    if (second_refusal19(&b->second))
+        return (struct kaiverohm_burst){ KAIVEROHM_BURST_REFUSED, 19, 0, 0 };
+    if (u->streams != 16 * b->second.room || u->replies_length < 7)
+        return (struct kaiverohm_burst){ KAIVEROHM_BURST_REFUSED, 12, 0, 0 };
+    for (size_t k = 0; k < u->count; k++) {
+        if (k == u->reports.length / 72 || k == u->replies_length / 8)
+            return stopped(u, KAIVEROHM_BURST_FULL, k);
+        if (same_packet(b, u, k) && u->pause != 0)
+            return stopped(u, KAIVEROHM_BURST_DELIVERY, k + 1);
+    }
+    return stopped(u, u->bad ? KAIVEROHM_BURST_BAD : KAIVEROHM_BURST_END, u->count);
+}
+
+static void same_burst(struct kaiverohm_burst a, struct kaiverohm_burst b)
+{
+    bursts++;
+    stops[b.stop]++;
+    if (a.stop != b.stop || a.number != b.number || a.count != b.count || a.next != b.next)
+        fail("burst %llu %llu %llu %llu and %llu %llu %llu %llu", (unsigned long long)a.stop,
+             (unsigned long long)a.number, (unsigned long long)a.count, (unsigned long long)a.next,
+             (unsigned long long)b.stop, (unsigned long long)b.number, (unsigned long long)b.count,
+             (unsigned long long)b.next);
+}
+
+static void burst(struct board *b)
+{
+    static struct burst u;
+    some_records(&u, b->mtu, b->room);
+    lend(&u, b);
     if (one_in(8))
         odd_state(b);
-
-    struct kaiverohm_burst here = kaiverohm_read_burst(
-        words(b), WORDS, b->streams.bytes, streams, b->messages.bytes, KAIVEROHM_MESSAGE_MEMORY,
-        replies.bytes, replies_length, (uint64_t *)(void *)reports.bytes, reports.length / 8,
-        lent.bytes, at, pause);
-
-    /* What it must be: the packets one after another. */
-    struct kaiverohm_burst want = {KAIVEROHM_BURST_END, 0, 0, 0};
-    size_t most = reports.length / 72 < replies_length / 8 ? reports.length / 72
-                                                            : replies_length / 8;
-    if (second_refusal19(&b->second)) {
-        want.stop = KAIVEROHM_BURST_REFUSED;
-        want.number = 19;
-    } else if (streams != 16 * b->second.room || replies_length < 7) {
-        want.stop = KAIVEROHM_BURST_REFUSED;
-        want.number = 12;
-    } else {
-        size_t k = 0;
-        while (want.stop == KAIVEROHM_BURST_END) {
-            if (k == count) {
-                want.stop = bad ? KAIVEROHM_BURST_BAD : KAIVEROHM_BURST_END;
-                break;
-            }
-            if (k == most) {
-                want.stop = KAIVEROHM_BURST_FULL;
-                break;
-            }
-            struct second_lent l = {b->second_streams,     streams, b->second_messages,
-                                    KAIVEROHM_MESSAGE_MEMORY, their_replies + 8 * k, 8};
-            struct second_answer there = second_read(&b->second, l, list[k], lengths[k]);
-            struct kaiverohm_report report;
-            packets++;
-            memcpy(&report, reports.bytes + 72 * k, 72);
-            same_report(&report, there, list[k], lengths[k], clear, replies.bytes + 8 * k);
-            memcpy(their_reports + 72 * k, &report, 72);
-            k++;
-            if (pause != 0 && (there.kind == SECOND_PDU || there.kind == SECOND_MESSAGE))
-                want.stop = KAIVEROHM_BURST_DELIVERY;
-        }
-        want.count = k;
-        want.next = starts[k];
-    }
-    bursts++;
-    stops[want.stop]++;
-    if (here.stop != want.stop || here.number != want.number || here.count != want.count
-        || here.next != want.next)
-        fail("burst %llu %llu %llu %llu and %llu %llu %llu %llu", (unsigned long long)here.stop,
-             (unsigned long long)here.number, (unsigned long long)here.count,
-             (unsigned long long)here.next, (unsigned long long)want.stop,
-             (unsigned long long)want.number, (unsigned long long)want.count,
-             (unsigned long long)want.next);
-    same_bytes(reports.bytes, their_reports, reports.length, "the reports");
-    same_bytes(replies.bytes, their_replies, replies.length, "the responses");
-    same_bytes(lent.bytes, bytes, at, "the burst");
-    unharmed(&reports, "the reports");
-    unharmed(&replies, "the responses");
-    unharmed(&lent, "the burst");
+    struct kaiverohm_burst here = read_burst(b, &u);
+    same_burst(here, one_after_another(b, &u));
+    same_bytes(u.reports.bytes, u.their_reports, u.reports.length, "the reports");
+    same_bytes(u.replies.bytes, u.their_replies, u.replies.length, "the responses");
+    same_bytes(u.lent.bytes, u.bytes, u.length, "the burst");
+    unharmed(&u.reports, "the reports");
+    unharmed(&u.replies, "the responses");
+    unharmed(&u.lent, "the burst");
     same_board(b, "read_burst");
-    free(lent.whole);
-    free(reports.whole);
-    free(replies.whole);
-    free(their_reports);
-    free(their_replies);
+    give_back(&u);
 }
 
 static void many_bursts(uint64_t mtu, uint64_t room, unsigned count)
 {
     struct board b = board(mtu, room);
-    same_answer(kaiverohm_setup(words(&b), WORDS, 1, mtu, room),
-                second_setup(&b.second, 1, mtu, room), "setup");
+    set_up_well(&b);
     while (count-- > 0) {
-        burst(mtu, room, &b);
+        burst(&b);
         if (second_refusal19(&b.second) || b.second.mtu != mtu || b.second.room != room)
-            same_answer(kaiverohm_setup(words(&b), WORDS, 1, mtu, room),
-                        second_setup(&b.second, 1, mtu, room), "setup");
+            set_up_well(&b);
         b.second.device = words(&b)[0] = 1;
     }
     no_board(&b);
@@ -742,15 +856,16 @@ static void longest(void)
     enum { LONGEST = KAIVEROHM_LARGEST_PDU };
     static uint8_t pdu[LONGEST + 1];
     struct board b = board(256, LONGEST);
-    struct kaiverohm_heading h = {.destination = 1, .source = 9, .stream = 3, .cos = 1, .priority = 1};
+    struct kaiverohm_heading h = {
+        .destination = 1, .source = 9, .stream = 3, .cos = 1, .priority = 1
+    };
     uint8_t packet[PACKET];
-    same_answer(kaiverohm_setup(words(&b), WORDS, 1, 256, LONGEST),
-                second_setup(&b.second, 1, 256, LONGEST), "setup");
+    set_up_well(&b);
     scatter(pdu, LONGEST + 1);
     unsigned long long before = kinds[KAIVEROHM_DELIVERED];
     for (uint64_t k = 0; k < 256; k++) {
         size_t length = same_segment(packet, 265, h, 256, pdu, LONGEST, k);
-        read_one(&b, WORDS, 16 * LONGEST, KAIVEROHM_MESSAGE_MEMORY, 7, packet, length);
+        read_one(&b, right_lengths(&b, 7), packet, length);
     }
     if (kinds[KAIVEROHM_DELIVERED] != before + 1)
         fail("the longest PDU is not delivered");
@@ -760,13 +875,42 @@ static void longest(void)
     no_board(&b);
 }
 
+/* ---- the whole */
+
+static void print_counts(void)
+{
+    printf("packets %llu, bursts %llu, other calls %llu, ", packets, bursts, calls);
+    printf("states that 19 names %llu, with twins %llu\n", states19, twins);
+    printf("held %llu, delivered %llu, messages %llu, refused:", kinds[KAIVEROHM_HELD],
+           kinds[KAIVEROHM_DELIVERED], kinds[KAIVEROHM_MESSAGE]);
+    for (unsigned n = 0; n < 32; n++)
+        if (refusals[n] > 0)
+            printf(" %u %llux", n, refusals[n]);
+    printf("\nbursts: refused %llu, end %llu, bad %llu, full %llu, delivery %llu\n", stops[0],
+           stops[1], stops[2], stops[3], stops[4]);
+}
+
+/* Every answer has to occur, or the traffic is too tame. */
+static void all_occurred(void)
+{
+    for (unsigned n = 1; n <= 25; n++)
+        if (refusals[n] == 0)
+            fail("refusal %u did not occur", n);
+    for (size_t i = 0; i < sizeof kinds / sizeof kinds[0]; i++)
+        if (kinds[i] == 0)
+            fail("answer %zu did not occur", i);
+    for (size_t i = 0; i < sizeof stops / sizeof stops[0]; i++)
+        if (stops[i] == 0)
+            fail("no burst stopped by %zu", i);
+}
+
 int main(int argc, char **argv)
 {
     static const struct {
         uint64_t mtu, room;
         unsigned share; /* of 100 */
-    } sizes[] = {{32, 2048, 30}, {32, 32, 10},    {36, 100, 10},  {64, 4095, 15},
-                 {128, 128, 5},  {252, 1024, 10}, {256, 2048, 18}, {256, 65536, 2}};
+    } sizes[] = { { 32, 2048, 30 }, { 32, 32, 10 },    { 36, 100, 10 },   { 64, 4095, 15 },
+                  { 128, 128, 5 },  { 252, 1024, 10 }, { 256, 2048, 18 }, { 256, 65536, 2 } };
     seed = argc > 1 ? strtoull(argv[1], NULL, 0) : 20261115;
     unsigned long long total = argc > 2 ? strtoull(argv[2], NULL, 0) : 20000;
     random_state = seed;
@@ -777,31 +921,10 @@ int main(int argc, char **argv)
         singles(sizes[i].mtu, sizes[i].room, total * sizes[i].share / 200);
         many_bursts(sizes[i].mtu, sizes[i].room, (unsigned)(total * sizes[i].share / 200 / 15));
     }
-
     longest();
-
-    printf("packets %llu, bursts %llu, other calls %llu, states that 19 names %llu, with twins %llu\n",
-           packets, bursts, calls, states19, twins);
-    printf("held %llu, delivered %llu, messages %llu, refused:", kinds[KAIVEROHM_HELD],
-           kinds[KAIVEROHM_DELIVERED], kinds[KAIVEROHM_MESSAGE]);
-    for (unsigned n = 0; n < 32; n++)
-        if (refusals[n] > 0)
-            printf(" %u %llux", n, refusals[n]);
-    printf("\nbursts: refused %llu, end %llu, bad %llu, full %llu, delivery %llu\n", stops[0],
-           stops[1], stops[2], stops[3], stops[4]);
-
-    /* Every answer has to occur, or the traffic is too tame. */
-    static const unsigned needed[] = {1,  2,  3,  4,  5,  6,  7,  8,  9,  10, 11, 12,
-                                      13, 14, 15, 16, 17, 18, 19, 20, 21, 22, 23, 24, 25};
-    for (size_t i = 0; i < sizeof needed / sizeof needed[0] && total >= 10000; i++)
-        if (refusals[needed[i]] == 0)
-            fail("refusal %u did not occur", needed[i]);
-    for (size_t i = 0; i < sizeof kinds / sizeof kinds[0] && total >= 10000; i++)
-        if (kinds[i] == 0)
-            fail("answer %zu did not occur", i);
-    for (size_t i = 0; i < sizeof stops / sizeof stops[0] && total >= 10000; i++)
-        if (stops[i] == 0)
-            fail("no burst stopped by %zu", i);
+    print_counts();
+    if (total >= 10000)
+        all_occurred();
     printf("no difference\n");
     return 0;
 }

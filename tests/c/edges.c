@@ -16,9 +16,15 @@
 #include "want.h"
 
 enum {
-    DEVICE = 0x0102, MTU = 32, ROOM = 100, MOST = 70000,
-    WORDS = KAIVEROHM_STATE_WORDS, REPLY = KAIVEROHM_RESPONSE_BYTES, SLOT = KAIVEROHM_SLOT_BYTES,
-    REPORT = KAIVEROHM_REPORT_WORDS, STREAM_MEMORY = KAIVEROHM_STREAM_CONTEXTS * ROOM
+    DEVICE = 0x0102,
+    MTU = 32,
+    ROOM = 100,
+    MOST = 70000,
+    WORDS = KAIVEROHM_STATE_WORDS,
+    REPLY = KAIVEROHM_RESPONSE_BYTES,
+    SLOT = KAIVEROHM_SLOT_BYTES,
+    REPORT = KAIVEROHM_REPORT_WORDS,
+    STREAM_MEMORY = KAIVEROHM_STREAM_CONTEXTS * ROOM
 };
 
 /* A number whose low 32 bits are 0. */
@@ -29,7 +35,8 @@ enum {
 static uint8_t *fenced(size_t length)
 {
     size_t page = (size_t)sysconf(_SC_PAGESIZE), whole = (length + page - 1) / page * page;
-    uint8_t *at = mmap(NULL, whole + page, PROT_READ | PROT_WRITE, MAP_PRIVATE | MAP_ANONYMOUS, -1, 0);
+    uint8_t *at =
+        mmap(NULL, whole + page, PROT_READ | PROT_WRITE, MAP_PRIVATE | MAP_ANONYMOUS, -1, 0);
     if (at == MAP_FAILED || mprotect(at + whole, page, PROT_NONE) != 0) {
         perror("edges: no memory");
         exit(1);
@@ -49,8 +56,8 @@ static uint64_t *state(size_t words)
 
 /* The buffers as they stood, with the longest lengths that are lent. */
 static struct {
-    uint8_t state[8 * (WORDS + 1)], streams[STREAM_MEMORY + 1], messages[KAIVEROHM_MESSAGE_MEMORY + 1],
-        response[64];
+    uint8_t state[8 * (WORDS + 1)], streams[STREAM_MEMORY + 1],
+        messages[KAIVEROHM_MESSAGE_MEMORY + 1], response[64];
 } kept;
 
 static void keep(void)
@@ -119,8 +126,9 @@ static struct kaiverohm_report lent(size_t words, size_t streams, size_t message
 {
     memcpy(packet_end - length, packet, length);
     keep();
-    return kaiverohm_read(state(words), words, streams_end - streams, streams, messages_end - messages,
-                          messages, response_end - response, response, packet_end - length, length);
+    return kaiverohm_read(state(words), words, streams_end - streams, streams,
+                          messages_end - messages, messages, response_end - response, response,
+                          packet_end - length, length);
 }
 
 static struct kaiverohm_report read_it(size_t length)
@@ -132,14 +140,17 @@ static struct kaiverohm_report read_it(size_t length)
 static void refuses(size_t length, unsigned number, unsigned dropped, int changes, int line)
 {
     struct kaiverohm_report r = read_it(length);
-    want(r.kind == KAIVEROHM_REFUSED && r.number == number && r.dropped == dropped, "refusal", line);
+    want(r.kind == KAIVEROHM_REFUSED && r.number == number && r.dropped == dropped, "refusal",
+         line);
     want(r.response == (number >= 20 ? REPLY : 0), "response", line);
     want(r.context == 0 && r.source == 0 && r.cos_or_letter == 0 && r.stream_or_mailbox == 0
-             && r.length == 0, "fields that a refusal does not name are 0", line);
+             && r.length == 0,
+         "fields that a refusal does not name are 0", line);
     want(changed() == changes, "what is left", line);
 }
 
-#define REFUSES(length, number, dropped, changes) refuses(length, number, dropped, changes, __LINE__)
+#define REFUSES(length, number, dropped, changes) \
+    refuses(length, number, dropped, changes, __LINE__)
 
 /* ---- setup */
 
@@ -188,15 +199,17 @@ static void setups(void)
 static void lengths(void)
 {
     const size_t s = STREAM_MEMORY, m = KAIVEROHM_MESSAGE_MEMORY;
-    const size_t wrong[][4] = {
-        {WORDS - 1, s, m, REPLY}, {WORDS + 1, s, m, REPLY}, {0, s, m, REPLY},
-        {WORDS, s - 1, m, REPLY}, {WORDS, s + 1, m, REPLY}, {WORDS, 0, m, REPLY},
-        {WORDS, s, m - 1, REPLY}, {WORDS, s, m + 1, REPLY}, {WORDS, s, 0, REPLY},
-        {WORDS, s, m, REPLY - 1}, {WORDS, s, m, 0},         {0, 0, 0, 0}};
+    const size_t wrong[][4] = { { WORDS - 1, s, m, REPLY }, { WORDS + 1, s, m, REPLY },
+                                { 0, s, m, REPLY },         { WORDS, s - 1, m, REPLY },
+                                { WORDS, s + 1, m, REPLY }, { WORDS, 0, m, REPLY },
+                                { WORDS, s, m - 1, REPLY }, { WORDS, s, m + 1, REPLY },
+                                { WORDS, s, 0, REPLY },     { WORDS, s, m, REPLY - 1 },
+                                { WORDS, s, m, 0 },         { 0, 0, 0, 0 } };
     for (size_t i = 0; i < sizeof wrong / sizeof wrong[0]; i++) {
         fresh();
         size_t length = i % 2 ? START("\x09") : 0;
-        struct kaiverohm_report r = lent(wrong[i][0], wrong[i][1], wrong[i][2], wrong[i][3], length);
+        struct kaiverohm_report r =
+            lent(wrong[i][0], wrong[i][1], wrong[i][2], wrong[i][3], length);
         WANT(r.kind == KAIVEROHM_REFUSED && r.number == 12 && changed() == 0);
         if (wrong[i][0] != WORDS)
             continue;
@@ -214,8 +227,8 @@ static void lengths(void)
 
 static void states(void)
 {
-    static const uint64_t mtus[] = {0, 28, 33, 260, UINT64_MAX - 3};
-    static const uint64_t rooms[] = {0, MTU - 1, 65537, UINT64_MAX};
+    static const uint64_t mtus[] = { 0, 28, 33, 260, UINT64_MAX - 3 };
+    static const uint64_t rooms[] = { 0, MTU - 1, 65537, UINT64_MAX };
     for (size_t i = 0; i < 9; i++) {
         fresh();
         if (i < 5)
@@ -240,7 +253,16 @@ static void states(void)
 
 /* ---- row 19, in every context: the paper's words once more */
 
-#define EACH(number, list) for (size_t number = 0; number < sizeof list / sizeof list[0]; number++)
+/* Takes a number from each list by a counter: a digit of it for each list. What
+   is left of the counter is 0 until every choice was made. */
+static uint64_t pick(const uint64_t *list, size_t length, size_t *counter)
+{
+    uint64_t number = list[*counter % length];
+    *counter /= length;
+    return number;
+}
+
+#define PICK(list) pick(list, sizeof list / sizeof list[0], &left)
 
 static int is_state(void)
 {
@@ -259,60 +281,94 @@ static int bad_message(uint64_t msglen, uint64_t ssize, uint64_t marks, uint64_t
     return last < 8 || last > UINT64_C(8) << (ssize - 9) || last % 8 != 0;
 }
 
-static void row_19(void)
+static const uint64_t opens[] = { 0, 1, 2, FAR, UINT64_MAX };
+
+static uint64_t *stream_context(size_t n)
 {
-    static const uint64_t open[] = {0, 1, 2, FAR, UINT64_MAX};
-    static const uint64_t held[] = {0, 1, ROOM - 1, ROOM, ROOM + 1, FAR, FAR + 1, UINT64_MAX};
-    static const uint64_t msglen[] = {0, 1, 2, 15, 16, FAR + 1, UINT64_MAX};
-    static const uint64_t ssize[] = {0, 8, 9, 10, 14, 15, 16, 25, FAR + 9, UINT64_MAX};
-    static const uint64_t marks[] = {0, 1, 2, 3, 4, 5, 7, 8, 0x7fff, 0x8000, 0xfffe, 0xffff, 0x10000,
-                                     FAR + 1, UINT64_MAX};
-    static const uint64_t last[] = {0, 4, 7, 8, 9, 16, 24, 256, 264, FAR, FAR + 8, UINT64_MAX - 7};
+    return state(WORDS) + 3 + 5 * n;
+}
+
+static uint64_t *message_context(size_t n)
+{
+    return state(WORDS) + 83 + 8 * n;
+}
+
+static void row_19_streams(void)
+{
+    static const uint64_t held[] = { 0, 1, ROOM - 1, ROOM, ROOM + 1, FAR, FAR + 1, UINT64_MAX };
     fresh();
     for (size_t n = 0; n < KAIVEROHM_STREAM_CONTEXTS; n++) {
-        uint64_t *c = state(WORDS) + 3 + 5 * n;
-        EACH(o, open) EACH(h, held) {
-            c[0] = open[o];
-            c[4] = held[h];
-            WANT(is_state() == !(open[o] != 0 && (held[h] == 0 || held[h] > ROOM)));
+        uint64_t *c = stream_context(n);
+        for (size_t choice = 0, left = 0; left == 0; choice++) {
+            left = choice;
+            c[0] = PICK(opens);
+            c[4] = PICK(held);
+            if (left == 0)
+                WANT(is_state() == !(c[0] != 0 && (c[4] == 0 || c[4] > ROOM)));
         }
         memset(c, 0, 40);
     }
+}
+
+/* Goes on with the state that the streams left: a fresh one. */
+static void row_19_messages(void)
+{
+    static const uint64_t msglen[] = { 0, 1, 2, 15, 16, FAR + 1, UINT64_MAX };
+    static const uint64_t ssize[] = { 0, 8, 9, 10, 14, 15, 16, 25, FAR + 9, UINT64_MAX };
+    static const uint64_t marks[] = { 0,      1,      2,       3,       4,
+                                      5,      7,      8,       0x7fff,  0x8000,
+                                      0xfffe, 0xffff, 0x10000, FAR + 1, UINT64_MAX };
+    static const uint64_t last[] = {
+        0, 4, 7, 8, 9, 16, 24, 256, 264, FAR, FAR + 8, UINT64_MAX - 7
+    };
     for (size_t n = 0; n < KAIVEROHM_MESSAGE_CONTEXTS; n++) {
-        uint64_t *c = state(WORDS) + 83 + 8 * n;
-        EACH(o, open) EACH(m, msglen) EACH(z, ssize) EACH(k, marks) EACH(l, last) {
-            c[0] = open[o];
-            c[4] = msglen[m];
-            c[5] = ssize[z];
-            c[6] = marks[k];
-            c[7] = last[l];
-            WANT(is_state() == !(open[o] != 0 && bad_message(c[4], c[5], c[6], c[7])));
+        uint64_t *c = message_context(n);
+        for (size_t choice = 0, left = 0; left == 0; choice++) {
+            left = choice;
+            c[0] = PICK(opens);
+            c[4] = PICK(msglen);
+            c[5] = PICK(ssize);
+            c[6] = PICK(marks);
+            c[7] = PICK(last);
+            if (left == 0)
+                WANT(is_state() == !(c[0] != 0 && bad_message(c[4], c[5], c[6], c[7])));
         }
         memset(c, 0, 64);
     }
-    /* A number of a context counts with all its 64 bits. */
+}
+
+/* A number of a context counts with all its 64 bits: source and cos. */
+static void wide_stream_numbers(void)
+{
+    static const uint64_t open_one[] = { 1, 9, 5, 7, MTU };
     for (size_t n = 0; n < KAIVEROHM_STREAM_CONTEXTS; n++)
         for (size_t word = 1; word < 3; word++) {
-            uint64_t *c = state(WORDS) + 3 + 5 * n;
+            uint64_t *c = stream_context(n);
             fresh();
-            const uint64_t open_one[] = {1, 9, 5, 7, MTU};
             memcpy(c, open_one, sizeof open_one);
             c[word] += FAR;
             REFUSES(MADE("\x19\x01\x02\x00\x09\x05\x00", MTU), 8, 0, 0);
             c[word] -= FAR;
             WANT(read_it(MADE("\x19\x01\x02\x00\x09\x05\x00", MTU)).kind == KAIVEROHM_HELD);
         }
+}
+
+/* And source, letter and mbox. */
+static void wide_message_numbers(void)
+{
+    static const uint64_t open_one[] = { 1, 9, 1, 2, 1, 9, 1, 0 };
     for (size_t n = 0; n < KAIVEROHM_MESSAGE_CONTEXTS; n++)
         for (size_t word = 1; word < 4; word++) {
-            uint64_t *c = state(WORDS) + 83 + 8 * n;
+            uint64_t *c = message_context(n);
             fresh();
-            const uint64_t open_one[] = {1, 9, 1, 2, 1, 9, 1, 0};
             memcpy(c, open_one, sizeof open_one);
             REFUSES(MADE("\x1b\x01\x02\x00\x09\x19\x60", 8), 24, 0, RESPONSE);
             c[word] += FAR;
             WANT(read_it(MADE("\x1b\x01\x02\x00\x09\x19\x60", 8)).kind == KAIVEROHM_HELD);
         }
 }
+
+/* ---- the packet's rows */
 
 /* A fresh endpoint, with a context of the flow open or not. */
 static void begin(unsigned open)
@@ -322,37 +378,46 @@ static void begin(unsigned open)
         read_it(START("\x09"));
 }
 
-static void rows(void)
+static void heads(void)
 {
-    /* Twice: with no context of the flow open, and with one. */
-    for (unsigned open = 0; open < 2; open++) {
-        int closes = open ? STATE : 0;
-        begin(open);
-        REFUSES(0, 1, 0, 0);
-        REFUSES(MADE("\x0f\x00\x00\x00", 0), 1, 0, 0);
-        REFUSES(MADE("\x0f\x00\x00\x00\x09", 0), 2, 0, 0);  /* 1, under 7 bytes, comes later */
-        REFUSES(MADE("\x2b\x00\x00\x00\x09", 0), 2, 0, 0);
-        REFUSES(MADE("\x1f\x01\x03\x00\x09", 0), 3, 0, 0);
-        REFUSES(MADE("\x15\x01\x02\x00\x09", 0), 4, 0, 0);
-        REFUSES(MADE("\x19\x01\x02\x00\x09\x05", 0), 1, 0, 0);
-        REFUSES(MADE("\x1b\x01\x02\x00\x09\x00", 0), 1, 0, 0);
-        REFUSES(MADE("\x19\x01\x02\x00\x09\x05\xc4", 1), 5, 0, 0); /* 1, under 9 bytes, comes later */
-        REFUSES(MADE("\x19\x01\x02\x00\x09\x05\xc0", 1), 1, 0, 0);
-        REFUSES(MADE("\x19\x01\x02\x00\x09\x05\x40", 1), 1, 0, 0);
-        REFUSES(MADE("\x19\x01\x02\x00\x09\x05\x00", 0), 6, open, closes);
-        begin(open);
-        REFUSES(MADE("\x19\x01\x02\x00\x09\x05\x80\x00\x07", 33), 6, open, closes);
-        begin(open);
-        REFUSES(MADE("\x19\x01\x02\x00\x09\x05\x42\x00\x07", 40), 6, open, closes);
-        begin(open);
-        REFUSES(MADE("\x19\x01\x02\x00\x09\x05\x02", 34), 7, open, closes);
-        begin(open);
-        REFUSES(MADE("\x19\x01\x02\x00\x09\x05\xc0\x00\x07", MOST - 9 - 3), 7, open, closes);
-    }
+    REFUSES(0, 1, 0, 0);
+    REFUSES(MADE("\x0f\x00\x00\x00", 0), 1, 0, 0);
+    /* 1, under 7 bytes, comes later */
+    REFUSES(MADE("\x0f\x00\x00\x00\x09", 0), 2, 0, 0);
+    REFUSES(MADE("\x2b\x00\x00\x00\x09", 0), 2, 0, 0);
+    REFUSES(MADE("\x1f\x01\x03\x00\x09", 0), 3, 0, 0);
+    REFUSES(MADE("\x15\x01\x02\x00\x09", 0), 4, 0, 0);
+    REFUSES(MADE("\x19\x01\x02\x00\x09\x05", 0), 1, 0, 0);
+    REFUSES(MADE("\x1b\x01\x02\x00\x09\x00", 0), 1, 0, 0);
+    /* 1, under 9 bytes, comes later */
+    REFUSES(MADE("\x19\x01\x02\x00\x09\x05\xc4", 1), 5, 0, 0);
+    REFUSES(MADE("\x19\x01\x02\x00\x09\x05\xc0", 1), 1, 0, 0);
+    REFUSES(MADE("\x19\x01\x02\x00\x09\x05\x40", 1), 1, 0, 0);
+}
+
+/* Rows 1 to 7: with no context of the flow open, or with one. 6 and 7 close it. */
+static void rows_1_to_7(unsigned open)
+{
+    int closes = open ? STATE : 0;
+    begin(open);
+    heads();
+    REFUSES(MADE("\x19\x01\x02\x00\x09\x05\x00", 0), 6, open, closes);
+    begin(open);
+    REFUSES(MADE("\x19\x01\x02\x00\x09\x05\x80\x00\x07", 33), 6, open, closes);
+    begin(open);
+    REFUSES(MADE("\x19\x01\x02\x00\x09\x05\x42\x00\x07", 40), 6, open, closes);
+    begin(open);
+    REFUSES(MADE("\x19\x01\x02\x00\x09\x05\x02", 34), 7, open, closes);
+    begin(open);
+    REFUSES(MADE("\x19\x01\x02\x00\x09\x05\xc0\x00\x07", MOST - 9 - 3), 7, open, closes);
+}
+
+/* 8; and 9 before 11: rooms of 100 take three segments of 32, not a fourth. */
+static void rows_8_9_and_11(void)
+{
     fresh();
     REFUSES(MADE("\x19\x01\x02\x00\x09\x05\x00", MTU), 8, 0, 0);
     REFUSES(MADE("\x19\x01\x02\x00\x09\x05\x40\x00\x07", MTU), 8, 0, 0);
-    /* 9 before 11: rooms of 100 take three segments of 32, not a fourth. */
     read_it(START("\x09"));
     for (int i = 0; i < 2; i++)
         WANT(read_it(MADE("\x19\x01\x02\x00\x09\x05\x00", MTU)).kind == KAIVEROHM_HELD);
@@ -360,7 +425,12 @@ static void rows(void)
     WANT(zeros(state(WORDS) + 3, 8 * (WORDS - 3)));
     read_it(START("\x09"));
     REFUSES(MADE("\x19\x01\x02\x00\x09\x05\x42\x00\x07", 6), 11, 1, STATE);
-    /* 10, while 16 others are open; a start on an open flow is held, and says dropped. */
+}
+
+/* Goes on where no context is open. 10, while 16 others are open; a start on an
+   open flow is held, and says dropped. */
+static void row_10(void)
+{
     for (unsigned i = 0; i < KAIVEROHM_STREAM_CONTEXTS; i++) {
         size_t length = START("\x00");
         packet[4] = (uint8_t)(0x10 + i);
@@ -369,9 +439,14 @@ static void rows(void)
     REFUSES(START("\x09"), 10, 0, 0);
     struct kaiverohm_report r = read_it(START("\x1f"));
     WANT(r.kind == KAIVEROHM_HELD && r.dropped == 1);
-    /* A whole PDU: the pad byte stays out of the room. */
-    r = read_it(MADE("\x19\x01\x02\x00\x1f\x05\x43\x00\x21", 2));
-    WANT(r.kind == KAIVEROHM_DELIVERED && r.context == 15 && r.source == 0x1f && r.cos_or_letter == 5);
+}
+
+/* The last of the 16 gets its end. The pad byte stays out of the room. */
+static void whole_pdu(void)
+{
+    struct kaiverohm_report r = read_it(MADE("\x19\x01\x02\x00\x1f\x05\x43\x00\x21", 2));
+    WANT(r.kind == KAIVEROHM_DELIVERED && r.context == 15 && r.source == 0x1f
+         && r.cos_or_letter == 5);
     WANT(r.stream_or_mailbox == 7 && r.length == 33 && r.response == 0 && r.dropped == 0);
     WANT(changed() == (STATE | STREAMS));
     WANT(streams_end[-ROOM + 32] == 1 && streams_end[-ROOM + 33] == 0xe1);
@@ -409,8 +484,8 @@ static void messages(void)
 
 /* ---- bursts */
 
-static struct kaiverohm_burst burst(size_t responses, size_t words, const char *records, size_t length,
-                                    uint64_t pause)
+static struct kaiverohm_burst burst(size_t responses, size_t words, const char *records,
+                                    size_t length, uint64_t pause)
 {
     memset(response_end - 64, 0xe3, 64);
     memset(reports_end - 8 * 32, 0xe4, 8 * 32);
@@ -423,19 +498,25 @@ static struct kaiverohm_burst burst(size_t responses, size_t words, const char *
                                 packet_end - length, length, pause);
 }
 
-static void says(struct kaiverohm_burst b, unsigned stop, unsigned number, uint64_t count, uint64_t next,
-                 int line)
+static void says(struct kaiverohm_burst b, unsigned stop, unsigned number, uint64_t count,
+                 uint64_t next, int line)
 {
     want(b.stop == stop && b.number == number && b.count == count && b.next == next, "burst", line);
 }
 
 #define BURST(responses, words, records, pause, stop, number, count, next) \
-    says(burst(responses, words, records, sizeof records - 1, pause), stop, number, count, next, __LINE__)
+    says(burst(responses, words, records, sizeof records - 1, pause), stop, number, count, next, \
+         __LINE__)
 
 #define EMPTY "\x00"
-#define MESSAGE "\x0f\x1b\x01\x02\x00\x09\x09\x60""abcdefgh"
+#define MESSAGE "\x0f\x1b\x01\x02\x00\x09\x09\x60\x61\x62\x63\x64\x65\x66\x67\x68"
 
-static void bursts(void)
+static const uint64_t *reports(void)
+{
+    return (const uint64_t *)(const void *)(reports_end - 8 * 27);
+}
+
+static void rooms_for_packets(void)
 {
     fresh();
     BURST(64, 27, "", 0, KAIVEROHM_BURST_END, 0, 0, 0);
@@ -452,9 +533,12 @@ static void bursts(void)
     BURST(2 * SLOT - 1, 27, EMPTY EMPTY, 0, KAIVEROHM_BURST_FULL, 0, 1, 1);
     BURST(SLOT, REPORT, EMPTY, 0, KAIVEROHM_BURST_END, 0, 1, 1);
     WANT(changed() == 0);
-    /* lengths */
+}
+
+static void lengths_of_records(void)
+{
     BURST(64, 27, EMPTY "\x80", 0, KAIVEROHM_BURST_BAD, 0, 1, 1);
-    BURST(64, 27, EMPTY "\x81\x00""abc", 0, KAIVEROHM_BURST_BAD, 0, 1, 1);
+    BURST(64, 27, EMPTY "\x81\x00\x61\x62\x63", 0, KAIVEROHM_BURST_BAD, 0, 1, 1);
     BURST(64, 27, EMPTY "\x81\x81\x01", 0, KAIVEROHM_BURST_BAD, 0, 1, 1);
     BURST(64, 27, EMPTY "\x02x", 0, KAIVEROHM_BURST_BAD, 0, 1, 1);
     static char longest[2 + 16383 + 1];
@@ -463,27 +547,44 @@ static void bursts(void)
     says(burst(64, 27, longest, 2 + 16382, 0), KAIVEROHM_BURST_BAD, 0, 0, 0, __LINE__);
     memcpy(longest, "\x80\x01", 2);
     says(burst(64, 27, longest, 2 + 128, 0), KAIVEROHM_BURST_END, 0, 1, 2 + 128, __LINE__);
-    /* pause is any number but 0; a delivery at the end is a delivery */
+}
+
+/* pause is any number but 0; a delivery at the end is a delivery */
+static void pauses(void)
+{
     BURST(64, 27, MESSAGE MESSAGE EMPTY, 0, KAIVEROHM_BURST_END, 0, 3, 33);
     BURST(64, 27, MESSAGE MESSAGE, 1, KAIVEROHM_BURST_DELIVERY, 0, 1, 16);
     BURST(64, 27, MESSAGE MESSAGE, UINT64_C(1) << 63, KAIVEROHM_BURST_DELIVERY, 0, 1, 16);
     BURST(64, 27, EMPTY MESSAGE, 256, KAIVEROHM_BURST_DELIVERY, 0, 2, 17);
-    /* what stays: all behind the last report and its response, the eighth byte, a slot without a response */
+}
+
+/* What stays: all behind the last report and its response, the eighth byte, a
+   slot without a response. */
+static void what_a_burst_leaves(void)
+{
     BURST(24, 27, EMPTY MESSAGE, 0, KAIVEROHM_BURST_END, 0, 2, 17);
-    const uint64_t *reports = (const uint64_t *)(const void *)(reports_end - 8 * 27);
-    WANT(reports[0] == KAIVEROHM_REFUSED && reports[1] == 1 && zeros(reports + 2, 56));
-    WANT(reports[9] == KAIVEROHM_MESSAGE && reports[12] == 7 && reports[14] == 9 && reports[17] == 8);
-    WANT(all(reports + 18, 72, 0xe4) && all(reports - 1, 8, 0xe4));
+    const uint64_t *r = reports();
+    WANT(r[0] == KAIVEROHM_REFUSED && r[1] == 1 && zeros(r + 2, 56));
+    WANT(r[9] == KAIVEROHM_MESSAGE && r[12] == 7 && r[14] == 9 && r[17] == 8);
+    WANT(all(r + 18, 72, 0xe4) && all(r - 1, 8, 0xe4));
     WANT(memcmp(response_end - 16, "\x5d\x00\x09\x01\x02\x10\x60", 7) == 0);
     WANT(all(response_end - 25, 9, 0xe3) && all(response_end - 9, 9, 0xe3));
-    /* refused: 12 for the responses, 19 before it */
+}
+
+/* 12 for the responses, 19 before it */
+static void refused_bursts(void)
+{
     BURST(REPLY - 1, 27, MESSAGE, 0, KAIVEROHM_BURST_REFUSED, 12, 0, 0);
-    WANT(changed() == 0 && all(reports, 8 * 27, 0xe4));
+    WANT(changed() == 0 && all(reports(), 8 * 27, 0xe4));
     state(WORDS)[2] = 0;
     BURST(REPLY - 1, 27, MESSAGE, 0, KAIVEROHM_BURST_REFUSED, 19, 0, 0);
     WANT(changed() == 0);
     BURST(64, 27, "\x05", 0, KAIVEROHM_BURST_REFUSED, 19, 0, 0);
-    /* the other lengths, each one off */
+}
+
+/* The other lengths, each one off. */
+static void lengths_of_bursts(void)
+{
     for (int i = 0; i < 6; i++) {
         int more = i % 2 ? 1 : -1;
         size_t words = WORDS + (i / 2 == 0 ? (size_t)more : 0);
@@ -500,49 +601,84 @@ static void bursts(void)
     }
 }
 
+static void bursts(void)
+{
+    rooms_for_packets();
+    lengths_of_records();
+    pauses();
+    what_a_burst_leaves();
+    refused_bursts();
+    lengths_of_bursts();
+}
+
 /* ---- abandoning, rooms */
+
+struct contexts {
+    struct kaiverohm_answer (*abandon)(uint64_t *, size_t, uint64_t);
+    uint64_t *(*at)(size_t n);
+    uint64_t count;
+    size_t width;
+    int messages;
+};
+
+/* Abandons n, and wants that answer; nothing changes. */
+static void leaves_all(const struct contexts *of, size_t words, uint64_t n, unsigned kind,
+                       unsigned number, int line)
+{
+    struct kaiverohm_answer a = of->abandon(state(words), words, n);
+    want(a.kind == kind && a.number == number && changed() == 0, "abandon", line);
+}
+
+/* A free context with a number in it; then an open one, which is closed. */
+static void abandons_one(const struct contexts *of, uint64_t n)
+{
+    fresh();
+    uint64_t *c = of->at(n);
+    c[1] = 77;
+    keep();
+    leaves_all(of, WORDS, n, KAIVEROHM_WAS_FREE, 0, __LINE__);
+    read_it(of->messages ? MADE("\x1b\x01\x02\x00\x09\x19\x00", 8) : START("\x09"));
+    if (n > 0) {
+        memcpy(c, of->at(0), 8 * of->width);
+        c[0] = 7;
+    }
+    keep();
+    struct kaiverohm_answer a = of->abandon(state(WORDS), WORDS, n);
+    WANT(a.kind == KAIVEROHM_CLOSED && a.number == 0 && zeros(c, 8 * of->width));
+    memcpy(c, kept.state + 8 + 8 * (size_t)(c - state(WORDS)), 8 * of->width);
+    WANT(changed() == 0);
+}
+
+static void abandons_past_the_last(const struct contexts *of)
+{
+    static const uint64_t past[] = { 0, UINT64_C(1) << 32, UINT64_C(1) << 63, UINT64_MAX };
+    fresh();
+    for (size_t i = 0; i < 4; i++) {
+        keep();
+        leaves_all(of, WORDS, past[i] | of->count, KAIVEROHM_REFUSED, 13, __LINE__);
+    }
+}
+
+static void abandons_in_no_state(const struct contexts *of)
+{
+    state(WORDS)[1] = 33;
+    keep();
+    leaves_all(of, WORDS, 99, KAIVEROHM_REFUSED, 19, __LINE__);
+    for (size_t words = 0; words <= WORDS + 1; words += words ? 2 : WORDS - 1)
+        leaves_all(of, words, 99, KAIVEROHM_REFUSED, 12, __LINE__);
+}
 
 static void abandons(void)
 {
-    static const uint64_t past[] = {0, UINT64_C(1) << 32, UINT64_C(1) << 63, UINT64_MAX};
-    for (int messages = 0; messages < 2; messages++) {
-        struct kaiverohm_answer (*abandon)(uint64_t *, size_t, uint64_t) =
-            messages ? kaiverohm_abandon_message : kaiverohm_abandon_stream;
-        uint64_t contexts = messages ? KAIVEROHM_MESSAGE_CONTEXTS : KAIVEROHM_STREAM_CONTEXTS;
-        size_t first = messages ? 83 : 3, width = messages ? 8 : 5;
-        for (uint64_t n = 0; n < contexts; n++) {
-            fresh();
-            uint64_t *c = state(WORDS) + first + width * n;
-            c[1] = 77; /* a free context, with a number in it */
-            keep();
-            struct kaiverohm_answer a = abandon(state(WORDS), WORDS, n);
-            WANT(a.kind == KAIVEROHM_WAS_FREE && a.number == 0 && changed() == 0);
-            read_it(messages ? MADE("\x1b\x01\x02\x00\x09\x19\x00", 8) : START("\x09"));
-            if (n > 0) {
-                memcpy(c, state(WORDS) + first, 8 * width);
-                c[0] = 7;
-            }
-            keep();
-            a = abandon(state(WORDS), WORDS, n);
-            WANT(a.kind == KAIVEROHM_CLOSED && a.number == 0 && zeros(c, 8 * width));
-            memcpy(c, kept.state + 8 + 8 * (size_t)(c - state(WORDS)), 8 * width);
-            WANT(changed() == 0);
-        }
-        fresh();
-        for (size_t i = 0; i < 4; i++) {
-            uint64_t n = past[i] | contexts;
-            keep();
-            struct kaiverohm_answer a = abandon(state(WORDS), WORDS, n);
-            WANT(a.kind == KAIVEROHM_REFUSED && a.number == 13 && changed() == 0);
-        }
-        state(WORDS)[1] = 33;
-        keep();
-        struct kaiverohm_answer a = abandon(state(WORDS), WORDS, 99);
-        WANT(a.kind == KAIVEROHM_REFUSED && a.number == 19 && changed() == 0);
-        for (size_t words = 0; words <= WORDS + 1; words += words ? 2 : WORDS - 1) {
-            a = abandon(state(words), words, 99);
-            WANT(a.kind == KAIVEROHM_REFUSED && a.number == 12 && changed() == 0);
-        }
+    static const struct contexts both[] = {
+        { kaiverohm_abandon_stream, stream_context, KAIVEROHM_STREAM_CONTEXTS, 5, 0 },
+        { kaiverohm_abandon_message, message_context, KAIVEROHM_MESSAGE_CONTEXTS, 8, 1 },
+    };
+    for (size_t i = 0; i < 2; i++) {
+        for (uint64_t n = 0; n < both[i].count; n++)
+            abandons_one(&both[i], n);
+        abandons_past_the_last(&both[i]);
+        abandons_in_no_state(&both[i]);
     }
 }
 
@@ -655,11 +791,14 @@ static ucontext_t outside, inside;
 static void calls(void)
 {
     lent(WORDS, STREAM_MEMORY, KAIVEROHM_MESSAGE_MEMORY, REPLY, START("\x09"));
-    lent(WORDS, STREAM_MEMORY, KAIVEROHM_MESSAGE_MEMORY, REPLY, MADE("\x1b\x01\x02\x00\x09\x1a\x01", 16));
+    lent(WORDS, STREAM_MEMORY, KAIVEROHM_MESSAGE_MEMORY, REPLY,
+         MADE("\x1b\x01\x02\x00\x09\x1a\x01", 16));
     burst(64, 27, MESSAGE MESSAGE, sizeof MESSAGE MESSAGE - 1, 0);
     kaiverohm_abandon_stream(state(WORDS), WORDS, 0);
     kaiverohm_abandon_message(state(WORDS), WORDS, 0);
-    struct kaiverohm_heading h = {.destination = 1, .source = 2, .stream = 3, .cos = 4, .priority = 0};
+    struct kaiverohm_heading h = {
+        .destination = 1, .source = 2, .stream = 3, .cos = 4, .priority = 0
+    };
     kaiverohm_write_segment(reports_end - 64, 64, h, MTU, packet_end - 100, 100, 3);
 }
 
@@ -691,8 +830,16 @@ int main(void)
     setups();
     lengths();
     states();
-    row_19();
-    rows();
+    row_19_streams();
+    row_19_messages();
+    wide_stream_numbers();
+    wide_message_numbers();
+    /* Twice: with no context of the flow open, and with one. */
+    rows_1_to_7(0);
+    rows_1_to_7(1);
+    rows_8_9_and_11();
+    row_10();
+    whole_pdu();
     messages();
     bursts();
     abandons();

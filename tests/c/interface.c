@@ -48,62 +48,75 @@ uint64_t kaiverohm_state_length(void);
 struct kaiverohm_answer kaiverohm_setup(uint64_t *, size_t, uint16_t, uint64_t, uint64_t);
 struct kaiverohm_report kaiverohm_read(uint64_t *, size_t, uint8_t *, size_t, uint8_t *, size_t,
                                        uint8_t *, size_t, const uint8_t *, size_t);
-struct kaiverohm_burst kaiverohm_read_burst(uint64_t *, size_t, uint8_t *, size_t, uint8_t *, size_t,
-                                            uint8_t *, size_t, uint64_t *, size_t, const uint8_t *,
-                                            size_t, uint64_t);
+struct kaiverohm_burst kaiverohm_read_burst(uint64_t *, size_t, uint8_t *, size_t, uint8_t *,
+                                            size_t, uint8_t *, size_t, uint64_t *, size_t,
+                                            const uint8_t *, size_t, uint64_t);
 struct kaiverohm_answer kaiverohm_abandon_stream(uint64_t *, size_t, uint64_t);
 struct kaiverohm_answer kaiverohm_abandon_message(uint64_t *, size_t, uint64_t);
-struct kaiverohm_place kaiverohm_stream_room(const uint64_t *, size_t, uint64_t, uint64_t, uint64_t);
-struct kaiverohm_place kaiverohm_message_room(const uint64_t *, size_t, uint64_t, uint64_t, uint64_t);
+struct kaiverohm_place kaiverohm_stream_room(const uint64_t *, size_t, uint64_t, uint64_t,
+                                             uint64_t);
+struct kaiverohm_place kaiverohm_message_room(const uint64_t *, size_t, uint64_t, uint64_t,
+                                              uint64_t);
 uint64_t kaiverohm_segment_count(uint64_t, uint64_t);
-struct kaiverohm_answer kaiverohm_write_segment(uint8_t *, size_t, struct kaiverohm_heading, uint64_t,
-                                                const uint8_t *, size_t, uint64_t);
+struct kaiverohm_answer kaiverohm_write_segment(uint8_t *, size_t, struct kaiverohm_heading,
+                                                uint64_t, const uint8_t *, size_t, uint64_t);
 
-enum { MTU = 32, ROOM = 2048 };
+enum { MTU = 32, ROOM = 2048, WORDS = KAIVEROHM_STATE_WORDS };
 
-static uint64_t state[KAIVEROHM_STATE_WORDS];
+static uint64_t state[WORDS];
 static uint8_t streams[KAIVEROHM_STREAM_CONTEXTS * ROOM];
 static uint8_t messages[KAIVEROHM_MESSAGE_MEMORY];
 static uint8_t response[KAIVEROHM_RESPONSE_BYTES];
 
-static struct kaiverohm_report read_one(const uint8_t *packet, size_t length)
+/* A PDU, its two packets of 41 and 17 bytes, and a message of one segment: 15 bytes. */
+static uint8_t pdu[40], start[64], end[64];
+static const uint8_t message[] = "\x1b\xff\xfe\x12\x34\x09\x6f\x11\x12\x13\x14\x15\x16\x17\x18";
+
+static int is(struct kaiverohm_answer a, uint64_t kind, uint64_t number)
 {
-    return kaiverohm_read(state, KAIVEROHM_STATE_WORDS, streams, sizeof streams, messages,
-                          sizeof messages, response, sizeof response, packet, length);
+    return a.kind == kind && a.number == number;
 }
 
-int main(void)
+static void setups(void)
 {
-    WANT(kaiverohm_state_length() == KAIVEROHM_STATE_WORDS);
-
-    struct kaiverohm_answer a = kaiverohm_setup(state, 146, 1, MTU, ROOM);
-    WANT(a.kind == KAIVEROHM_REFUSED && a.number == 12);
-    a = kaiverohm_setup(state, KAIVEROHM_STATE_WORDS, 1, 33, ROOM);
-    WANT(a.kind == KAIVEROHM_REFUSED && a.number == 18);
-    a = kaiverohm_setup(state, KAIVEROHM_STATE_WORDS, 1, MTU, 31);
-    WANT(a.kind == KAIVEROHM_REFUSED && a.number == 19);
-    a = kaiverohm_setup(state, KAIVEROHM_STATE_WORDS, 0xfffe, MTU, ROOM);
-    WANT(a.kind == KAIVEROHM_READY && a.number == 0);
+    WANT(kaiverohm_state_length() == WORDS);
+    WANT(is(kaiverohm_setup(state, 146, 1, MTU, ROOM), KAIVEROHM_REFUSED, 12));
+    WANT(is(kaiverohm_setup(state, WORDS, 1, 33, ROOM), KAIVEROHM_REFUSED, 18));
+    WANT(is(kaiverohm_setup(state, WORDS, 1, MTU, 31), KAIVEROHM_REFUSED, 19));
+    WANT(is(kaiverohm_setup(state, WORDS, 0xfffe, MTU, ROOM), KAIVEROHM_READY, 0));
     WANT(state[0] == 0xfffe && state[1] == MTU && state[2] == ROOM && state[3] == 0);
+}
 
-    /* The heading arrives field by field. */
-    uint8_t pdu[40], start[64], end[64];
-    for (size_t i = 0; i < sizeof pdu; i++)
-        pdu[i] = (uint8_t)(i + 1);
-    struct kaiverohm_heading heading = {
+static struct kaiverohm_answer write_it(uint8_t *out, size_t length, uint64_t number)
+{
+    static const struct kaiverohm_heading heading = {
         .destination = 0xfffe, .source = 0x1234, .stream = 0xabcd, .cos = 0x5a, .priority = 2
     };
+    return kaiverohm_write_segment(out, length, heading, MTU, pdu, sizeof pdu, number);
+}
+
+/* The heading arrives field by field. */
+static void writer(void)
+{
+    for (size_t i = 0; i < sizeof pdu; i++)
+        pdu[i] = (uint8_t)(i + 1);
     WANT(kaiverohm_segment_count(MTU, sizeof pdu) == 2);
     WANT(kaiverohm_segment_count(MTU, 0) == 0);
-    a = kaiverohm_write_segment(start, sizeof start, heading, MTU, pdu, sizeof pdu, 0);
-    WANT(a.kind == KAIVEROHM_WRITTEN && a.number == 41);
+    WANT(is(write_it(start, sizeof start, 0), KAIVEROHM_WRITTEN, 41));
     WANT(memcmp(start, "\x99\xff\xfe\x12\x34\x5a\x80\xab\xcd\x01", 10) == 0);
-    a = kaiverohm_write_segment(end, 17, heading, MTU, pdu, sizeof pdu, 1);
-    WANT(a.kind == KAIVEROHM_WRITTEN && a.number == 17);
-    a = kaiverohm_write_segment(end, 16, heading, MTU, pdu, sizeof pdu, 1);
-    WANT(a.kind == KAIVEROHM_REFUSED && a.number == 16);
+    WANT(is(write_it(end, 17, 1), KAIVEROHM_WRITTEN, 17));
+    WANT(is(write_it(end, 16, 1), KAIVEROHM_REFUSED, 16));
+}
 
-    /* A report with its fields: two starts, so one PDU is dropped; then the end. */
+static struct kaiverohm_report read_one(const uint8_t *packet, size_t length)
+{
+    return kaiverohm_read(state, WORDS, streams, sizeof streams, messages, sizeof messages,
+                          response, sizeof response, packet, length);
+}
+
+/* A report with its fields: two starts, so one PDU is dropped; then the end. */
+static void delivery(void)
+{
     struct kaiverohm_report r = read_one(start, 41);
     WANT(r.kind == KAIVEROHM_HELD && r.number == 0 && r.dropped == 0 && r.response == 0);
     r = read_one(start, 41);
@@ -112,20 +125,25 @@ int main(void)
     WANT(r.kind == KAIVEROHM_DELIVERED && r.number == 0 && r.dropped == 0 && r.response == 0);
     WANT(r.context == 0 && r.source == 0x1234 && r.cos_or_letter == 0x5a);
     WANT(r.stream_or_mailbox == 0xabcd && r.length == sizeof pdu);
-
     struct kaiverohm_place p =
-        kaiverohm_stream_room(state, KAIVEROHM_STATE_WORDS, sizeof streams, 3, 77);
-    WANT(p.offset == 3 * ROOM && p.length == 77);
-    p = kaiverohm_stream_room(state, KAIVEROHM_STATE_WORDS, sizeof streams, r.context, r.length);
+        kaiverohm_stream_room(state, WORDS, sizeof streams, r.context, r.length);
     WANT(p.length == sizeof pdu && memcmp(streams + p.offset, pdu, sizeof pdu) == 0);
-    p = kaiverohm_stream_room(state, KAIVEROHM_STATE_WORDS, sizeof streams, 16, 1);
-    WANT(p.offset == 0 && p.length == 0);
-    p = kaiverohm_message_room(state, KAIVEROHM_STATE_WORDS, sizeof messages, 7, 4096);
-    WANT(p.offset == 7 * KAIVEROHM_MESSAGE_ROOM && p.length == 4096);
+}
 
-    /* A message of one segment, its response, and a refusal. */
-    const uint8_t message[] = "\x1b\xff\xfe\x12\x34\x09\x6f\x11\x12\x13\x14\x15\x16\x17\x18";
-    r = read_one(message, 15);
+static void rooms(void)
+{
+    struct kaiverohm_place p = kaiverohm_stream_room(state, WORDS, sizeof streams, 3, 77);
+    WANT(p.offset == 3 * ROOM && p.length == 77);
+    p = kaiverohm_stream_room(state, WORDS, sizeof streams, 16, 1);
+    WANT(p.offset == 0 && p.length == 0);
+    p = kaiverohm_message_room(state, WORDS, sizeof messages, 7, 4096);
+    WANT(p.offset == 7 * KAIVEROHM_MESSAGE_ROOM && p.length == 4096);
+}
+
+/* A message of one segment, its response, and a refusal. */
+static void message_of_one(void)
+{
+    struct kaiverohm_report r = read_one(message, 15);
     WANT(r.kind == KAIVEROHM_MESSAGE && r.response == 7 && r.context == 0 && r.source == 0x1234);
     WANT(r.cos_or_letter == 1 && r.stream_or_mailbox == 62 && r.length == 8);
     WANT(memcmp(response, "\x5d\x12\x34\xff\xfe\x10\x6f", 7) == 0);
@@ -133,46 +151,66 @@ int main(void)
     WANT(r.kind == KAIVEROHM_REFUSED && r.number == 21 && r.response == 7);
     r = read_one(message, 4);
     WANT(r.kind == KAIVEROHM_REFUSED && r.number == 1 && r.response == 0);
+}
 
-    a = kaiverohm_abandon_stream(state, KAIVEROHM_STATE_WORDS, 15);
-    WANT(a.kind == KAIVEROHM_WAS_FREE && a.number == 0);
-    a = kaiverohm_abandon_message(state, KAIVEROHM_STATE_WORDS, 8);
-    WANT(a.kind == KAIVEROHM_REFUSED && a.number == 13);
+static void abandons(void)
+{
+    WANT(is(kaiverohm_abandon_stream(state, WORDS, 15), KAIVEROHM_WAS_FREE, 0));
+    WANT(is(kaiverohm_abandon_message(state, WORDS, 8), KAIVEROHM_REFUSED, 13));
     read_one(start, 41);
-    a = kaiverohm_abandon_stream(state, KAIVEROHM_STATE_WORDS, 0);
-    WANT(a.kind == KAIVEROHM_CLOSED && a.number == 0);
+    WANT(is(kaiverohm_abandon_stream(state, WORDS, 0), KAIVEROHM_CLOSED, 0));
+}
 
-    /* A burst: reports are structs, responses stand beside them. */
-    uint8_t burst[256];
-    size_t at = 0;
-    burst[at++] = 41;
-    memcpy(burst + at, start, 41);
-    at += 41;
-    burst[at++] = 15;
-    memcpy(burst + at, message, 15);
-    at += 15;
-    burst[at++] = 17;
-    memcpy(burst + at, end, 17);
-    at += 17;
-    struct kaiverohm_report reports[3];
-    uint8_t responses[3 * KAIVEROHM_SLOT_BYTES] = {0};
-    struct kaiverohm_burst b = kaiverohm_read_burst(
-        state, KAIVEROHM_STATE_WORDS, streams, sizeof streams, messages, sizeof messages,
-        responses, sizeof responses, (uint64_t *)reports, 3 * KAIVEROHM_REPORT_WORDS, burst, at, 0);
-    WANT(b.stop == KAIVEROHM_BURST_END && b.number == 0 && b.count == 3 && b.next == at);
+/* ---- a burst: reports are structs, responses stand beside them */
+
+static uint8_t records[256];
+static size_t records_length;
+static struct kaiverohm_report reports[3];
+static uint8_t responses[3 * KAIVEROHM_SLOT_BYTES];
+
+static void record(const uint8_t *packet, size_t length)
+{
+    records[records_length++] = (uint8_t)length;
+    memcpy(records + records_length, packet, length);
+    records_length += length;
+}
+
+static struct kaiverohm_burst read_records(size_t words, uint64_t pause)
+{
+    return kaiverohm_read_burst(state, words, streams, sizeof streams, messages, sizeof messages,
+                                responses, sizeof responses, (uint64_t *)reports,
+                                3 * KAIVEROHM_REPORT_WORDS, records, records_length, pause);
+}
+
+static void burst(void)
+{
+    record(start, 41);
+    record(message, 15);
+    record(end, 17);
+    struct kaiverohm_burst b = read_records(WORDS, 0);
+    WANT(b.stop == KAIVEROHM_BURST_END && b.number == 0 && b.count == 3
+         && b.next == records_length);
     WANT(reports[0].kind == KAIVEROHM_HELD && reports[0].response == 0);
     WANT(reports[1].kind == KAIVEROHM_MESSAGE && reports[1].stream_or_mailbox == 62);
-    WANT(reports[1].response == 7 && memcmp(responses + 8, "\x5d\x12\x34\xff\xfe\x10\x6f\0", 8) == 0);
+    WANT(reports[1].response == 7
+         && memcmp(responses + 8, "\x5d\x12\x34\xff\xfe\x10\x6f\0", 8) == 0);
     WANT(responses[0] == 0 && responses[16] == 0);
     WANT(reports[2].kind == KAIVEROHM_DELIVERED && reports[2].length == sizeof pdu);
-    b = kaiverohm_read_burst(state, KAIVEROHM_STATE_WORDS, streams, sizeof streams, messages,
-                             sizeof messages, responses, sizeof responses, (uint64_t *)reports,
-                             3 * KAIVEROHM_REPORT_WORDS, burst, at, 1);
+    b = read_records(WORDS, 1);
     WANT(b.stop == KAIVEROHM_BURST_DELIVERY && b.count == 2 && b.next == 42 + 16);
-    b = kaiverohm_read_burst(state, 0, streams, sizeof streams, messages, sizeof messages,
-                             responses, sizeof responses, (uint64_t *)reports, 27, burst, at, 0);
+    b = read_records(0, 0);
     WANT(b.stop == KAIVEROHM_BURST_REFUSED && b.number == 12 && b.count == 0 && b.next == 0);
+}
 
+int main(void)
+{
+    setups();
+    writer();
+    delivery();
+    rooms();
+    message_of_one();
+    abandons();
+    burst();
     printf("interface: %u checks\n", checks);
     return 0;
 }
