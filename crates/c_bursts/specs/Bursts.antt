@@ -6,7 +6,7 @@ use mathlib.Core.Bool.{cond}
 use lib.ListN.{length, take, drop}
 use lib.Dec.{eqb}
 use Rattle.lists.specs.Bytes.{written}
-use Rattle.answers.specs.Refusals.{Row, Verdict, refuse, accept, verdict}
+use Rattle.tables.specs.Refusals.{Row, Verdict, refuse, accept, verdict}
 use Rattle.reading.specs.Table.{Lent, table}
 use Rattle.reading.specs.Read.{Left, lent, reading}
 use Rattle.log_records.specs.declared.Next.{Next}

@@ -10,8 +10,8 @@ use lib.Seq.{take-add, take-take, drop-at, drop-drop, length-take-le}
 use Rattle.lists.specs.Rows.{rows}
 use Rattle.lists.proofs.Written.{length-written, take-before, part-written}
 use Rattle.answers.specs.Answers.{Said, held, delivered, message, refused, ready, closed, free, wrote}
-use Rattle.answers.specs.Refusals.{none}
-use Rattle.answers.proofs.Exactly.{none-held}
+use Rattle.tables.specs.Refusals.{none}
+use Rattle.tables.proofs.Exactly.{none-held}
 use Rattle.contexts.specs.State.{State, fresh, fixed}
 use Rattle.contexts.specs.Words.{stateOf}
 use Rattle.contexts.proofs.Words.{state-of}

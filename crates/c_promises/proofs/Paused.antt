@@ -11,7 +11,7 @@ use lib.ListN.{length, take, drop, length-append}
 use lib.Seq.{drop-at}
 use borrow.Author.Tests.{ne-eqb}
 use Rattle.answers.specs.Answers.{Said, held, delivered, message, refused, ready, closed, free, wrote}
-use Rattle.answers.specs.Refusals.{Verdict, refuse, accept, verdict}
+use Rattle.tables.specs.Refusals.{Verdict, refuse, accept, verdict}
 use Rattle.contexts.specs.Words.{stateOf}
 use Rattle.reading.specs.Table.{Lent}
 use Rattle.reading.specs.Read.{lent, reading}

@@ -7,8 +7,8 @@ use native.Mathlib.Omega.{arith}
 use lib.Dec.{eqb, ltb}
 use borrow.Author.Tests.{eqb-true, not-false}
 use Rattle.lists.specs.Each.{Each}
-use Rattle.answers.specs.Refusals.{Row, Leaves, all, flowClosed, allERROR, allRETRY, Verdict, refuse, accept, verdict, none}
-use Rattle.answers.proofs.Exactly.{none-held}
+use Rattle.tables.specs.Refusals.{Row, Leaves, all, flowClosed, allERROR, allRETRY, Verdict, refuse, accept, verdict, none}
+use Rattle.tables.proofs.Exactly.{none-held}
 use Rattle.wire.specs.Packet.{packetType}
 use Rattle.wire.specs.Type11.{isSingle}
 use Rattle.responses.specs.Type13.{DONE, ERROR, RETRY, answered}

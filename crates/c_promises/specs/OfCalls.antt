@@ -8,7 +8,7 @@ use lib.Dec.{eqb}
 use Rattle.lists.specs.Bytes.{byte}
 use Rattle.lists.specs.Rows.{rows}
 use Rattle.answers.specs.declared.Begun.the-variants.{Ready}
-use Rattle.answers.specs.Refusals.{accept, verdict}
+use Rattle.tables.specs.Refusals.{accept, verdict}
 use Rattle.wire.specs.declared.Flow.{Flow}
 use Rattle.responses.specs.Type13.{answered}
 use Rattle.contexts.specs.State.{fresh, fixed}

@@ -11,7 +11,7 @@ use borrow.Author.Tests.{eq-eqb, ne-eqb, lt-ltb, le-ltb, eqb-true, not-false}
 use denote.Ref.{RefT, now}
 use Rattle.lists.specs.Rows.{joined}
 use Rattle.answers.specs.Answers.{ready, free, closed, refused}
-use Rattle.answers.specs.Refusals.{verdict}
+use Rattle.tables.specs.Refusals.{verdict}
 use Rattle.sizes.specs.Sizes.{badMTU}
 use Rattle.contexts.specs.State.{State}
 use Rattle.contexts.specs.Words.{stateOf, wordsOf, stateWords}

@@ -9,7 +9,7 @@ use denote.Ref.{RefT, now}
 use Rattle.answers.specs.Answers.{Said, ready, closed, free, refused, saidOfSetup, saidOfAbandon}
 use Rattle.answers.specs.declared.Begun.{Begun}
 use Rattle.answers.specs.declared.Abandoned.{Abandoned}
-use Rattle.answers.specs.Refusals.{RowOf, Row, row, all, VerdictOf, Verdict, refuse, accept, verdict}
+use Rattle.tables.specs.Refusals.{RowOf, Row, row, all, VerdictOf, Verdict, refuse, accept, verdict}
 use Rattle.sizes.specs.Sizes.{badMTU}
 use Rattle.contexts.specs.State.{State, fresh, fixed, streamIn, messageIn, withStream, withMessage, closedStream, closedMessage, isFreeStream, isFreeMessage}
 use Rattle.contexts.specs.Words.{stateOf, wordsOf, stateWords}

@@ -6,7 +6,7 @@ use native.Mathlib.Nat.{zero-add}
 use lib.ListN.{length, replicate}
 use borrow.Author.Tests.{lt-ltb}
 use Rattle.answers.specs.declared.Begun.{Begun}
-use Rattle.answers.specs.Refusals.{verdict}
+use Rattle.tables.specs.Refusals.{verdict}
 use Rattle.sizes.specs.Sizes.{badMTU}
 use Rattle.contexts.specs.State.{fresh, fixed}
 use Rattle.contexts.specs.Words.{wordsOf}

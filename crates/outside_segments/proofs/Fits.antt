@@ -8,8 +8,8 @@ use borrow.Author.Tests.{ltb-false}
 use Rattle.answers.specs.declared.Written.{Written}
 use Rattle.answers.specs.declared.Written.the-variants.{Length}
 use Rattle.answers.specs.Answers.{wrote, saidOfWriter}
-use Rattle.answers.specs.Refusals.{Verdict, refuse, accept, verdict, none}
-use Rattle.answers.proofs.Exactly.{none-held}
+use Rattle.tables.specs.Refusals.{Verdict, refuse, accept, verdict, none}
+use Rattle.tables.proofs.Exactly.{none-held}
 use Rattle.cutting.specs.declared.Heading.{Heading}
 use Rattle.cutting.specs.Cutting.{packetOf}
 use Rattle.segments.specs.Writer.{Wrote, wroteBy, writerTable, writing, WritePromise}

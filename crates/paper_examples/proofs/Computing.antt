@@ -2,7 +2,7 @@
 use Rattle.lists.specs.Bytes.{written}
 use Rattle.lists.specs.First.{firstOf, any}
 use Rattle.lists.specs.Rows.{rows, joined}
-use Rattle.answers.specs.Refusals.{verdict}
+use Rattle.tables.specs.Refusals.{verdict}
 use Rattle.wire.specs.Type9.{sameFlow, segmentAt, segmentOf}
 use Rattle.wire.specs.Type11.{messageOf}
 use Rattle.sizes.specs.Sizes.{badMTU, pduLength, dataLength, bytesOf, inEights}

@@ -7,8 +7,8 @@ use native.Mathlib.Omega.{arith}
 use lib.ListN.{length, replicate}
 use Rattle.answers.specs.declared.Begun.the-variants.{Ready}
 use Rattle.answers.specs.Answers.{said, ready, refused}
-use Rattle.answers.specs.Refusals.{VerdictOf, refuse, accept, none, verdict}
-use Rattle.answers.proofs.Exactly.{none-held}
+use Rattle.tables.specs.Refusals.{VerdictOf, refuse, accept, none, verdict}
+use Rattle.tables.proofs.Exactly.{none-held}
 use Rattle.sizes.specs.Sizes.{badMTU}
 use Rattle.refusal19.specs.Refusal19.{badRoom}
 use Rattle.refusal19.proofs.Good.{good}

@@ -9,7 +9,7 @@ use lib.Seq.{take-at}
 use borrow.Author.Tests.{ne-eqb, le-ltb}
 use Rattle.lists.proofs.Written.{written-front}
 use Rattle.answers.specs.Answers as answers
-use Rattle.answers.specs.Refusals.{Verdict, refuse, accept, verdict}
+use Rattle.tables.specs.Refusals.{Verdict, refuse, accept, verdict}
 use Rattle.wire.specs.declared.Flow.{Flow}
 use Rattle.sizes.specs.Sizes.{badMTU}
 use Rattle.cutting.specs.Cutting.{badSize, segmentCount, packetOf}

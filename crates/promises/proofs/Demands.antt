@@ -7,7 +7,7 @@ use native.Mathlib.Omega.{arith}
 use lib.ListN.{length, replicate, length-replicate}
 use borrow.Author.Tests.{le-ltb}
 use Rattle.lists.specs.Each.{Each}
-use Rattle.answers.proofs.Exactly.{accepted}
+use Rattle.tables.proofs.Exactly.{accepted}
 use Rattle.wire.specs.declared.Flow.{Flow}
 use Rattle.wire.specs.Parsed.{parsed, parsedByType, parsedStream, parsedFielded}
 use Rattle.sizes.specs.Sizes.{badMTU}

@@ -1,12 +1,12 @@
--- The refusal tables decide exactly: one law over tables (crate answers), and that an accepted call says no refusal.
+-- The refusal tables decide exactly: one law over tables (crate tables), and that an accepted call says no refusal.
 use Prim.Native.Nat.{ℕ}
 use mathlib.Core.Path.{_≡_, refl, ap}
 use mathlib.Core.List.{List}
 use mathlib.Core.Bool.{Bool, true, false, cond}
 use native.Mathlib.Omega.{arith}
 use Rattle.answers.specs.Answers.{Said, held, refused}
-use Rattle.answers.specs.Refusals.{Leaves, all, flowClosed, allERROR, allRETRY, Verdict, refuse, accept, verdict, none}
-use Rattle.answers.proofs.Exactly.{answered, exactly, accepted, none-held}
+use Rattle.tables.specs.Refusals.{Leaves, all, flowClosed, allERROR, allRETRY, Verdict, refuse, accept, verdict, none}
+use Rattle.tables.proofs.Exactly.{answered, exactly, accepted, none-held}
 use Rattle.wire.specs.Type11.{isSingle}
 use Rattle.contexts.specs.State.{State, streamIn, messageIn, withStream, withMessage, closedStream, closedMessage, isFreeStream, isFreeMessage}
 use Rattle.contexts.specs.Words.{stateOf}
@@ -28,6 +28,10 @@ no-refusal says = (number : ℕ) → says ≡ refused number → ⊥
 
 held-no : no-refusal held
 held-no number e = let z : _≡_ {A = ℕ} 0 1 = cc in omega arith
+
+-- no two numbers are refused alike
+one-number : (m n : ℕ) → refused m ≡ refused n → m ≡ n
+one-number m n e = cc
 
 -- of two chosen from, each is no refusal
 pub chosen : {A : Type 0} (P : A → Type 0) (b : Bool) (x y : A) → P x → P y → P (cond b x y)
@@ -62,7 +66,7 @@ accepted-no x = chosen (λ (l : Left). no-refusal (l .says)) (is9 x) _ _ (stream
 
 pub refused-exactly : RefusedExactly
 unfolding reading
-refused-exactly x number = exactly (λ (v : Verdict). outcome x v .says) (number-said x) (accepted-no x) (table x) number
+refused-exactly x number = exactly refused one-number (λ (v : Verdict). outcome x v .says) (number-said x) (accepted-no x) (table x) number
 
 pub row-leaves : RowLeaves
 unfolding reading
@@ -84,7 +88,7 @@ accepted-exactly x = (λ n number e. accepted-no x number (rw (accepted (table x
 pub setup-exactly : SetupExactly
 unfolding setup
 setup-exactly words device mtu room number =
-    exactly (λ v. setupBy words device mtu room v .says) (λ n l. refl) (λ n e. let z : _≡_ {A = ℕ} 0 1 = cc in omega arith) (setupTable words mtu room) number
+    exactly refused one-number (λ v. setupBy words device mtu room v .says) (λ n l. refl) (λ n e. let z : _≡_ {A = ℕ} 0 1 = cc in omega arith) (setupTable words mtu room) number
 
 -- ---- abandoning
 accepted-free : (words : List ℕ) (isFree : Bool) (after : State) → no-refusal (abandonBy words isFree after accept .says)
@@ -96,17 +100,17 @@ unfolding abandonStream
 abandon-stream-exactly words n number =
     let isFree = isFreeStream (streamIn (stateOf words) n) in
     let after = withStream (stateOf words) n closedStream in
-    exactly (λ (v : Verdict). abandonBy words isFree after v .says) (λ k l. refl) (accepted-free words isFree after) (abandonTable words 16 n) number
+    exactly refused one-number (λ (v : Verdict). abandonBy words isFree after v .says) (λ k l. refl) (accepted-free words isFree after) (abandonTable words 16 n) number
 
 pub abandon-message-exactly : AbandonMessageExactly
 unfolding abandonMessage
 abandon-message-exactly words n number =
     let isFree = isFreeMessage (messageIn (stateOf words) n) in
     let after = withMessage (stateOf words) n closedMessage in
-    exactly (λ (v : Verdict). abandonBy words isFree after v .says) (λ k l. refl) (accepted-free words isFree after) (abandonTable words 8 n) number
+    exactly refused one-number (λ (v : Verdict). abandonBy words isFree after v .says) (λ k l. refl) (accepted-free words isFree after) (abandonTable words 8 n) number
 
 -- ---- the writer
 pub writer-exactly : WriterExactly
 unfolding writing
 writer-exactly out h mtu pdu k number =
-    exactly (λ (v : Verdict). wroteBy out (packetOf h mtu pdu k) v .says) (λ n l. refl) (λ n e. let z : _≡_ {A = ℕ} 0 1 = cc in omega arith) (writerTable out h mtu pdu k) number
+    exactly refused one-number (λ (v : Verdict). wroteBy out (packetOf h mtu pdu k) v .says) (λ n l. refl) (λ n e. let z : _≡_ {A = ℕ} 0 1 = cc in omega arith) (writerTable out h mtu pdu k) number

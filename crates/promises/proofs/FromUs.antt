@@ -7,8 +7,8 @@ use mathlib.Core.Bool.{Bool, true, false, cond}
 use mathlib.Core.Option as option
 use lib.ListN.{take, drop}
 use borrow.Author.Tests.{eqb-true, not-false}
-use Rattle.answers.specs.Refusals.{Leaves, all, Row, Verdict, refuse, accept, verdict, none}
-use Rattle.answers.proofs.Exactly.{none-held}
+use Rattle.tables.specs.Refusals.{Leaves, all, Row, Verdict, refuse, accept, verdict, none}
+use Rattle.tables.proofs.Exactly.{none-held}
 use Rattle.lists.specs.Bytes.{written}
 use Rattle.wire.specs.Packet.{packetType, destination, source}
 use Rattle.responses.specs.Type13.{responseTo, answered}

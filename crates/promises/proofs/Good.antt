@@ -5,9 +5,9 @@ use mathlib.Core.List.{List}
 use mathlib.Core.Bool.{Bool, true, false}
 use native.Mathlib.Omega.{arith}
 use lib.ListN.{length-set}
-use Rattle.answers.specs.Refusals.{Verdict, VerdictOf, refuse, accept, verdict, none}
+use Rattle.tables.specs.Refusals.{Verdict, VerdictOf, refuse, accept, verdict, none}
 use Rattle.answers.specs.Answers.{ready, refused}
-use Rattle.answers.proofs.Exactly.{none-held}
+use Rattle.tables.proofs.Exactly.{none-held}
 use Rattle.contexts.specs.State.{State, fresh, fixed, withStream, withMessage, closedStream, closedMessage}
 use Rattle.contexts.specs.Words.{stateOf, wordsOf}
 use Rattle.refusal19.specs.Refusal19.{namedBy19}

@@ -1,6 +1,6 @@
 -- What the other calls leave: by the row that decides, or where none does.
 use mathlib.Core.Path.{ap}
-use Rattle.answers.proofs.Exactly.{answered, accepted}
+use Rattle.tables.proofs.Exactly.{answered, accepted}
 use Rattle.contexts.specs.State.{streamIn, messageIn, withStream, withMessage, closedStream, closedMessage, isFreeStream, isFreeMessage}
 use Rattle.contexts.specs.Words.{stateOf}
 use Rattle.cutting.specs.Cutting.{packetOf}

@@ -4,8 +4,8 @@ use mathlib.Core.Path.{_≡_, refl, ap, sym, _∙_}
 use mathlib.Core.Bool.{cond}
 use native.Mathlib.Omega.{arith}
 use lib.Dec.{eqb}
-use Rattle.answers.specs.Refusals.{Row, Verdict, refuse, accept, verdict, Decides}
-use Rattle.answers.proofs.Exactly.{answered, decided, accepted}
+use Rattle.tables.specs.Refusals.{Row, Verdict, refuse, accept, verdict, Decides}
+use Rattle.tables.proofs.Exactly.{answered, decided, accepted}
 use Rattle.wire.specs.declared.Parsed.{Parsed}
 use Rattle.wire.specs.declared.Parsed.the-variants.{Refused, Stream, Message}
 use Rattle.wire.specs.Packet.{tt, destination}

@@ -7,8 +7,8 @@ use mathlib.Core.Option.{Option}
 use mathlib.Core.Option as option
 use native.Mathlib.Omega.{arith}
 use Rattle.answers.specs.Answers.{Said, held}
-use Rattle.answers.specs.Refusals.{Leaves, all, flowClosed, allERROR, allRETRY, Row, Verdict, refuse, accept, verdict, none}
-use Rattle.answers.proofs.Exactly.{decided, none-held}
+use Rattle.tables.specs.Refusals.{Leaves, all, flowClosed, allERROR, allRETRY, Row, Verdict, refuse, accept, verdict, none}
+use Rattle.tables.proofs.Exactly.{decided, none-held}
 use Rattle.wire.specs.Type11.{isSingle}
 use Rattle.responses.specs.Type13.{DONE, RETRY, ERROR, answered}
 use Rattle.stream_rooms.specs.Placing as streamRoom

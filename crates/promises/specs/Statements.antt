@@ -43,7 +43,7 @@ use Rattle.answers.specs.declared.Abandoned.{Abandoned}
 use Rattle.answers.specs.declared.Written.{Written}
 use Rattle.answers.specs.declared.Written.the-variants.{Length}
 use Rattle.answers.specs.Answers.{Said, held, delivered, message, refused, ready, closed, free, wrote, said}
-use Rattle.answers.specs.Refusals.{RowOf, Row, Decides, none}
+use Rattle.tables.specs.Refusals.{RowOf, Row, Decides, none}
 use Rattle.contexts.specs.State.{fresh, fixed, streamIn, messageIn, withStream, withMessage, closedStream, closedMessage, isFreeStream, isFreeMessage}
 use Rattle.contexts.specs.Words.{stateOf, wordsOf}
 use Rattle.reading.specs.Table.{Lent, stateIn, segmentIn, messageSegmentIn, is9, is11, table}

@@ -5,8 +5,8 @@ use mathlib.Core.List.{List}
 use mathlib.Core.Bool.{Bool, true, false, not, _||_, _&&_, true≢false, false≢true}
 use native.Mathlib.Omega.{arith}
 use lib.ListN.{length, getD, length-set}
-use Rattle.answers.specs.Refusals.{Leaves, all, flowClosed, allERROR, allRETRY, Verdict, refuse, accept, verdict, none}
-use Rattle.answers.proofs.Exactly.{none-held}
+use Rattle.tables.specs.Refusals.{Leaves, all, flowClosed, allERROR, allRETRY, Verdict, refuse, accept, verdict, none}
+use Rattle.tables.proofs.Exactly.{none-held}
 use Rattle.wire.specs.Type11.{messageOf, isSingle}
 use Rattle.contexts.specs.State.{Setup, State, freeMessage}
 use Rattle.contexts.specs.Words.{stateOf, wordsOf, stateWords}

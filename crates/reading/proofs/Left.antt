@@ -8,7 +8,7 @@ use lib.ListN.{length}
 use borrow.Author.Tests.{eq-eqb, le-ltb, eqb-true, ltb-false, not-false}
 use Rattle.answers.specs.Answers.{Said}
 use Rattle.answers.specs.declared.Reading.{Reading}
-use Rattle.answers.specs.Refusals.{all}
+use Rattle.tables.specs.Refusals.{all}
 use Rattle.contexts.specs.Words.{stateOf, stateWords}
 use Rattle.contexts.proofs.Words.{words-of}
 use Rattle.refusal19.proofs.Good.{neither}

@@ -3,7 +3,7 @@ use Prim.Native.Nat.{ℕ}
 use mathlib.Core.Path.{_≡_}
 use mathlib.Core.Bool.{cond}
 use lib.ListN.{length}
-use Rattle.answers.specs.Refusals.{allERROR, allRETRY}
+use Rattle.tables.specs.Refusals.{allERROR, allRETRY}
 use Rattle.responses.specs.Type13.{ERROR, RETRY}
 use Rattle.contexts.specs.Words.{stateWords}
 use Rattle.contexts.proofs.Words.{words-of}

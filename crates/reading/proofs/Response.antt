@@ -6,7 +6,7 @@ use lib.ListN.{length}
 use native.Mathlib.Omega.{arith}
 use borrow.Author.Tests.{le-ltb}
 use Rattle.lists.proofs.Written.{length-written}
-use Rattle.answers.specs.Refusals.{Row, Leaves, all, flowClosed, allERROR, allRETRY, Verdict, refuse, accept, verdict}
+use Rattle.tables.specs.Refusals.{Row, Leaves, all, flowClosed, allERROR, allRETRY, Verdict, refuse, accept, verdict}
 use Rattle.wire.specs.Type11.{isSingle}
 use Rattle.responses.specs.Type13.{DONE, ERROR, RETRY, responseTo, answered}
 use Rattle.contexts.specs.State.{freeMessage}

@@ -5,7 +5,7 @@ use lib.Dec.{eqb}
 use lib.ListN.{length}
 use borrow.Author.Tests.{eqb-true, eq-eqb, ne-eqb}
 use native.Mathlib.Omega.{arith}
-use Rattle.answers.specs.Refusals.{all, flowClosed, allERROR, allRETRY}
+use Rattle.tables.specs.Refusals.{all, flowClosed, allERROR, allRETRY}
 use Rattle.wire.specs.Packet.{tt, packetType, destination}
 use Rattle.wire.specs.Type9.{isS, isE, xh}
 use Rattle.wire.specs.Parsed.{parsed, parsedByType, parsedStream, parsedFielded}

@@ -5,7 +5,7 @@ use mathlib.Core.Bool.{Bool, true, false, cond, not, _&&_}
 use native.Mathlib.Omega.{arith}
 use lib.ListN.{length}
 use borrow.Author.Tests.{le-ltb}
-use Rattle.answers.specs.Refusals.{all, flowClosed}
+use Rattle.tables.specs.Refusals.{all, flowClosed}
 use Rattle.wire.specs.declared.Segment.{Segment}
 use Rattle.sizes.specs.Sizes.{dataLength}
 use Rattle.contexts.specs.State.{State}

@@ -5,7 +5,7 @@ use mathlib.Core.List.{List, []}
 use mathlib.Core.Bool.{Bool, false, cond}
 use Rattle.answers.specs.Answers.{Said, said, refused}
 use Rattle.answers.specs.declared.Reading.{Reading}
-use Rattle.answers.specs.Refusals.{Leaves, all, flowClosed, allERROR, allRETRY, Verdict, refuse, accept, verdict}
+use Rattle.tables.specs.Refusals.{Leaves, all, flowClosed, allERROR, allRETRY, Verdict, refuse, accept, verdict}
 use Rattle.responses.specs.Type13.{ERROR, RETRY, answered}
 use Rattle.contexts.specs.Words.{wordsOf}
 use Rattle.stream_rooms.specs.Placing as streamRoom

@@ -1,6 +1,6 @@
 -- Reading in the order of the code; proofs/Rows.antt shows that it is `reading`.
 use mathlib.Core.Bool.{cond}
-use Rattle.answers.specs.Refusals.{all}
+use Rattle.tables.specs.Refusals.{all}
 use Rattle.wire.specs.declared.Parsed.{Parsed}
 use Rattle.wire.specs.declared.Parsed.the-variants.{Refused, Stream, Message}
 use Rattle.wire.specs.Parsed.{parsed}

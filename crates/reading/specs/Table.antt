@@ -4,7 +4,7 @@ use mathlib.Core.List.{List, [], _∷_}
 use mathlib.Core.Bool.{Bool, not, _||_, _&&_}
 use lib.ListN.{length}
 use lib.Dec.{eqb, ltb}
-use Rattle.answers.specs.Refusals.{Row, row, all, flowClosed, allERROR, allRETRY}
+use Rattle.tables.specs.Refusals.{Row, row, all, flowClosed, allERROR, allRETRY}
 use Rattle.wire.specs.declared.Segment.{Segment}
 use Rattle.wire.specs.declared.MessageSegment.{MessageSegment}
 use Rattle.wire.specs.Packet.{tt, packetType, destination}

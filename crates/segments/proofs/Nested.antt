@@ -10,7 +10,7 @@ use lib.ListN.{length}
 use borrow.Author.Tests.{lt-ltb, le-ltb}
 use Rattle.lists.specs.Bytes.{written}
 use Rattle.answers.specs.Answers.{refused, wrote}
-use Rattle.answers.specs.Refusals.{row, all, verdict}
+use Rattle.tables.specs.Refusals.{row, all, verdict}
 use Rattle.sizes.specs.Sizes.{badMTU}
 use Rattle.cutting.specs.declared.Heading.{Heading}
 use Rattle.cutting.specs.Cutting.{badSize, segmentCount, packetOf}

@@ -8,7 +8,7 @@ use lib.Dec.{ltb}
 use Rattle.lists.specs.Bytes.{written}
 use Rattle.answers.specs.declared.Written.{Written}
 use Rattle.answers.specs.Answers.{Said, refused, wrote, saidOfWriter}
-use Rattle.answers.specs.Refusals.{Row, row, all, Verdict, refuse, accept, verdict}
+use Rattle.tables.specs.Refusals.{Row, row, all, Verdict, refuse, accept, verdict}
 use Rattle.sizes.specs.Sizes.{badMTU}
 use Rattle.cutting.specs.declared.Heading.{Heading}
 use Rattle.cutting.specs.Cutting.{badSize, segmentCount, packetOf}

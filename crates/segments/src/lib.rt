@@ -7,7 +7,7 @@ ghost use Prim.Native.Nat.{_<_, _≤_};
 ghost use lib.ListN.{length};
 ghost use lib.Dec.{ltb};
 ghost use Rattle.answers.specs.Answers.{saidOfWriter};
-ghost use Rattle.answers.specs.Refusals.{row, all, verdict};
+ghost use Rattle.tables.specs.Refusals.{row, all, verdict};
 ghost use Rattle.cutting.specs.Cutting.{segmentCount, packetOf};
 ghost use Rattle.segments.specs.Writer.{wroteOf, wroteBy, WritePromise, CountPromise};
 

@@ -3,7 +3,7 @@ use mathlib.Core.Path.{refl}
 use Rattle.lists.specs.Bytes.{written}
 use Rattle.lists.specs.First.{firstOf, any}
 use Rattle.lists.specs.Rows.{rows, joined}
-use Rattle.answers.specs.Refusals.{verdict}
+use Rattle.tables.specs.Refusals.{verdict}
 use Rattle.wire.specs.Type9.{sameFlow, segmentAt, segmentOf}
 use Rattle.sizes.specs.Sizes.{badMTU, bytesOf, dataLength, inEights, pduLength}
 use Rattle.wire.specs.Type11.{messageOf}

@@ -2,7 +2,7 @@
 use Prim.Native.Nat.{ℕ}
 use mathlib.Core.Path.{_≡_}
 use mathlib.Core.List.{List, [], _∷_, _++_}
-use mathlib.Core.Bool.{Bool, true, false, cond}
+use mathlib.Core.Bool.{Bool, true, false, cond, _&&_}
 
 -- the table's last column
 pub data Leaves : Type 0 where
@@ -38,6 +38,11 @@ Verdict = VerdictOf Leaves
 unfoldable pub verdict : {L : Type 0} → List (RowOf L) → VerdictOf L
 verdict [] = accept
 verdict (r ∷ rs) = cond (r .holds) (refuse (r .number) (r .leaves)) (verdict rs)
+
+-- rows that ask one thing more first, as of a packet of that type
+unfoldable pub given : {L : Type 0} → Bool → List (RowOf L) → List (RowOf L)
+given asked [] = []
+given asked (r ∷ rs) = row (r .number) (asked && r .holds) (r .leaves) ∷ given asked rs
 
 -- no row's test holds
 unfoldable pub none : {L : Type 0} → List (RowOf L) → Type 0

@@ -1,12 +1,11 @@
 -- A number is answered exactly if its row's test holds and no earlier row's does; accepted exactly if no row's test holds.
 use Prim.Native.Nat.{ℕ}
-use mathlib.Core.Path.{_≡_, refl, ap, _∙_}
+use mathlib.Core.Path.{_≡_, refl, ap, sym, _∙_}
 use mathlib.Core.Logic.{_↔_}
 use mathlib.Core.List.{List, [], _∷_, _++_}
 use mathlib.Core.Bool.{Bool, true, false, cond}
 use native.Mathlib.Omega.{arith}
-use Rattle.answers.specs.Answers.{Said, refused}
-use Rattle.answers.specs.Refusals.{RowOf, VerdictOf, refuse, accept, verdict, none, Decides}
+use Rattle.tables.specs.Refusals.{RowOf, VerdictOf, refuse, accept, verdict, none, Decides}
 
 module _ {L : Type 0} where
   -- rows whose tests do not hold do not decide
@@ -35,19 +34,20 @@ module _ {L : Type 0} where
           let d = w .1 in
           (w .0, record { earlier = r ∷ d .earlier; later = d .later; place = ap (λ (l : List (RowOf L)). r ∷ l) (d .place); before = (h, d .before); this = d .this }, w .2, w .3)
 
-  -- an answer made from a verdict, where an accepted call is answered otherwise: a number is answered exactly if a row of that number decides
-  pub exactly : (says : VerdictOf L → Said)
+  -- an answer made from a verdict, where no two numbers are answered alike and an accepted call is answered otherwise:
+  -- a number is answered exactly if a row of that number decides
+  pub exactly : {Said : Type 0} (refused : ℕ → Said) → ((m n : ℕ) → refused m ≡ refused n → m ≡ n)
+      → (says : VerdictOf L → Said)
       → ((number : ℕ) (leaves : L) → says (refuse number leaves) ≡ refused number)
       → ((number : ℕ) → says accept ≡ refused number → ⊥)
       → (table : List (RowOf L)) (number : ℕ)
       → (says (verdict table) ≡ refused number) ↔ ((r : RowOf L) × Decides table r × (r .number ≡ number))
-  exactly says refuses accepts table number = (λ s. to (verdict table) refl s, from)
+  exactly refused one-number says refuses accepts table number = (λ s. to (verdict table) refl s, from)
     where
       to : (v : VerdictOf L) → verdict table ≡ v → says v ≡ refused number → (r : RowOf L) × Decides table r × (r .number ≡ number)
       to (refuse n leaves) e s =
           let d = decided table n leaves e in
-          let same : n ≡ number = cc (refuses n leaves) in
-          (d .0, d .1, d .2 ∙ same)
+          (d .0, d .1, d .2 ∙ one-number n number (sym (refuses n leaves) ∙ s))
       to accept e s = absurd (accepts number s)
 
       from : (r : RowOf L) × Decides table r × (r .number ≡ number) → says (verdict table) ≡ refused number

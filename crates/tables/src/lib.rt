@@ -1,0 +1,1 @@
+// Tables of refusals: definitions and laws, no code.
