@@ -1,5 +1,5 @@
--- What an answer says determines the answer: no two cases of an enum say the same.
-use mathlib.Core.Path.{_≡_, refl}
+-- An answer and what it says determine each other: no two cases of an enum say the same, and whatever can be said, a case says it.
+use mathlib.Core.Path.{_≡_, refl, ap, sym, _∙_}
 use Rattle.answers.specs.declared.Answer.{Answer}
 use Rattle.answers.specs.declared.Answer.the-variants as answer
 use Rattle.answers.specs.declared.Begun.{Begun}
@@ -8,45 +8,76 @@ use Rattle.answers.specs.declared.Abandoned.{Abandoned}
 use Rattle.answers.specs.declared.Abandoned.the-variants as abandoned
 use Rattle.answers.specs.declared.Written.{Written}
 use Rattle.answers.specs.declared.Written.the-variants as writer
-use Rattle.answers.specs.Answers.{said, saidOfSetup, saidOfAbandon, saidOfWriter}
+use Rattle.answers.specs.Answers.{Said, held, delivered, message, refused, said, SetupSaid, ready, setupRefused, saidOfSetup}
+use Rattle.answers.specs.Answers.{AbandonSaid, closed, free, abandonRefused, saidOfAbandon, WriterSaid, wrote, writeRefused, saidOfWriter}
+
+-- where `back` undoes `says`, what is said determines the answer
+once : {A S : Type 0} (says : A → S) (back : S → A) → ((a : A) → back (says a) ≡ a) → (a b : A) → says a ≡ says b → a ≡ b
+once says back same a b e = sym (same a) ∙ (ap back e ∙ same b)
+
+-- ---- reading a packet
+
+abbrev pub answerOf : Said → Answer
+answerOf held = answer.Held
+answerOf (delivered context flow stream size) = answer.Delivered context flow stream size
+answerOf (message context source letter mailbox size) = answer.Message context source letter mailbox size
+answerOf (refused number) = answer.Refused number
+
+pub says-it : (s : Said) → said (answerOf s) ≡ s
+says-it held = refl
+says-it (delivered _ _ _ _) = refl
+says-it (message _ _ _ _ _) = refl
+says-it (refused _) = refl
+
+answer-back : (a : Answer) → answerOf (said a) ≡ a
+answer-back answer.Held = refl
+answer-back (answer.Delivered _ _ _ _) = refl
+answer-back (answer.Message _ _ _ _ _) = refl
+answer-back (answer.Refused _) = refl
 
 pub said-once : (a b : Answer) → said a ≡ said b → a ≡ b
-said-once answer.Held answer.Held e = refl
-said-once answer.Held (answer.Delivered _ _ _ _ _) e = cc
-said-once answer.Held (answer.Message _ _ _ _ _) e = cc
-said-once answer.Held (answer.Refused _) e = cc
-said-once (answer.Delivered _ _ _ _ _) answer.Held e = cc
-said-once (answer.Delivered _ _ _ _ _) (answer.Delivered _ _ _ _ _) e = cc
-said-once (answer.Delivered _ _ _ _ _) (answer.Message _ _ _ _ _) e = cc
-said-once (answer.Delivered _ _ _ _ _) (answer.Refused _) e = cc
-said-once (answer.Message _ _ _ _ _) answer.Held e = cc
-said-once (answer.Message _ _ _ _ _) (answer.Delivered _ _ _ _ _) e = cc
-said-once (answer.Message _ _ _ _ _) (answer.Message _ _ _ _ _) e = cc
-said-once (answer.Message _ _ _ _ _) (answer.Refused _) e = cc
-said-once (answer.Refused _) answer.Held e = cc
-said-once (answer.Refused _) (answer.Delivered _ _ _ _ _) e = cc
-said-once (answer.Refused _) (answer.Message _ _ _ _ _) e = cc
-said-once (answer.Refused _) (answer.Refused _) e = cc
+said-once = once said answerOf answer-back
+
+-- ---- setup
+
+begunOf : SetupSaid → Begun
+begunOf ready = begun.Ready
+begunOf (setupRefused number) = begun.Refused number
+
+setup-back : (a : Begun) → begunOf (saidOfSetup a) ≡ a
+unfolding begunOf
+setup-back begun.Ready = refl
+setup-back (begun.Refused _) = refl
 
 pub setup-once : (a b : Begun) → saidOfSetup a ≡ saidOfSetup b → a ≡ b
-setup-once begun.Ready begun.Ready e = refl
-setup-once begun.Ready (begun.Refused _) e = cc
-setup-once (begun.Refused _) begun.Ready e = cc
-setup-once (begun.Refused _) (begun.Refused _) e = cc
+setup-once = once saidOfSetup begunOf setup-back
+
+-- ---- abandoning a context
+
+abandonedOf : AbandonSaid → Abandoned
+abandonedOf closed = abandoned.Closed
+abandonedOf free = abandoned.WasFree
+abandonedOf (abandonRefused number) = abandoned.Refused number
+
+abandon-back : (a : Abandoned) → abandonedOf (saidOfAbandon a) ≡ a
+unfolding abandonedOf
+abandon-back abandoned.Closed = refl
+abandon-back abandoned.WasFree = refl
+abandon-back (abandoned.Refused _) = refl
 
 pub abandon-once : (a b : Abandoned) → saidOfAbandon a ≡ saidOfAbandon b → a ≡ b
-abandon-once abandoned.Closed abandoned.Closed e = refl
-abandon-once abandoned.Closed abandoned.WasFree e = cc
-abandon-once abandoned.Closed (abandoned.Refused _) e = cc
-abandon-once abandoned.WasFree abandoned.Closed e = cc
-abandon-once abandoned.WasFree abandoned.WasFree e = refl
-abandon-once abandoned.WasFree (abandoned.Refused _) e = cc
-abandon-once (abandoned.Refused _) abandoned.Closed e = cc
-abandon-once (abandoned.Refused _) abandoned.WasFree e = cc
-abandon-once (abandoned.Refused _) (abandoned.Refused _) e = cc
+abandon-once = once saidOfAbandon abandonedOf abandon-back
+
+-- ---- the segment writer
+
+writtenOf : WriterSaid → Written
+writtenOf (wrote size) = writer.Length size
+writtenOf (writeRefused number) = writer.Refused number
+
+writer-back : (a : Written) → writtenOf (saidOfWriter a) ≡ a
+unfolding writtenOf
+writer-back (writer.Length _) = refl
+writer-back (writer.Refused _) = refl
 
 pub writer-once : (a b : Written) → saidOfWriter a ≡ saidOfWriter b → a ≡ b
-writer-once (writer.Length _) (writer.Length _) e = cc
-writer-once (writer.Length _) (writer.Refused _) e = cc
-writer-once (writer.Refused _) (writer.Length _) e = cc
-writer-once (writer.Refused _) (writer.Refused _) e = cc
+writer-once = once saidOfWriter writtenOf writer-back

@@ -1,5 +1,7 @@
--- What a call says, in document 01's words and numbers, and what each case of an answer's enum says.
+-- What the calls say, in document 01's words and numbers, and what each case of an answer's enum says. Each call has answers of its own,
+-- so that a new answer of one call is no new case of another.
 use Prim.Native.Nat.{ℕ}
+use Rattle.wire.specs.declared.Flow.{Flow}
 use Rattle.answers.specs.declared.Answer.{Answer}
 use Rattle.answers.specs.declared.Answer.the-variants as answer
 use Rattle.answers.specs.declared.Begun.{Begun}
@@ -9,39 +11,56 @@ use Rattle.answers.specs.declared.Abandoned.the-variants as abandoned
 use Rattle.answers.specs.declared.Written.{Written}
 use Rattle.answers.specs.declared.Written.the-variants as writer
 
+-- ---- reading a packet
+
 pub data Said : Type 0 where
   -- a segment is held
   held : Said
-  -- a PDU is delivered: context number, source, cos, streamID, length
-  delivered : (context source cos streamID size : ℕ) → Said
+  -- a PDU is delivered: context number, flow (source and cos), streamID, length
+  delivered : (context : ℕ) (flow : Flow) (streamID size : ℕ) → Said
   -- a message is delivered: context number, source, letter, mailbox, length
   message : (context source letter mailbox size : ℕ) → Said
   -- a refusal, by its number
   refused : (number : ℕ) → Said
-  -- setup has made a state
-  ready : Said
-  -- a context was abandoned
-  closed : Said
-  -- the context to abandon was free
-  free : Said
-  -- the writer has written a packet of so many bytes
-  wrote : (size : ℕ) → Said
 
 abbrev pub said : Answer → Said
 said answer.Held = held
-said (answer.Delivered context source cos stream size) = delivered context source cos stream size
+said (answer.Delivered context flow stream size) = delivered context flow stream size
 said (answer.Message context source letter mailbox size) = message context source letter mailbox size
 said (answer.Refused number) = refused number
 
-abbrev pub saidOfSetup : Begun → Said
-saidOfSetup begun.Ready = ready
-saidOfSetup (begun.Refused number) = refused number
+-- ---- setup
 
-abbrev pub saidOfAbandon : Abandoned → Said
+pub data SetupSaid : Type 0 where
+  -- setup has made a state
+  ready : SetupSaid
+  setupRefused : (number : ℕ) → SetupSaid
+
+abbrev pub saidOfSetup : Begun → SetupSaid
+saidOfSetup begun.Ready = ready
+saidOfSetup (begun.Refused number) = setupRefused number
+
+-- ---- abandoning a context
+
+pub data AbandonSaid : Type 0 where
+  -- a context was abandoned
+  closed : AbandonSaid
+  -- the context to abandon was free
+  free : AbandonSaid
+  abandonRefused : (number : ℕ) → AbandonSaid
+
+abbrev pub saidOfAbandon : Abandoned → AbandonSaid
 saidOfAbandon abandoned.Closed = closed
 saidOfAbandon abandoned.WasFree = free
-saidOfAbandon (abandoned.Refused number) = refused number
+saidOfAbandon (abandoned.Refused number) = abandonRefused number
 
-abbrev pub saidOfWriter : Written → Said
+-- ---- the segment writer
+
+pub data WriterSaid : Type 0 where
+  -- the writer has written a packet of so many bytes
+  wrote : (size : ℕ) → WriterSaid
+  writeRefused : (number : ℕ) → WriterSaid
+
+abbrev pub saidOfWriter : Written → WriterSaid
 saidOfWriter (writer.Length size) = wrote size
-saidOfWriter (writer.Refused number) = refused number
+saidOfWriter (writer.Refused number) = writeRefused number

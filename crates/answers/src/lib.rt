@@ -1,12 +1,13 @@
 // What the endpoint's calls answer. specs/Answers.antt sets out document 01's number and values for each case.
 
+use wire::Flow;
+
 // The answer to a packet.
 pub enum Answer {
     Held,
     Delivered {
         context: usize,
-        source: usize,
-        cos: usize,
+        flow: Flow,
         stream: usize,
         length: usize,
     },
@@ -20,10 +21,17 @@ pub enum Answer {
     Refused(usize),
 }
 
-// The answer to a packet, and whether the packet closed an open stream context undelivered.
+// The answer to a type 9 packet, and whether the packet closed an open stream context undelivered.
+pub struct StreamAnswer {
+    pub answer: Answer,
+    pub dropped: bool,
+}
+
+// The answer to a packet, whether the packet closed an open stream context undelivered, and how many bytes of response were written.
 pub struct Reading {
     pub answer: Answer,
     pub dropped: bool,
+    pub response: usize,
 }
 
 // The answer to a setup.

@@ -10,7 +10,7 @@ use lib.ListN.{length, take, drop, replicate}
 use borrow.Author.Tests.{eq-eqb, ne-eqb, lt-ltb, le-ltb, eqb-true, not-false}
 use denote.Ref.{RefT, now}
 use Rattle.lists.specs.Rows.{joined}
-use Rattle.answers.specs.Answers.{ready, free, closed, refused}
+use Rattle.answers.specs.Answers.{ready, free, closed, setupRefused, abandonRefused}
 use Rattle.tables.specs.Refusals.{verdict}
 use Rattle.sizes.specs.Sizes.{badMTU}
 use Rattle.contexts.specs.State.{State}
@@ -22,16 +22,16 @@ use Rattle.endpoint.specs.Calls.{stands, setup, setupTable, abandonTable
 
 -- ---- setup
 module _ (words : List ℕ) (device mtu room : ℕ) where
-  pub setup-short : (length words ≡ stateWords → ⊥) → stands (refused 12) words ≡ setup words device mtu room
+  pub setup-short : (length words ≡ stateWords → ⊥) → stands (setupRefused 12) words ≡ setup words device mtu room
   unfolding setup setupTable verdict
   setup-short l = rw (ne-eqb (length words) stateWords l)
 
   module _ (l : length words ≡ stateWords) where
-    pub setup-mtu : (after : List ℕ) → badMTU mtu ≡ true → after ≡ replicate (length words) 0 → stands (refused 18) after ≡ setup words device mtu room
+    pub setup-mtu : (after : List ℕ) → badMTU mtu ≡ true → after ≡ replicate (length words) 0 → stands (setupRefused 18) after ≡ setup words device mtu room
     unfolding setup setupTable verdict
     setup-mtu after b e = rw (e, l, b)
 
-    pub setup-room : (after : List ℕ) → badMTU mtu ≡ false → badRoom mtu room ≡ true → after ≡ replicate (length words) 0 → stands (refused 19) after ≡ setup words device mtu room
+    pub setup-room : (after : List ℕ) → badMTU mtu ≡ false → badRoom mtu room ≡ true → after ≡ replicate (length words) 0 → stands (setupRefused 19) after ≡ setup words device mtu room
     unfolding setup setupTable verdict
     setup-room after b d e = rw (e, l, b, d)
 
@@ -41,17 +41,17 @@ module _ (words : List ℕ) (device mtu room : ℕ) where
 
 -- ---- abandoning, for contexts of either kind
 module _ (words : List ℕ) (contexts n : ℕ) (isFree : Bool) (after : State) where
-  pub abandon-short : (length words ≡ stateWords → ⊥) → stands (refused 12) words ≡ abandonBy words isFree after (verdict (abandonTable words contexts n))
+  pub abandon-short : (length words ≡ stateWords → ⊥) → stands (abandonRefused 12) words ≡ abandonBy words isFree after (verdict (abandonTable words contexts n))
   unfolding abandonTable verdict
   abandon-short l = rw (ne-eqb (length words) stateWords l)
 
   module _ (l : length words ≡ stateWords) where
-    pub abandon-named : namedBy19 (stateOf words) ≡ true → stands (refused 19) words ≡ abandonBy words isFree after (verdict (abandonTable words contexts n))
+    pub abandon-named : namedBy19 (stateOf words) ≡ true → stands (abandonRefused 19) words ≡ abandonBy words isFree after (verdict (abandonTable words contexts n))
     unfolding abandonTable verdict
     abandon-named h = rw (eq-eqb (length words) stateWords l, h)
 
     module _ (h : namedBy19 (stateOf words) ≡ false) where
-      pub abandon-past : contexts ≤ n → stands (refused 13) words ≡ abandonBy words isFree after (verdict (abandonTable words contexts n))
+      pub abandon-past : contexts ≤ n → stands (abandonRefused 13) words ≡ abandonBy words isFree after (verdict (abandonTable words contexts n))
       unfolding abandonTable verdict
       abandon-past k = rw (eq-eqb (length words) stateWords l, h, le-ltb n contexts k)
 

@@ -6,7 +6,7 @@ use mathlib.Core.Bool.{Bool, cond, not, _||_, _&&_}
 use lib.ListN.{length, take, drop, replicate}
 use lib.Dec.{eqb, ltb}
 use denote.Ref.{RefT, now}
-use Rattle.answers.specs.Answers.{Said, ready, closed, free, refused, saidOfSetup, saidOfAbandon}
+use Rattle.answers.specs.Answers.{SetupSaid, ready, setupRefused, saidOfSetup, AbandonSaid, closed, free, abandonRefused, saidOfAbandon}
 use Rattle.answers.specs.declared.Begun.{Begun}
 use Rattle.answers.specs.declared.Abandoned.{Abandoned}
 use Rattle.tables.specs.Refusals.{RowOf, Row, row, all, VerdictOf, Verdict, refuse, accept, verdict}
@@ -16,11 +16,11 @@ use Rattle.contexts.specs.Words.{stateOf, wordsOf, stateWords}
 use Rattle.refusal19.specs.Refusal19.{badRoom, namedBy19}
 
 -- an answer and the words it leaves
-pub record Stands : Type 0 where
-  pub says : Said
+pub record Stands (S : Type 0) : Type 0 where
+  pub says : S
   pub words : List ℕ
 
-abbrev pub stands : Said → List ℕ → Stands
+abbrev pub stands : {S : Type 0} → S → List ℕ → Stands S
 stands says words = record { says = says; words = words }
 
 -- ---- setup: a buffer that is no state is 12; 18 before 19
@@ -41,11 +41,11 @@ abbrev pub setupLeaving : List ℕ → SetupLeaves → List ℕ
 setupLeaving words wordsStay = words
 setupLeaving words stateOfZeros = replicate stateWords 0
 
-abbrev pub setupBy : List ℕ → ℕ → ℕ → ℕ → VerdictOf SetupLeaves → Stands
-setupBy words device mtu room (refuse number leaves) = stands (refused number) (setupLeaving words leaves)
+abbrev pub setupBy : List ℕ → ℕ → ℕ → ℕ → VerdictOf SetupLeaves → Stands SetupSaid
+setupBy words device mtu room (refuse number leaves) = stands (setupRefused number) (setupLeaving words leaves)
 setupBy words device mtu room accept = stands ready (wordsOf (fresh (fixed device mtu room)))
 
-unfoldable pub setup : List ℕ → ℕ → ℕ → ℕ → Stands
+unfoldable pub setup : List ℕ → ℕ → ℕ → ℕ → Stands SetupSaid
 setup words device mtu room = setupBy words device mtu room (verdict (setupTable words mtu room))
 
 abbrev pub SetupPromise : List ℕ → ℕ → ℕ → ℕ → Begun → List ℕ → Type 0
@@ -60,15 +60,15 @@ abandonTable words contexts n =
     ∷ []
 
 -- the context was free, or is closed
-abbrev pub abandonBy : List ℕ → Bool → State → Verdict → Stands
-abandonBy words isFree after (refuse number leaves) = stands (refused number) words
+abbrev pub abandonBy : List ℕ → Bool → State → Verdict → Stands AbandonSaid
+abandonBy words isFree after (refuse number leaves) = stands (abandonRefused number) words
 abandonBy words isFree after accept = cond isFree (stands free words) (stands closed (wordsOf after))
 
-unfoldable pub abandonStream : List ℕ → ℕ → Stands
+unfoldable pub abandonStream : List ℕ → ℕ → Stands AbandonSaid
 abandonStream words n =
     abandonBy words (isFreeStream (streamIn (stateOf words) n)) (withStream (stateOf words) n closedStream) (verdict (abandonTable words 16 n))
 
-unfoldable pub abandonMessage : List ℕ → ℕ → Stands
+unfoldable pub abandonMessage : List ℕ → ℕ → Stands AbandonSaid
 abandonMessage words n =
     abandonBy words (isFreeMessage (messageIn (stateOf words) n)) (withMessage (stateOf words) n closedMessage) (verdict (abandonTable words 8 n))
 

@@ -9,6 +9,7 @@ use borrow.Author.Tests.{eq-eqb, le-ltb, eqb-true, ltb-false, not-false}
 use Rattle.answers.specs.Answers.{Said}
 use Rattle.answers.specs.declared.Reading.{Reading}
 use Rattle.tables.specs.Refusals.{all}
+use Rattle.responses.specs.Type13.{responseSize}
 use Rattle.contexts.specs.Words.{stateOf, stateWords}
 use Rattle.contexts.proofs.Words.{words-of}
 use Rattle.refusal19.proofs.Good.{neither}
@@ -21,18 +22,18 @@ use Rattle.reading.specs.Inside.{Refusal}
 
 -- a refusal that changes nothing
 pub refusing : (x : Lent) (number : ℕ) (r : Reading) → Refusal number r → leaving x number all ≡ reading x → ReadPromise x r (x .desk)
-refusing x number r f e = rw (f .answer, f .drop) e
+refusing x number r f e = rw (f .answer, f .drop, f .silent) e
 
 -- what a step leaves in the words
 pub stream-left : (x : Lent) (says : Said) (dropped : Bool) (words memory : List ℕ) (j : streamRoom.Joined) → length words ≡ stateWords
-    → streamRoom.joining says dropped (stateOf words) memory ≡ j → left says dropped (withStreams (x .desk) words memory) ≡ ofStream x j
+    → streamRoom.joining says dropped (stateOf words) memory ≡ j → left says dropped 0 (withStreams (x .desk) words memory) ≡ ofStream x j
 stream-left x says dropped words memory j z e =
-    ap (λ (w : List ℕ). left says dropped (withStreams (x .desk) w memory)) (sym (words-of words z)) ∙ ap (ofStream x) e
+    ap (λ (w : List ℕ). left says dropped 0 (withStreams (x .desk) w memory)) (sym (words-of words z)) ∙ ap (ofStream x) e
 
 pub message-left : (x : Lent) (says : Said) (words memory response : List ℕ) (j : messageRoom.MessageJoined) → length words ≡ stateWords
-    → messageRoom.messageJoining says (stateOf words) memory response ≡ j → left says false (withMessages (x .desk) words memory response) ≡ ofMessage x j
+    → messageRoom.messageJoining says (stateOf words) memory response ≡ j → left says false responseSize (withMessages (x .desk) words memory response) ≡ ofMessage x j
 message-left x says words memory response j z e =
-    ap (λ (w : List ℕ). left says false (withMessages (x .desk) w memory response)) (sym (words-of words z)) ∙ ap (ofMessage x) e
+    ap (λ (w : List ℕ). left says false responseSize (withMessages (x .desk) w memory response)) (sym (words-of words z)) ∙ ap (ofMessage x) e
 
 -- row 12 passed
 pub sizes-right : (d : Desk) → length (d .streamMemory) ≡ 16 * stateOn d .setup .room → length (d .messageMemory) ≡ 32768 → 7 ≤ length (d .response) → wrongSizes d ≡ false

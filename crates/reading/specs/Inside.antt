@@ -9,10 +9,11 @@ use Rattle.contexts.specs.Words.{stateWords}
 use Rattle.refusal19.specs.Refusal19.{namedBy19}
 use Rattle.reading.specs.Desk.{Desk, stateOn}
 
--- an answer that refuses and drops nothing
+-- an answer that refuses, drops nothing and writes no response
 pub record Refusal (number : ℕ) (r : Reading) : Type 0 where
   pub answer : said (r .answer) ≡ refused number
   pub drop : r .dropped ≡ false
+  pub silent : r .response ≡ 0
 
 -- rows 19 and 12 passed, the response buffer aside: what a run over many packets keeps
 pub record Fit (d : Desk) : Type 0 where

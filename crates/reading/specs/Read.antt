@@ -6,7 +6,7 @@ use mathlib.Core.Bool.{Bool, false, cond}
 use Rattle.answers.specs.Answers.{Said, said, refused}
 use Rattle.answers.specs.declared.Reading.{Reading}
 use Rattle.tables.specs.Refusals.{Leaves, all, flowClosed, allERROR, allRETRY, Verdict, refuse, accept, verdict}
-use Rattle.responses.specs.Type13.{ERROR, RETRY, answered}
+use Rattle.responses.specs.Type13.{responseSize, ERROR, RETRY, answered}
 use Rattle.contexts.specs.Words.{wordsOf}
 use Rattle.stream_rooms.specs.Placing as streamRoom
 use Rattle.streams.specs.Joining as stream
@@ -15,26 +15,28 @@ use Rattle.messages.specs.Joining.{messageAccepted}
 use Rattle.reading.specs.Desk.{Desk, withStreams, withMessages, withResponse}
 use Rattle.reading.specs.Table.{Lent, stateIn, segmentIn, messageSegmentIn, is9, table}
 
--- the answer, whether this packet closed an open stream context undelivered, and everything lent as it is left
+-- the answer, whether this packet closed an open stream context undelivered, how many bytes of response were written, and everything lent
+-- as it is left
 pub record Left : Type 0 where
   pub says : Said
   pub dropped : Bool
+  pub replied : ℕ
   pub desk : Desk
 
-abbrev pub left : Said → Bool → Desk → Left
-left says dropped desk = record { says = says; dropped = dropped; desk = desk }
+abbrev pub left : Said → Bool → ℕ → Desk → Left
+left says dropped replied desk = record { says = says; dropped = dropped; replied = replied; desk = desk }
 
 -- all of that, the response buffer aside
 abbrev pub butResponse : Left → Left
-butResponse x = left (x .says) (x .dropped) (withResponse (x .desk) [])
+butResponse x = left (x .says) (x .dropped) (x .replied) (withResponse (x .desk) [])
 
 -- what a type 9 packet leaves; message memory and response stay
 abbrev pub ofStream : Lent → streamRoom.Joined → Left
-ofStream x j = left (j .says) (j .dropped) (withStreams (x .desk) (wordsOf (j .state)) (j .memory))
+ofStream x j = left (j .says) (j .dropped) 0 (withStreams (x .desk) (wordsOf (j .state)) (j .memory))
 
 -- what an accepted type 11 packet leaves; the stream memory stays
 abbrev pub ofMessage : Lent → MessageJoined → Left
-ofMessage x j = left (j .says) false (withMessages (x .desk) (wordsOf (j .state)) (j .memory) (j .response))
+ofMessage x j = left (j .says) false responseSize (withMessages (x .desk) (wordsOf (j .state)) (j .memory) (j .response))
 
 -- the desk with a response of that status
 abbrev pub responded : Lent → ℕ → Desk
@@ -42,10 +44,10 @@ responded x status = withResponse (x .desk) (answered (x .desk .response) (x .pa
 
 -- the table's last column
 abbrev pub leaving : Lent → ℕ → Leaves → Left
-leaving x number all = left (refused number) false (x .desk)
+leaving x number all = left (refused number) false 0 (x .desk)
 leaving x number flowClosed = ofStream x (stream.refusedClosing (stateIn x) (x .desk .streamMemory) (segmentIn x) number)
-leaving x number allERROR = left (refused number) false (responded x ERROR)
-leaving x number allRETRY = left (refused number) false (responded x RETRY)
+leaving x number allERROR = left (refused number) false responseSize (responded x ERROR)
+leaving x number allRETRY = left (refused number) false responseSize (responded x RETRY)
 
 -- an accepted packet: of type 9, else of type 11, since row 4 has passed
 abbrev pub accepting : Lent → Left
@@ -64,4 +66,4 @@ reading x = outcome x (verdict (table x))
 
 -- the promise of `read`: the answer, and the desk as it is left
 abbrev pub ReadPromise : Lent → Reading → Desk → Type 0
-ReadPromise x r after = left (said (r .answer)) (r .dropped) after ≡ reading x
+ReadPromise x r after = left (said (r .answer)) (r .dropped) (r .response) after ≡ reading x

@@ -22,6 +22,7 @@ pub fn refused(number: usize) -> Reading
     Reading {
         answer: Answer::Refused(number),
         dropped: false,
+        response: 0,
     }
 }
 
@@ -58,12 +59,21 @@ pub fn step(
     let device = contexts::device(state);
     match wire::parse(packet, device) {
         Parsed::Refused(number) => refused(number),
-        Parsed::Stream(g) => streams::step(state, stream_memory, packet, g),
+        Parsed::Stream(g) => {
+            let told = streams::step(state, stream_memory, packet, g);
+            let answer = told.answer;
+            Reading {
+                answer,
+                dropped: told.dropped,
+                response: 0,
+            }
+        }
         Parsed::Message(m) => {
             let answer = messages::step(state, message_memory, response, packet, m);
             Reading {
                 answer,
                 dropped: false,
+                response: responses::SIZE,
             }
         }
     }

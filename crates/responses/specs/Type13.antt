@@ -6,6 +6,10 @@ use lib.Dec.{ltb}
 use Rattle.lists.specs.Bytes.{byte, written}
 use Rattle.wire.specs.Packet.{header, priority}
 
+-- the bytes of a response
+abbrev pub responseSize : ℕ
+responseSize = header + 2
+
 -- status
 abbrev pub DONE : ℕ
 DONE = 0b0000

@@ -7,7 +7,7 @@ use lib.ListN.{length}
 use lib.Dec.{ltb}
 use Rattle.lists.specs.Bytes.{written}
 use Rattle.answers.specs.declared.Written.{Written}
-use Rattle.answers.specs.Answers.{Said, refused, wrote, saidOfWriter}
+use Rattle.answers.specs.Answers.{WriterSaid, wrote, writeRefused, saidOfWriter}
 use Rattle.tables.specs.Refusals.{Row, row, all, Verdict, refuse, accept, verdict}
 use Rattle.sizes.specs.Sizes.{badMTU}
 use Rattle.cutting.specs.declared.Heading.{Heading}
@@ -25,14 +25,14 @@ writerTable out h mtu pdu k =
 
 -- what the writer says and the output it leaves
 pub record Wrote : Type 0 where
-  pub says : Said
+  pub says : WriterSaid
   pub out : List ℕ
 
-abbrev pub wroteOf : Said → List ℕ → Wrote
+abbrev pub wroteOf : WriterSaid → List ℕ → Wrote
 wroteOf says out = record { says = says; out = out }
 
 abbrev pub wroteBy : List ℕ → List ℕ → Verdict → Wrote
-wroteBy out packet (refuse number leaves) = wroteOf (refused number) out
+wroteBy out packet (refuse number leaves) = wroteOf (writeRefused number) out
 wroteBy out packet accept = wroteOf (wrote (length packet)) (written out 0 packet)
 
 -- success answers the packet's length and changes only its bytes; a refusal changes none

@@ -26,7 +26,7 @@ dataOf p g = take (dataLength g) (drop (g .from) p)
 
 -- the answer and the context once `total` bytes of the PDU are in: an end or single is delivered and frees the context, else the PDU is held
 abbrev pub answerAt : Segment → ℕ → ℕ → ℕ → Said
-answerAt g n stream total = cond (g .ends) (delivered n (g .flow .source) (g .flow .cos) stream total) held
+answerAt g n stream total = cond (g .ends) (delivered n (g .flow) stream total) held
 
 abbrev pub contextAt : Segment → ℕ → ℕ → StreamContext
 contextAt g stream total = cond (g .ends) closedStream (record { live = 1; flow = g .flow; stream = stream; held = total })

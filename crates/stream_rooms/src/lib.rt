@@ -1,6 +1,6 @@
 // What a type 9 segment does to one context and its room: its data stored, the context kept, delivered or closed.
 use answers::Answer;
-use answers::Reading;
+use answers::StreamAnswer;
 use contexts::StreamContext;
 use wire::Flow;
 use wire::Segment;
@@ -27,18 +27,18 @@ pub fn closed() -> StreamContext
 }
 
 // A refusal that closes the flow's context, where it has one. Every caller has tested the state, and `found` is what was found.
-pub fn refused_closing(state: &mut [usize], found: usize, number: usize) -> Reading
+pub fn refused_closing(state: &mut [usize], found: usize, number: usize) -> StreamAnswer
     requires { ⌜ (length (now state) ≡ stateWords) × (found ≤ 16) ⌝ }
     ensures { λ r. ⌜ Closing (stateOf (now (state .entry))) found number (said (r .answer)) (r .dropped) (stateOf (now (state .exit))) ⌝ }
 {
     if found < 16 {
         contexts::put_stream(state, found, closed());
-        return Reading {
+        return StreamAnswer {
             answer: Answer::Refused(number),
             dropped: true,
         };
     }
-    Reading {
+    StreamAnswer {
         answer: Answer::Refused(number),
         dropped: false,
     }
@@ -52,18 +52,17 @@ fn keep(
     stream: usize,
     total: usize,
     dropped: bool,
-) -> Reading
+) -> StreamAnswer
     requires { ⌜ (n < 16) × (length (now state) ≡ stateWords) ⌝ }
     ensures { λ r. ⌜ Kept (stateOf (now (state .entry))) n g stream total dropped (said (r .answer)) (r .dropped) (stateOf (now (state .exit))) ⌝ }
 {
     let flow = g.flow;
     if g.ends {
         contexts::put_stream(state, n, closed());
-        return Reading {
+        return StreamAnswer {
             answer: Answer::Delivered {
                 context: n,
-                source: flow.source,
-                cos: flow.cos,
+                flow,
                 stream,
                 length: total,
             },
@@ -80,7 +79,7 @@ fn keep(
             held: total,
         },
     );
-    Reading {
+    StreamAnswer {
         answer: Answer::Held,
         dropped,
     }
@@ -98,7 +97,7 @@ pub fn place(
     stream: usize,
     count: usize,
     dropped: bool,
-) -> Reading
+) -> StreamAnswer
     requires { ⌜ Ready (now state) (now memory) (now packet) g ⌝ }
     requires { ⌜ Fits (stateOf (now state)) g n base count ⌝ }
     ensures { λ r. ⌜ joining (said (r .answer)) (r .dropped) (stateOf (now (state .exit))) (now (memory .exit)) ≡ placed (stateOf (now (state .entry))) (now (memory .entry)) (now (packet .entry)) g n base stream dropped ⌝ }

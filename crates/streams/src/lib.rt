@@ -1,6 +1,6 @@
 // Type 9 packets from row 6 of the refusal table on, for a state that 19 does not name.
 use answers::Answer;
-use answers::Reading;
+use answers::StreamAnswer;
 use wire::Segment;
 ghost use mathlib.Core.Path.{_≡_};
 ghost use Rattle.answers.specs.Answers.{said};
@@ -18,7 +18,7 @@ fn begin(
     g: Segment,
     found: usize,
     count: usize,
-) -> Reading
+) -> StreamAnswer
     requires { ⌜ Ready (now state) (now memory) (now packet) g ⌝ }
     requires { ⌜ BeginsPDU (stateOf (now state)) g found count ⌝ }
     ensures { λ r. ⌜ joining (said (r .answer)) (r .dropped) (stateOf (now (state .exit))) (now (memory .exit)) ≡ begun (stateOf (now (state .entry))) (now (memory .entry)) (now (packet .entry)) g ⌝ }
@@ -31,7 +31,7 @@ fn begin(
     if free < 16 {
         return stream_rooms::place(state, memory, packet, g, free, 0, stream, count, false);
     }
-    Reading {
+    StreamAnswer {
         answer: Answer::Refused(10),
         dropped: false,
     }
@@ -45,13 +45,13 @@ fn go_on(
     g: Segment,
     found: usize,
     count: usize,
-) -> Reading
+) -> StreamAnswer
     requires { ⌜ Ready (now state) (now memory) (now packet) g ⌝ }
     requires { ⌜ ContinuesPDU (stateOf (now state)) g found count ⌝ }
     ensures { λ r. ⌜ joining (said (r .answer)) (r .dropped) (stateOf (now (state .exit))) (now (memory .exit)) ≡ continued (stateOf (now (state .entry))) (now (memory .entry)) (now (packet .entry)) g ⌝ }
 {
     if 16 <= found {
-        return Reading {
+        return StreamAnswer {
             answer: Answer::Refused(8),
             dropped: false,
         };
@@ -78,7 +78,7 @@ fn go_on(
 }
 
 // A type 9 packet from row 6 on. Every caller has tested the state, the memory's size and the packet's head.
-pub fn step(state: &mut [usize], memory: &mut [u8], packet: &[u8], g: Segment) -> Reading
+pub fn step(state: &mut [usize], memory: &mut [u8], packet: &[u8], g: Segment) -> StreamAnswer
     requires { ⌜ Ready (now state) (now memory) (now packet) g ⌝ }
     ensures { λ r. ⌜ joining (said (r .answer)) (r .dropped) (stateOf (now (state .exit))) (now (memory .exit)) ≡ stepped (stateOf (now (state .entry))) (now (memory .entry)) (now (packet .entry)) g ⌝ }
 {
