@@ -29,13 +29,9 @@ heard-same : (room : ℕ) (memory : List ℕ) (flow : Flow) (says : answers.Said
 heard-same room memory flow says held e = ap (heardOf room memory) e
 heard-same room memory flow says (refused number) e = ap (heardOf room memory) e
 heard-same room memory flow answers.held (delivered p) e = cc
-heard-same room memory flow (answers.delivered context source cos stream size) (delivered p) e = cc
+heard-same room memory flow (answers.delivered context other stream size) (delivered p) e = cc
 heard-same room memory flow (answers.message context source letter mailbox size) (delivered p) e = cc
 heard-same room memory flow (answers.refused number) (delivered p) e = cc
-heard-same room memory flow answers.ready (delivered p) e = cc
-heard-same room memory flow answers.closed (delivered p) e = cc
-heard-same room memory flow answers.free (delivered p) e = cc
-heard-same room memory flow (answers.wrote size) (delivered p) e = cc
 
 module _ (setup : Setup) (flows : List Flow) (Ok : Desk → Type 0) (law : ByFlow setup flows Ok) (flow : Flow) where
   -- what the endpoint answers to a packet

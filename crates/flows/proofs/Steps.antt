@@ -89,7 +89,7 @@ module _ (flows : List Flow) (s : State) (memory p : List ℕ) (g : Segment) (ok
 
       go : (e : Bool)
           → Sim flows s memory g
-          (streamRoom.joining (cond e (answers.delivered n (g .flow .source) (g .flow .cos) streamID (base + dataLength g)) answers.held) dropped
+          (streamRoom.joining (cond e (answers.delivered n (g .flow) streamID (base + dataLength g)) answers.held) dropped
           (withStream s n (cond e closedStream (record { live = 1; flow = g .flow; stream = streamID; held = base + dataLength g })))
           (written memory (n * s .setup .room + base) (streamRoom.dataOf p g)))
           (cond e (flowOutcome none (delivered (pdu streamID (inRoom (s .setup .room) memory n base ++ streamRoom.dataOf p g))) dropped) (flowOutcome (some (pdu streamID (inRoom (s .setup .room) memory n base ++ streamRoom.dataOf p g))) held dropped))

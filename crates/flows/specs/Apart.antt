@@ -41,13 +41,9 @@ flowAnswer heard dropped = record { heard = heard; dropped = dropped }
 -- by the endpoint: a delivered PDU's bytes are those that its room holds at that moment
 abbrev pub heardOf : ℕ → List ℕ → answers.Said → Heard
 heardOf room memory answers.held = holds
-heardOf room memory (answers.delivered context source cos stream size) = delivers (delivery (record { source = source; cos = cos }) (pdu stream (inRoom room memory context size)))
+heardOf room memory (answers.delivered context flow stream size) = delivers (delivery flow (pdu stream (inRoom room memory context size)))
 heardOf room memory (answers.message context source letter mailbox size) = other
 heardOf room memory (answers.refused number) = refuses number
-heardOf room memory answers.ready = other
-heardOf room memory answers.closed = other
-heardOf room memory answers.free = other
-heardOf room memory (answers.wrote size) = other
 
 -- by the one-flow endpoint
 abbrev pub heardAlone : Flow → Told → Heard

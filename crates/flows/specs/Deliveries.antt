@@ -35,15 +35,11 @@ delivery flow p = record { flow = flow; pdu = p }
 
 -- the PDU that an answer delivers, if one: its bytes are those that its room in the stream memory then holds
 abbrev pub deliveredBy : ℕ → List ℕ → answers.Said → List Delivery
-deliveredBy room memory (answers.delivered context source cos stream size) =
-    delivery (record { source = source; cos = cos }) (pdu stream (inRoom room memory context size)) ∷ []
+deliveredBy room memory (answers.delivered context flow stream size) =
+    delivery flow (pdu stream (inRoom room memory context size)) ∷ []
 deliveredBy room memory answers.held = []
 deliveredBy room memory (answers.message context source letter mailbox size) = []
 deliveredBy room memory (answers.refused number) = []
-deliveredBy room memory answers.ready = []
-deliveredBy room memory answers.closed = []
-deliveredBy room memory answers.free = []
-deliveredBy room memory (answers.wrote size) = []
 
 -- of what a call says and leaves
 abbrev pub deliveredOn : Desk → answers.Said → List Delivery

@@ -2,7 +2,7 @@
 use Prim.Native.Nat.{ℕ}
 use mathlib.Core.List.{List, [], _++_}
 use mathlib.Core.Bool.{Bool, cond}
-use Rattle.answers.specs.Answers.{Said, held, delivered, message, refused, ready, closed, free, wrote}
+use Rattle.answers.specs.Answers.{Said, held, delivered, message, refused}
 use Rattle.log_lines.specs.Text.{text}
 use Rattle.log_lines.specs.Decimal.{decimal}
 
@@ -13,14 +13,9 @@ spaced n = text " " ++ decimal n
 -- held, pdu SOURCE COS STREAM LENGTH, msg SOURCE LETTER MAILBOX LENGTH, refused N
 abbrev pub answerText : Said → List ℕ
 answerText held = text "held"
-answerText (delivered context source cos stream size) = text "pdu" ++ spaced source ++ spaced cos ++ spaced stream ++ spaced size
+answerText (delivered context flow stream size) = text "pdu" ++ spaced source ++ spaced cos ++ spaced stream ++ spaced size
 answerText (message context source letter mailbox size) = text "msg" ++ spaced source ++ spaced letter ++ spaced mailbox ++ spaced size
 answerText (refused number) = text "refused" ++ spaced number
--- reading says none of these
-answerText ready = []
-answerText closed = []
-answerText free = []
-answerText (wrote size) = []
 
 -- then ` dropped` where so
 unfoldable pub lineOf : Said → Bool → List ℕ

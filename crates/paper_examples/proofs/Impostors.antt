@@ -5,7 +5,7 @@ use mathlib.Core.List.{List, [], _∷_}
 use native.Mathlib.Omega.{arith}
 use lib.ListN.{length}
 use Rattle.lists.specs.Bytes.{byte}
-use Rattle.answers.specs.Answers.{Said, held, delivered, message, refused, ready, closed, free, wrote}
+use Rattle.answers.specs.Answers.{Said, held, delivered, message, refused}
 use Rattle.segments.specs.Writer.{Wrote}
 use Rattle.flows.specs.Board.{Board, Delivery, deliveredBy, boardLeft, room, inRoom, paperBoard}
 use Rattle.paper_examples.specs.Impostors.{Endpoint, deliveriesBy, one, another, packetsOfPDU, endOf, started, endGets, ReadMeets, HeldOrRefused, SilentBreaks3, SameBreaks2, countMover, CountMoverBreaks2, CountMoverBreaks3, inventor, InventorBreaks2, IdleWriterBreaks2}
@@ -22,12 +22,8 @@ read-meets = (
 nothing-by : (R : ℕ) (memory : List ℕ) (says : Said) → HeldOrRefused says → deliveredBy R memory says ≡ []
 nothing-by R memory held h = refl
 nothing-by R memory (refused number) h = refl
-nothing-by R memory (delivered context source cos stream size) h = absurd h
+nothing-by R memory (delivered context flow stream size) h = absurd h
 nothing-by R memory (message context source letter mailbox size) h = absurd h
-nothing-by R memory ready h = absurd h
-nothing-by R memory closed h = absurd h
-nothing-by R memory free h = absurd h
-nothing-by R memory (wrote size) h = absurd h
 
 nothing : (e : Endpoint) → ((b : Board) (p : List ℕ) → HeldOrRefused (e b p .says)) → (b : Board) (ps : List (List ℕ)) → deliveriesBy e b ps ≡ []
 nothing e h b [] = refl

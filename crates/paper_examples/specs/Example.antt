@@ -6,7 +6,7 @@ use mathlib.Core.Bool.{Bool, true, false, cond, _&&_}
 use lib.ListN.{length}
 use lib.Dec.{eqb}
 use Rattle.lists.specs.Bytes.{byte, word}
-use Rattle.answers.specs.Answers.{Said, held, delivered, message, refused, ready, closed, free, wrote}
+use Rattle.answers.specs.Answers.{Said, held, delivered, message, refused}
 use Rattle.cutting.specs.declared.Heading.{Heading}
 use Rattle.cutting.specs.Cutting.{segmentCount, packetOf}
 use Rattle.flows.specs.Board.{Board, paperBoard, read, after, room, inRoom}
@@ -68,14 +68,10 @@ example number sent lines = record { number = number; sent = sent; lines = lines
 
 -- the bytes that an answer delivers: those that its room holds at that moment
 abbrev pub deliveredBytes : Board → Said → List ℕ
-deliveredBytes b (delivered context source cos stream size) = inRoom (room b) (b .streamMemory) context size
+deliveredBytes b (delivered context flow stream size) = inRoom (room b) (b .streamMemory) context size
 deliveredBytes b (message context source letter mailbox size) = inRoom 4096 (b .messageMemory) context size
 deliveredBytes b held = []
 deliveredBytes b (refused number) = []
-deliveredBytes b ready = []
-deliveredBytes b closed = []
-deliveredBytes b free = []
-deliveredBytes b (wrote size) = []
 
 abbrev pub sameBytes : List ℕ → List ℕ → Bool
 sameBytes [] [] = true

@@ -5,7 +5,7 @@ use mathlib.Core.Path.{_≡_}
 use mathlib.Core.List.{List, [], _∷_, _++_}
 use mathlib.Core.Bool.{cond}
 use lib.ListN.{length, replicate}
-use Rattle.answers.specs.Answers.{Said, held, delivered, message, refused, ready, closed, free, wrote}
+use Rattle.answers.specs.Answers.{Said, held, delivered, message, refused}
 use Rattle.wire.specs.Type9.{isS}
 use Rattle.reading.specs.Read as reading
 use Rattle.cutting.specs.Cutting.{packetOf}
@@ -72,12 +72,8 @@ ReadMeets = Meets read one × Meets read another
 abbrev pub HeldOrRefused : Said → Type 0
 HeldOrRefused held = Unit {0}
 HeldOrRefused (refused number) = Unit {0}
-HeldOrRefused (delivered context source cos stream size) = ⊥
+HeldOrRefused (delivered context flow stream size) = ⊥
 HeldOrRefused (message context source letter mailbox size) = ⊥
-HeldOrRefused ready = ⊥
-HeldOrRefused closed = ⊥
-HeldOrRefused free = ⊥
-HeldOrRefused (wrote size) = ⊥
 
 -- demand 3 wants the whole PDU delivered
 abbrev pub SilentBreaks3 : Type 0
@@ -87,7 +83,7 @@ SilentBreaks3 = (e : Endpoint) → ((b : Board) (p : List ℕ) → HeldOrRefused
 
 -- whatever it delivers, at whatever packet, is answered by the same words
 abbrev pub AlwaysTheSame : Endpoint → Said → Type 0
-AlwaysTheSame e same = (b : Board) (p : List ℕ) (context source cos stream size : ℕ) → e b p .says ≡ delivered context source cos stream size → e b p .says ≡ same
+AlwaysTheSame e same = (b : Board) (p : List ℕ) (context : ℕ) (flow : Flow) (stream size : ℕ) → e b p .says ≡ delivered context flow stream size → e b p .says ≡ same
 
 abbrev pub SameBreaks2 : Type 0
 SameBreaks2 = (e : Endpoint) (same : Said) → AlwaysTheSame e same → ReadsBackPDU e one → ReadsBackPDU e another → ⊥
@@ -109,14 +105,10 @@ CountMoverBreaks3 = DeliversWhole countMover one → ⊥
 -- ---- One that invents the length
 
 abbrev pub resized : Said → ℕ → Said
-resized (delivered context source cos stream size) n = delivered context source cos stream n
+resized (delivered context flow stream size) n = delivered context source cos stream n
 resized held n = held
 resized (message context source letter mailbox size) n = message context source letter mailbox size
 resized (refused number) n = refused number
-resized ready n = ready
-resized closed n = closed
-resized free n = free
-resized (wrote size) n = wrote size
 
 -- all is right but the length of what is delivered, which it takes from anywhere
 abbrev pub inventor : (Board → List ℕ → ℕ) → Endpoint

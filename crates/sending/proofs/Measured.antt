@@ -13,6 +13,7 @@ use Rattle.lists.specs.Bytes.{written}
 use Rattle.answers.specs.Answers as answers
 use Rattle.tables.specs.Refusals.{Leaves, all, flowClosed, allERROR, allRETRY, Verdict, refuse, accept, verdict, none}
 use Rattle.tables.proofs.Exactly.{none-held}
+use Rattle.wire.specs.declared.Flow.{Flow}
 use Rattle.wire.specs.declared.Segment.{Segment}
 use Rattle.wire.specs.declared.MessageSegment.{MessageSegment}
 use Rattle.wire.specs.Type11.{isSingle, mailbox}
@@ -34,16 +35,16 @@ use Rattle.sending.specs.OfSendings.{LengthIsMeasured}
 
 -- the answer is no delivery
 abbrev NoDelivery : answers.Said → Type 0
-NoDelivery says = (context source cos stream size : ℕ) → says ≡ answers.delivered context source cos stream size → ⊥
+NoDelivery says = (context : ℕ) (flow : Flow) (stream size : ℕ) → says ≡ answers.delivered context flow stream size → ⊥
 
 refused-none : (number : ℕ) → NoDelivery (answers.refused number)
-refused-none number context source cos stream size e = let z : _≡_ {A = ℕ} 0 1 = cc in omega arith
+refused-none number context flow stream size e = let z : _≡_ {A = ℕ} 0 1 = cc in omega arith
 
 held-none : NoDelivery answers.held
-held-none context source cos stream size e = let z : _≡_ {A = ℕ} 0 1 = cc in omega arith
+held-none context flow stream size e = let z : _≡_ {A = ℕ} 0 1 = cc in omega arith
 
 message-none : (n s l m z : ℕ) → NoDelivery (answers.message n s l m z)
-message-none n s l m z context source cos stream size e = let w : _≡_ {A = ℕ} 0 1 = cc in omega arith
+message-none n s l m z context flow stream size e = let w : _≡_ {A = ℕ} 0 1 = cc in omega arith
 
 -- refused, nothing is delivered
 leaving-none : (x : Lent) (number : ℕ) (leaves : Leaves) → NoDelivery (leaving x number leaves .says)
@@ -89,11 +90,11 @@ record Placeable (s : State) (memory : List ℕ) (g : Segment) : Type 0 where
   context : stream.contextFor s g < 16
   fits : total s g ≤ s .setup .room
 
-measured-stream : (s : State) (memory p : List ℕ) (g : Segment) → Placeable s memory g → (context source cos st size : ℕ)
-    → stream.accepted s memory p g .says ≡ answers.delivered context source cos st size
+measured-stream : (s : State) (memory p : List ℕ) (g : Segment) → Placeable s memory g → (context : ℕ) (flow : Flow) (st size : ℕ)
+    → stream.accepted s memory p g .says ≡ answers.delivered context flow st size
     → length (inRoom (s .setup .room) (stream.accepted s memory p g .memory) context size) ≡ size
 unfolding stream.accepted placing.placed
-measured-stream s memory p g ok context source cos st size = go (g .ends)
+measured-stream s memory p g ok context flow st size = go (g .ends)
   where
     n : ℕ
     n = stream.contextFor s g
@@ -107,13 +108,13 @@ measured-stream s memory p g ok context source cos st size = go (g .ends)
         let long : length memory ≤ length stored = length-written-ge memory (placing.dataOf p g) (n * s .setup .room + heldBefore s g) (omega (arith, ok .fits, ok .size)) in
         length-inside stored (n * s .setup .room) size (omega (arith, ok .fits, ok .size))
 
-    go : (t : Bool) → cond t (answers.delivered n (g .flow .source) (g .flow .cos) (stream.streamID s g) (total s g)) answers.held ≡ answers.delivered context source cos st size
+    go : (t : Bool) → cond t (answers.delivered n (g .flow) (stream.streamID s g) (total s g)) answers.held ≡ answers.delivered context flow st size
         → length (inRoom (s .setup .room) stored context size) ≡ size
     go true e =
         let c : n ≡ context = cc in
         let z : total s g ≡ size = cc in
         subst (λ (j : ℕ). length (inRoom (s .setup .room) stored j size) ≡ size) c (inside size (sym z))
-    go false e = absurd (held-none context source cos st size e)
+    go false e = absurd (held-none context flow st size e)
 
 -- ---- The rows
 
@@ -140,7 +141,7 @@ below-16 s g e8 e10 = go (g .begins) (flowOpen s g) refl e8 e10
 
 pub length-is-measured : LengthIsMeasured
 unfolding reading
-length-is-measured b p context source cos st size = by-verdict (verdict (table x)) refl
+length-is-measured b p context flow st size = by-verdict (verdict (table x)) refl
   where
     x : Lent
     x = lent b p
@@ -155,14 +156,14 @@ length-is-measured b p context source cos st size = by-verdict (verdict (table x
     by-type : (t : Bool) → is9 x ≡ t → none (table x)
         → (cond t
         (ofStream x (stream.accepted (stateIn x) (b .streamMemory) p (segmentIn x)))
-        (ofMessage x (message.messageAccepted (stateIn x) (b .messageMemory) (b .response) p (messageSegmentIn x)))) .says ≡ answers.delivered context source cos st size
+        (ofMessage x (message.messageAccepted (stateIn x) (b .messageMemory) (b .response) p (messageSegmentIn x)))) .says ≡ answers.delivered context flow st size
         → length (inRoom (stateIn x .setup .room) ((cond t
         (ofStream x (stream.accepted (stateIn x) (b .streamMemory) p (segmentIn x)))
         (ofMessage x (message.messageAccepted (stateIn x) (b .messageMemory) (b .response) p (messageSegmentIn x)))) .desk .streamMemory) context size) ≡ size
-    by-type true nine rows e = measured-stream (stateIn x) (b .streamMemory) p (segmentIn x) (placeable nine rows) context source cos st size e
-    by-type false nine rows e = absurd (messages-none (stateIn x) (b .messageMemory) (b .response) p (messageSegmentIn x) context source cos st size e)
+    by-type true nine rows e = measured-stream (stateIn x) (b .streamMemory) p (segmentIn x) (placeable nine rows) context flow st size e
+    by-type false nine rows e = absurd (messages-none (stateIn x) (b .messageMemory) (b .response) p (messageSegmentIn x) context flow st size e)
 
-    by-verdict : (v : Verdict) → verdict (table x) ≡ v → outcome x v .says ≡ answers.delivered context source cos st size
+    by-verdict : (v : Verdict) → verdict (table x) ≡ v → outcome x v .says ≡ answers.delivered context flow st size
         → length (inRoom (stateIn x .setup .room) (outcome x v .desk .streamMemory) context size) ≡ size
-    by-verdict (refuse number leaves) e d = absurd (leaving-none x number leaves context source cos st size d)
+    by-verdict (refuse number leaves) e d = absurd (leaving-none x number leaves context flow st size d)
     by-verdict accept e d = by-type (is9 x) refl (none-held (table x) e) d

@@ -1,6 +1,6 @@
 -- One PDU alone, read back: before packet k the flow has the first k MTU bytes.
 use Prim.Native.Nat.{ℕ, zero, suc, _*_, _<_}
-use mathlib.Core.Path.{_≡_, sym, ap, _∙_, subst}
+use mathlib.Core.Path.{_≡_, sym, ap, ap₂, _∙_, subst}
 use mathlib.Core.List.{List, [], _∷_}
 use mathlib.Core.Bool.{Bool, false}
 use mathlib.Core.Option.{Option, none, some}
@@ -30,45 +30,35 @@ module _ (R : ℕ) (memory : List ℕ) (flow : Flow) (p : PDU) where
   record Numbers (says : answers.Said) : Type 0 where
     context : ℕ
     size : ℕ
-    answer : says ≡ answers.delivered context (flow .source) (flow .cos) (p .stream) size
+    answer : says ≡ answers.delivered context flow (p .stream) size
     holds : inRoom R memory context size ≡ p .bytes
 
   nothing : {A : Type 0} → _≡_ {A = List Delivery} [] (delivery flow p ∷ []) → A
   nothing e = absurd (let z : _≡_ {A = ℕ} 0 1 = cc in omega arith)
 
   numbers : (says : answers.Said) → deliveredBy R memory says ≡ delivery flow p ∷ [] → Numbers says
-  numbers (answers.delivered context source cos stream size) e =
-      let d : delivery (record { source = source; cos = cos }) (pdu stream (inRoom R memory context size)) ≡ delivery flow p = cc in
-      let es : source ≡ flow .source = ap (λ (x : Delivery). x .flow .source) d in
-      let ec : cos ≡ flow .cos = ap (λ (x : Delivery). x .flow .cos) d in
-      let et : stream ≡ p .stream = ap (λ (x : Delivery). x .pdu .stream) d in
+  numbers (answers.delivered context other stream size) e =
+      let d : delivery other (pdu stream (inRoom R memory context size)) ≡ delivery flow p = cc in
       record {
         context = context;
         size = size;
-        answer = make source (flow .source) cos (flow .cos) stream (p .stream) es ec et;
+        answer = ap₂ (λ (f : Flow) (t : ℕ). answers.delivered context f t size) (ap (λ (x : Delivery). x .flow) d) (ap (λ (x : Delivery). x .pdu .stream) d);
         holds = ap (λ (x : Delivery). x .pdu .bytes) d;
       }
-    where
-      make : (s s′ c c′ t t′ : ℕ) → s ≡ s′ → c ≡ c′ → t ≡ t′ → answers.delivered context s c t size ≡ answers.delivered context s′ c′ t′ size
-      make s s′ c c′ t t′ x y z = rw (x, y, z)
   numbers answers.held e = nothing e
   numbers (answers.message context source letter mailbox size) e = nothing e
   numbers (answers.refused number) e = nothing e
-  numbers answers.ready e = nothing e
-  numbers answers.closed e = nothing e
-  numbers answers.free e = nothing e
-  numbers (answers.wrote size) e = nothing e
 
 -- the same with the length, which is that of the bytes
 hands-back : (R : ℕ) (flow : Flow) (p : PDU) (b : Desk) (says : answers.Said)
-    → ((context source cos stream size : ℕ) → says ≡ answers.delivered context source cos stream size → length (inRoom R (b .streamMemory) context size) ≡ size)
+    → ((context : ℕ) (flow : Flow) (stream size : ℕ) → says ≡ answers.delivered context flow stream size → length (inRoom R (b .streamMemory) context size) ≡ size)
     → deliveredBy R (b .streamMemory) says ≡ delivery flow p ∷ [] → HandsBack R flow p b says
 hands-back R flow p b says measured e =
     let n = numbers R (b .streamMemory) flow p says e in
-    let size-is : n .size ≡ length (p .bytes) = sym (measured (n .context) (flow .source) (flow .cos) (p .stream) (n .size) (n .answer)) ∙ ap length (n .holds) in
+    let size-is : n .size ≡ length (p .bytes) = sym (measured (n .context) flow (p .stream) (n .size) (n .answer)) ∙ ap length (n .holds) in
     record {
       context = n .context;
-      answer = n .answer ∙ ap (answers.delivered (n .context) (flow .source) (flow .cos) (p .stream)) size-is;
+      answer = n .answer ∙ ap (answers.delivered (n .context) flow (p .stream)) size-is;
       holds = ap (inRoom R (b .streamMemory) (n .context)) (sym size-is) ∙ n .holds;
     }
 
@@ -135,9 +125,9 @@ module _ (setup : Setup) (flow : Flow) (s : Sent) (b : Desk) (ranges : Ranges se
     each = λ k h. tells-at k held (omega arith) (ap (λ (x : FlowOutcome). x .told) (step-inner k h .1));
     last = λ k e.
         hands-back (setup .room) flow (s .pdu) (deskAt setup flow s b (suc k)) _
-        (λ context source cos stream size e′.
+        (λ context other stream size e′.
         ap (λ (r : ℕ). length (inRoom r (deskAt setup flow s b (suc k) .streamMemory) context size)) (sym (begins .own-R (deskAt setup flow s b k) (reached k (omega arith) .ok)))
-        ∙ length-is-measured (deskAt setup flow s b k) (packetAt setup flow s k) context source cos stream size e′)
+        ∙ length-is-measured (deskAt setup flow s b k) (packetAt setup flow s k) context other stream size e′)
         (tells-at k (delivered (s .pdu)) (omega arith) (step-last k e));
   }
 

@@ -70,16 +70,16 @@ abbrev pub deskAt : Setup → Flow → Sent → Desk → ℕ → Desk
 deskAt setup flow s b zero = b
 deskAt setup flow s b (suc k) = after (deskAt setup flow s b k) (packetAt setup flow s k)
 
--- delivered from some context: source, cos, streamID and length, and the room then holds exactly the PDU's bytes
+-- delivered from some context: flow, streamID and length, and the room then holds exactly the PDU's bytes
 pub record HandsBack (R : ℕ) (flow : Flow) (p : PDU) (b : Desk) (says : Said) : Type 0 where
   pub context : ℕ
-  pub answer : says ≡ delivered context (flow .source) (flow .cos) (p .stream) (length (p .bytes))
+  pub answer : says ≡ delivered context flow (p .stream) (length (p .bytes))
   pub holds : inRoom R (b .streamMemory) context (length (p .bytes)) ≡ p .bytes
 
 -- the length in an answer is that of the bytes that lie in its room: it reaches past no memory, whatever the desk
 abbrev pub LengthIsMeasured : Type 0
 LengthIsMeasured =
-    (b : Desk) (p : List ℕ) (context source cos stream size : ℕ) → read b p .says ≡ delivered context source cos stream size
+    (b : Desk) (p : List ℕ) (context : ℕ) (flow : Flow) (stream size : ℕ) → read b p .says ≡ delivered context flow stream size
     → length (inRoom (stateOn b .setup .room) (after b p .streamMemory) context size) ≡ size
 
 -- one PDU alone: every packet but the last is held, and the last delivers the PDU
