@@ -13,7 +13,7 @@ spaced n = text " " ++ decimal n
 -- held, pdu SOURCE COS STREAM LENGTH, msg SOURCE LETTER MAILBOX LENGTH, refused N
 abbrev pub answerText : Said → List ℕ
 answerText held = text "held"
-answerText (delivered context flow stream size) = text "pdu" ++ spaced source ++ spaced cos ++ spaced stream ++ spaced size
+answerText (delivered context flow stream size) = text "pdu" ++ spaced (flow .source) ++ spaced (flow .cos) ++ spaced stream ++ spaced size
 answerText (message context source letter mailbox size) = text "msg" ++ spaced source ++ spaced letter ++ spaced mailbox ++ spaced size
 answerText (refused number) = text "refused" ++ spaced number
 

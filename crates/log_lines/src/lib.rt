@@ -75,11 +75,10 @@ fn put_answer(out: &mut [u8], answer: Answer) -> usize
         Answer::Held => put_text(out, 0, b"held"),
         Answer::Delivered {
             context: _,
-            source,
-            cos,
+            flow,
             stream,
             length,
-        } => put_four(out, b"pdu", source, cos, stream, length),
+        } => put_four(out, b"pdu", flow.source, flow.cos, stream, length),
         Answer::Message {
             context: _,
             source,
