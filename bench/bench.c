@@ -1,6 +1,6 @@
 /* One kind of traffic through one endpoint, a number of times: bench TRAFFIC ENDPOINT ROUNDS.
- * The packets are made once. A round reads them all and leaves every context closed, so rounds are alike,
- * and the instructions of two runs of N and 2 N rounds differ by exactly N rounds.
+ * The packets are made once. A round reads them all and leaves every context closed, so rounds are
+ * alike, and the instructions of two runs of N and 2 N rounds differ by exactly N rounds.
  * Prints packets and payload bytes of a round, the rounds, and nanoseconds for a packet. */
 #include "kaiverohm.h"
 #include "twin.h"
@@ -172,7 +172,8 @@ static void same(int holds, const char *what, size_t packet)
     exit(1);
 }
 
-/* Library and twin give the same answers, and leave the same states, responses and memories. So does the burst call. */
+/* Library and twin give the same answers, and leave the same states, responses and memories.
+   So does the burst call. */
 static void agree(void)
 {
     static uint8_t twin_streams[sizeof streams], twin_messages[sizeof messages],

@@ -593,7 +593,8 @@ static void print_rows_of(const char *kind)
 }
 
 static const char *flip_head =
-    "| packet | field | answers to it | runs | right | lost | another hurt | left open | wrong | past the number | past all checks |";
+    "| packet | field | answers to it | runs | right | lost | another hurt | left open | wrong "
+    "| past the number | past all checks |";
 
 static void print_total(void)
 {
@@ -957,7 +958,8 @@ static void print_fault_rows(const char *what, const char *kind)
 }
 
 static const char *fault_head =
-    "| fault | packet | where | runs | right | lost | twice | wrong | of these quiet | past the number | past all checks |";
+    "| fault | packet | where | runs | right | lost | twice | wrong | of these quiet "
+    "| past the number | past all checks |";
 
 static void faults(bool messages)
 {
@@ -1101,8 +1103,8 @@ static void print_size_rows(const char *kind)
     }
 }
 
-static const char *size_head =
-    "| packet | made | by | answers to it | runs | right | lost | wrong | past the number | past all checks |";
+static const char *size_head = "| packet | made | by | answers to it | runs | right | lost | wrong "
+                               "| past the number | past all checks |";
 
 static void sizes(bool messages)
 {
