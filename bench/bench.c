@@ -122,9 +122,9 @@ static void round_single(void)
 
 static void round_burst(void)
 {
-    struct kaiverohm_burst b = kaiverohm_read_burst(state, STATE, streams, 16 * ROOM, messages,
-                                                    32768, responses, sizeof responses, reports,
-                                                    PACKETS * 9, burst, burst_length, 0);
+    struct kaiverohm_burst b =
+        kaiverohm_read_burst(state, STATE, streams, 16 * ROOM, messages, 32768, responses,
+                             sizeof responses, reports, PACKETS * 9, burst, burst_length, 0);
     sum += b.count;
 }
 
@@ -205,9 +205,9 @@ static void agree(void)
     same(memcmp(streams, twin_streams, sizeof streams) == 0, "stream memories", count);
     same(memcmp(messages, twin_messages, sizeof messages) == 0, "message memories", count);
 
-    struct kaiverohm_burst b = kaiverohm_read_burst(state, STATE, streams, 16 * ROOM, messages,
-                                                    32768, responses, sizeof responses, reports,
-                                                    PACKETS * 9, burst, burst_length, 0);
+    struct kaiverohm_burst b =
+        kaiverohm_read_burst(state, STATE, streams, 16 * ROOM, messages, 32768, responses,
+                             sizeof responses, reports, PACKETS * 9, burst, burst_length, 0);
     same(b.stop == KAIVEROHM_BURST_END && b.count == count, "bursts", b.count);
     same(memcmp(reports, answers, count * sizeof answers[0]) == 0, "reports of a burst", count);
     same(memcmp(state, &twin, sizeof twin) == 0, "states behind a burst", count);

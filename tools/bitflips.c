@@ -798,8 +798,8 @@ static void move(const char *what, bool messages, unsigned from, unsigned behind
     }
     bool wrong = fault(moved_name(what, messages, from, behind, copy), order, n, watch);
     const struct packet *p = &flow_packets[from];
-    bool inside = behind + 1 < flow_count
-                  && flow_packets[behind + 1].sent == flow_packets[behind].sent;
+    bool inside =
+        behind + 1 < flow_count && flow_packets[behind + 1].sent == flow_packets[behind].sent;
     if (!messages && inside && flow_packets[behind].sent != p->sent)
         claim_joined(p, packets_in(p->sent), behind, wrong);
 }
