@@ -1,6 +1,6 @@
 /* One kind of traffic through one endpoint, a number of times: bench TRAFFIC ENDPOINT ROUNDS.
- * The packets are made once. A round reads them all and leaves every context closed, so rounds are alike,
- * and the instructions of two runs of N and 2 N rounds differ by exactly N rounds.
+ * The packets are made once. A round reads them all and leaves every context closed, so rounds are
+ * alike, and the instructions of two runs of N and 2 N rounds differ by exactly N rounds.
  * Prints packets and payload bytes of a round, the rounds, and nanoseconds for a packet. */
 #include "kaiverohm.h"
 #include "twin.h"
@@ -122,9 +122,9 @@ static void round_single(void)
 
 static void round_burst(void)
 {
-    struct kaiverohm_burst b = kaiverohm_read_burst(state, STATE, streams, 16 * ROOM, messages,
-                                                    32768, responses, sizeof responses, reports,
-                                                    PACKETS * 9, burst, burst_length, 0);
+    struct kaiverohm_burst b =
+        kaiverohm_read_burst(state, STATE, streams, 16 * ROOM, messages, 32768, responses,
+                             sizeof responses, reports, PACKETS * 9, burst, burst_length, 0);
     sum += b.count;
 }
 
@@ -172,7 +172,8 @@ static void same(int holds, const char *what, size_t packet)
     exit(1);
 }
 
-/* Library and twin give the same answers, and leave the same states, responses and memories. So does the burst call. */
+/* Library and twin give the same answers, and leave the same states, responses and memories.
+   So does the burst call. */
 static void agree(void)
 {
     static uint8_t twin_streams[sizeof streams], twin_messages[sizeof messages],
@@ -204,9 +205,9 @@ static void agree(void)
     same(memcmp(streams, twin_streams, sizeof streams) == 0, "stream memories", count);
     same(memcmp(messages, twin_messages, sizeof messages) == 0, "message memories", count);
 
-    struct kaiverohm_burst b = kaiverohm_read_burst(state, STATE, streams, 16 * ROOM, messages,
-                                                    32768, responses, sizeof responses, reports,
-                                                    PACKETS * 9, burst, burst_length, 0);
+    struct kaiverohm_burst b =
+        kaiverohm_read_burst(state, STATE, streams, 16 * ROOM, messages, 32768, responses,
+                             sizeof responses, reports, PACKETS * 9, burst, burst_length, 0);
     same(b.stop == KAIVEROHM_BURST_END && b.count == count, "bursts", b.count);
     same(memcmp(reports, answers, count * sizeof answers[0]) == 0, "reports of a burst", count);
     same(memcmp(state, &twin, sizeof twin) == 0, "states behind a burst", count);

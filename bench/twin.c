@@ -138,6 +138,13 @@ static inline struct twin_report answered(uint8_t *response, const uint8_t *p, u
     return refused(number, false);
 }
 
+static inline struct twin_report whole_message(struct twin *t, int n, uint64_t source,
+                                               uint64_t letter, uint64_t mailbox, uint64_t length)
+{
+    t->messages[n] = (struct twin_message){ 0 };
+    return (struct twin_report){ TWIN_MESSAGE, 0, 0, n, source, letter, mailbox, length };
+}
+
 static inline struct twin_report read_message(struct twin *t, uint8_t *memory, uint8_t *response,
                                               const uint8_t *p, size_t length)
 {
@@ -176,19 +183,14 @@ static inline struct twin_report read_message(struct twin *t, uint8_t *memory, u
     respond(response, p, 0);
     if (msglen == 0) {
         memcpy(memory + n * 4096, p + 7, raw);
-        t->messages[n] = (struct twin_message){ 0 };
-        return (
-            struct twin_report){ TWIN_MESSAGE, 0, 0, n, source, letter, 4 * msgseg + mbox, raw };
+        return whole_message(t, n, source, letter, 4 * msgseg + mbox, raw);
     }
     memcpy(memory + n * 4096 + msgseg * size, p + 7, raw);
     m.marks |= 1u << msgseg;
     if (last)
         m.last = raw;
-    if (m.marks == (2u << msglen) - 1) {
-        t->messages[n] = (struct twin_message){ 0 };
-        return (struct twin_report){ TWIN_MESSAGE, 0,      0,    n,
-                                     source,       letter, mbox, msglen * size + m.last };
-    }
+    if (m.marks == (2u << msglen) - 1)
+        return whole_message(t, n, source, letter, mbox, msglen * size + m.last);
     t->messages[n] = m;
     return (struct twin_report){ .kind = TWIN_HELD };
 }

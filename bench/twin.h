@@ -1,5 +1,5 @@
-/* A plain C twin of the endpoint, for the benchmark alone: the same checks and the same results, written for speed.
- * Nothing is proved of it. The state is a struct that is changed in place. */
+/* A plain C twin of the endpoint, for the benchmark alone: the same checks and the same results,
+ * written for speed. Nothing is proved of it. The state is a struct that is changed in place. */
 #ifndef TWIN_H
 #define TWIN_H
 

@@ -24,9 +24,9 @@ static void print_part(const uint8_t *memory, struct kaiverohm_place place)
 /* What a board does with a packet that came. Answers whether it was accepted. */
 static int packet_came(const uint8_t *packet, size_t length)
 {
-    struct kaiverohm_report report = kaiverohm_read(state, KAIVEROHM_STATE_WORDS, streams,
-                                                    sizeof streams, messages, sizeof messages,
-                                                    response, sizeof response, packet, length);
+    struct kaiverohm_report report =
+        kaiverohm_read(state, KAIVEROHM_STATE_WORDS, streams, sizeof streams, messages,
+                       sizeof messages, response, sizeof response, packet, length);
 
     switch (report.kind) {
     case KAIVEROHM_HELD: printf("held\n"); break;

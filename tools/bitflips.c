@@ -593,7 +593,8 @@ static void print_rows_of(const char *kind)
 }
 
 static const char *flip_head =
-    "| packet | field | answers to it | runs | right | lost | another hurt | left open | wrong | past the number | past all checks |";
+    "| packet | field | answers to it | runs | right | lost | another hurt | left open | wrong "
+    "| past the number | past all checks |";
 
 static void print_total(void)
 {
@@ -797,8 +798,8 @@ static void move(const char *what, bool messages, unsigned from, unsigned behind
     }
     bool wrong = fault(moved_name(what, messages, from, behind, copy), order, n, watch);
     const struct packet *p = &flow_packets[from];
-    bool inside = behind + 1 < flow_count
-                  && flow_packets[behind + 1].sent == flow_packets[behind].sent;
+    bool inside =
+        behind + 1 < flow_count && flow_packets[behind + 1].sent == flow_packets[behind].sent;
     if (!messages && inside && flow_packets[behind].sent != p->sent)
         claim_joined(p, packets_in(p->sent), behind, wrong);
 }
@@ -957,7 +958,8 @@ static void print_fault_rows(const char *what, const char *kind)
 }
 
 static const char *fault_head =
-    "| fault | packet | where | runs | right | lost | twice | wrong | of these quiet | past the number | past all checks |";
+    "| fault | packet | where | runs | right | lost | twice | wrong | of these quiet "
+    "| past the number | past all checks |";
 
 static void faults(bool messages)
 {
@@ -1101,8 +1103,8 @@ static void print_size_rows(const char *kind)
     }
 }
 
-static const char *size_head =
-    "| packet | made | by | answers to it | runs | right | lost | wrong | past the number | past all checks |";
+static const char *size_head = "| packet | made | by | answers to it | runs | right | lost | wrong "
+                               "| past the number | past all checks |";
 
 static void sizes(bool messages)
 {

@@ -330,8 +330,8 @@ static size_t stream_packet(uint8_t *packet, uint64_t mtu, uint64_t room)
         s->heading.cos = (uint8_t)((s - sendings) / 5);
         s->heading.stream = (uint16_t)draw();
         s->heading.priority = (uint8_t)below(4);
-        s->length = one_in(8) ? 1 + below(sizeof s->pdu)
-                              : 1 + below(room < 4 * mtu ? room : 4 * mtu);
+        s->length =
+            one_in(8) ? 1 + below(sizeof s->pdu) : 1 + below(room < 4 * mtu ? room : 4 * mtu);
         if (s->length > sizeof s->pdu)
             s->length = sizeof s->pdu;
         scatter(s->pdu, s->length);
@@ -507,9 +507,9 @@ static void read_one(struct board *b, struct lengths l, const uint8_t *packet, s
         memset(b->second_response, 0, 16);
     }
     memcpy(b->packet.bytes, packet, length);
-    struct kaiverohm_report here = kaiverohm_read(words(b), l.words, b->streams.bytes, l.streams,
-                                                  b->messages.bytes, l.messages, b->response.bytes,
-                                                  l.response, b->packet.bytes, length);
+    struct kaiverohm_report here =
+        kaiverohm_read(words(b), l.words, b->streams.bytes, l.streams, b->messages.bytes,
+                       l.messages, b->response.bytes, l.response, b->packet.bytes, length);
     struct second_answer there = second_reads(b, l, b->second_response, packet, length);
     packets++;
     same_report(&here, there, packet, length, clear && l.response >= 7, b->response.bytes);
