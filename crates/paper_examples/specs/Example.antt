@@ -7,9 +7,12 @@ use lib.ListN.{length}
 use lib.Dec.{eqb}
 use Rattle.lists.specs.Bytes.{byte, word}
 use Rattle.answers.specs.Answers.{Said, held, delivered, message, refused}
+use Rattle.wire.specs.Packet.{header}
 use Rattle.cutting.specs.declared.Heading.{Heading}
 use Rattle.cutting.specs.Cutting.{segmentCount, packetOf}
-use Rattle.flows.specs.Board.{Board, paperBoard, read, after, room, inRoom}
+use Rattle.reading.specs.Desk.{Desk, stateOn}
+use Rattle.flows.specs.Fresh.{paperDesk}
+use Rattle.flows.specs.Deliveries.{read, after, inRoom}
 
 -- ---- What is sent
 
@@ -67,11 +70,11 @@ example number sent lines = record { number = number; sent = sent; lines = lines
 -- ---- What is computed
 
 -- the bytes that an answer delivers: those that its room holds at that moment
-abbrev pub deliveredBytes : Board → Said → List ℕ
-deliveredBytes b (delivered context flow stream size) = inRoom (room b) (b .streamMemory) context size
-deliveredBytes b (message context source letter mailbox size) = inRoom 4096 (b .messageMemory) context size
-deliveredBytes b held = []
-deliveredBytes b (refused number) = []
+abbrev pub deliveredBytes : Desk → Said → List ℕ
+deliveredBytes d (delivered context flow stream size) = inRoom (stateOn d .setup .room) (d .streamMemory) context size
+deliveredBytes d (message context source letter mailbox size) = inRoom 4096 (d .messageMemory) context size
+deliveredBytes d held = []
+deliveredBytes d (refused number) = []
 
 abbrev pub sameBytes : List ℕ → List ℕ → Bool
 sameBytes [] [] = true
@@ -79,24 +82,24 @@ sameBytes [] (y ∷ ys) = false
 sameBytes (x ∷ xs) [] = false
 sameBytes (x ∷ xs) (y ∷ ys) = eqb x y && sameBytes xs ys
 
--- a fact of the same kind, as it is for this packet at this board
-abbrev pub found : Board → List ℕ → Fact → Fact
-found b p (hasBytes n) = hasBytes (length p)
-found b p (byte6 n) = byte6 (byte p 6)
-found b p (lengthField n) = lengthField (word p 7)
-found b p (delivers bytes) = delivers (deliveredBytes (after b p) (read b p .says))
-found b p (deliversNot bytes) = cond (sameBytes (deliveredBytes (after b p) (read b p .says)) bytes) (delivers bytes) (deliversNot bytes)
-found b p (response bytes) = response (after b p .response)
+-- a fact of the same kind, as it is for this packet at this desk
+abbrev pub found : Desk → List ℕ → Fact → Fact
+found d p (hasBytes n) = hasBytes (length p)
+found d p (byte6 n) = byte6 (byte p (header + 1))
+found d p (lengthField n) = lengthField (word p (header + 2))
+found d p (delivers bytes) = delivers (deliveredBytes (after d p) (read d p .says))
+found d p (deliversNot bytes) = cond (sameBytes (deliveredBytes (after d p) (read d p .says)) bytes) (delivers bytes) (deliversNot bytes)
+found d p (response bytes) = response (after d p .response)
 
 -- the lines as they are for these packets, each read with what the one before left. Where there are more packets than lines, a line too many
-abbrev pub computed : Board → List (List ℕ) → List Line → List Line
-computed b [] lines = []
-computed b (p ∷ ps) [] = lost ∷ []
-computed b (p ∷ ps) (lost ∷ lines) = lost ∷ computed b ps lines
-computed b (p ∷ ps) (arrives says dropped facts ∷ lines) = arrives (read b p .says) (read b p .dropped) (map (found b p) facts) ∷ computed (after b p) ps lines
+abbrev pub computed : Desk → List (List ℕ) → List Line → List Line
+computed d [] lines = []
+computed d (p ∷ ps) [] = lost ∷ []
+computed d (p ∷ ps) (lost ∷ lines) = lost ∷ computed d ps lines
+computed d (p ∷ ps) (arrives says dropped facts ∷ lines) = arrives (read d p .says) (read d p .dropped) (map (found d p) facts) ∷ computed (after d p) ps lines
 
 -- ---- What is stated
 
 -- an example comes out as it says
 abbrev pub Holds : Example → Type 0
-Holds e = computed paperBoard (e .sent) (e .lines) ≡ e .lines
+Holds e = computed paperDesk (e .sent) (e .lines) ≡ e .lines

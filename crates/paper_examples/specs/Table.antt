@@ -3,10 +3,15 @@ use Prim.Native.Nat.{ℕ, zero, suc}
 use mathlib.Core.List.{List, [], _∷_, _++_}
 use lib.ListN.{take, drop, replicate}
 use Rattle.answers.specs.Answers.{held, delivered, message, refused}
+use Rattle.wire.specs.declared.Flow.{Flow}
 use Rattle.cutting.specs.declared.Heading.{Heading}
 use Rattle.cutting.specs.Cutting.{packetOf}
 use Rattle.lists.specs.Each.{Each}
 use Rattle.paper_examples.specs.Example.{counting, cut, Fact, hasBytes, byte6, lengthField, delivers, deliversNot, response, lost, gets, getsDropped, Example, example, Holds}
+
+-- the flow of a source: cos 5
+abbrev pub sourceOf : ℕ → Flow
+sourceOf source = record { source = source; cos = 5 }
 
 -- to device 1, cos 5, priority 0
 abbrev pub heading : (source stream : ℕ) → Heading
@@ -57,29 +62,29 @@ respondsDONE b = response (0x5D ∷ 0x00 ∷ 0x02 ∷ 0x00 ∷ 0x01 ∷ 0x10 ∷
 abbrev pub respondsERROR : (byte6 : ℕ) → Fact
 respondsERROR b = response (0x5D ∷ 0x00 ∷ 0x02 ∷ 0x00 ∷ 0x01 ∷ 0x17 ∷ b ∷ [])
 
--- A row: the number, the packets that are sent, and for each what it gets. `delivered` has context, source, cos, streamID, length; `message` has
+-- A row: the number, the packets that are sent, and for each what it gets. `delivered` has context, flow, streamID, length; `message` has
 -- context, source, letter, mailbox, length.
 abbrev pub examples : List Example
 examples =
     -- L=32: one packet of 41 bytes.
-    example 1 (cutPDU 32) (gets (delivered 0 2 5 7 32) (hasBytes 41 ∷ []) ∷ [])
+    example 1 (cutPDU 32) (gets (delivered 0 (sourceOf 2) 7 32) (hasBytes 41 ∷ []) ∷ [])
     -- L=33: 41 bytes (byte 6 is 80), then 11 (byte 6 is 43, length 0021).
-    ∷ example 2 (cutPDU 33) (gets held (hasBytes 41 ∷ byte6 0x80 ∷ []) ∷ gets (delivered 0 2 5 7 33) (hasBytes 11 ∷ byte6 0x43 ∷ lengthField 0x0021 ∷ []) ∷ [])
+    ∷ example 2 (cutPDU 33) (gets held (hasBytes 41 ∷ byte6 0x80 ∷ []) ∷ gets (delivered 0 (sourceOf 2) 7 33) (hasBytes 11 ∷ byte6 0x43 ∷ lengthField 0x0021 ∷ []) ∷ [])
     -- L=64: the end has 41 bytes, byte 6 is 40, length 0040.
-    ∷ example 3 (cutPDU 64) (gets held [] ∷ gets (delivered 0 2 5 7 64) (hasBytes 41 ∷ byte6 0x40 ∷ lengthField 0x0040 ∷ []) ∷ [])
+    ∷ example 3 (cutPDU 64) (gets held [] ∷ gets (delivered 0 (sourceOf 2) 7 64) (hasBytes 41 ∷ byte6 0x40 ∷ lengthField 0x0040 ∷ []) ∷ [])
     -- L=65: the continuation has 39 bytes, byte 6 is 00.
-    ∷ example 4 (cutPDU 65) (gets held [] ∷ gets held (hasBytes 39 ∷ byte6 0x00 ∷ []) ∷ gets (delivered 0 2 5 7 65) [] ∷ [])
+    ∷ example 4 (cutPDU 65) (gets held [] ∷ gets held (hasBytes 39 ∷ byte6 0x00 ∷ []) ∷ gets (delivered 0 (sourceOf 2) 7 65) [] ∷ [])
     -- L=96, middle lost: the end gets 11, dropped.
     ∷ example 6 (cutPDU 96) (gets held [] ∷ lost ∷ getsDropped (refused 11) [] ∷ [])
     -- L=96, start lost: 8, then 8.
     ∷ example 7 (cutPDU 96) (lost ∷ gets (refused 8) [] ∷ gets (refused 8) [] ∷ [])
     -- Two 40-byte PDUs, first end lost: second start is held, dropped; second PDU delivered.
-    ∷ example 8 twoPDUs (gets held [] ∷ lost ∷ getsDropped held [] ∷ gets (delivered 0 2 5 8 40) (delivers secondPDU ∷ []) ∷ [])
+    ∷ example 8 twoPDUs (gets held [] ∷ lost ∷ getsDropped held [] ∷ gets (delivered 0 (sourceOf 2) 8 40) (delivers secondPDU ∷ []) ∷ [])
     -- Two 40-byte PDUs on one flow, first end and second start lost: a 40-byte PDU that nobody sent is delivered. This is the joint.
-    ∷ example 9 twoPDUs (gets held [] ∷ lost ∷ lost ∷ gets (delivered 0 2 5 7 40) (delivers joint ∷ deliversNot firstPDU ∷ deliversNot secondPDU ∷ []) ∷ [])
+    ∷ example 9 twoPDUs (gets held [] ∷ lost ∷ lost ∷ gets (delivered 0 (sourceOf 2) 7 40) (delivers joint ∷ deliversNot firstPDU ∷ deliversNot secondPDU ∷ []) ∷ [])
     -- Seventeen starts on seventeen flows: the last gets 10. After one delivery an eighteenth is held.
     ∷ example 10 (starts 1 17 ++ (end 4 ∷ start 18 ∷ []))
-    (replicate 16 (gets held []) ++ (gets (refused 10) [] ∷ gets (delivered 3 4 5 7 40) (delivers firstPDU ∷ []) ∷ gets held [] ∷ []))
+    (replicate 16 (gets held []) ++ (gets (refused 10) [] ∷ gets (delivered 3 (sourceOf 4) 7 40) (delivers firstPDU ∷ []) ∷ gets held [] ∷ []))
     -- ssize 64, two segments, segment 1 with 8 bytes first: then segment 0 delivers 72 bytes.
     ∷ example 11 (segment1 ∷ segment0 ∷ []) (gets held (respondsDONE 0x61 ∷ []) ∷ gets (message 0 2 1 2 72) (delivers (counting 0 72) ∷ respondsDONE 0x60 ∷ []) ∷ [])
     -- A segment twice while open: 24, ERROR.
