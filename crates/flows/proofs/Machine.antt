@@ -12,6 +12,7 @@ use Rattle.wire.specs.declared.MessageSegment.{MessageSegment}
 use Rattle.wire.specs.declared.Parsed.{Parsed}
 use Rattle.wire.specs.declared.Parsed.the-variants.{Refused, Stream, Message}
 use Rattle.sizes.specs.Sizes.{dataLength}
+use Rattle.wire.specs.Packet.{header}
 use Rattle.wire.specs.Parsed.{parsed}
 use Rattle.contexts.specs.declared.StreamContext.{StreamContext}
 use Rattle.contexts.specs.State.{State}
@@ -113,7 +114,7 @@ module _ (device mtu room : ℕ) (flows : List Flow) (b : Board) (p : List ℕ) 
 
     quiet : Quiet s (b .messageMemory) (b .response) k
     quiet =
-        let small = message-small p m (message-parsed p device m e) (bytes 5) (bytes 6) in
+        let small = message-small p m (message-parsed p device m e) (bytes header) (bytes (header + 1)) in
         quiet-stepped s (b .messageMemory) (b .response) p m (f .lends .boxes) (f .lends .reply) (small .0) (small .2)
 
     message-back : stateOf (wordsOf (k .state)) ≡ k .state

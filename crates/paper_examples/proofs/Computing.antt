@@ -5,6 +5,7 @@ use Rattle.lists.specs.Rows.{rows, joined}
 use Rattle.tables.specs.Refusals.{verdict}
 use Rattle.wire.specs.Type9.{sameFlow, segmentAt, segmentOf}
 use Rattle.wire.specs.Type11.{messageOf}
+use Rattle.wire.specs.Head.{headRows}
 use Rattle.sizes.specs.Sizes.{badMTU, pduLength, dataLength, bytesOf, inEights}
 use Rattle.responses.specs.Type13.{responseTo, answered}
 use Rattle.rules.specs.Segments.{malformed}
@@ -26,7 +27,7 @@ use Rattle.segments.specs.Writer.{writerTable, writing}
 
 unfoldable pub computing : Unit {0}
 unfolding written firstOf any rows joined verdict
-    sameFlow segmentAt segmentOf badMTU pduLength dataLength messageOf bytesOf inEights responseTo answered
+    sameFlow headRows segmentAt segmentOf badMTU pduLength dataLength messageOf bytesOf inEights responseTo answered
     malformed reservedSize badLength pastLast
     marked allMarked isFreeStream isFreeMessage isOfFlow isOfMessage flowContext freeStream messageContext freeMessage stateOf wordsOf
     badRoom badStream badLast badMarks badMessage namedBy19

@@ -11,11 +11,12 @@ use Rattle.tables.specs.Refusals.{Leaves, all, Row, Verdict, refuse, accept, ve
 use Rattle.tables.proofs.Exactly.{none-held}
 use Rattle.lists.specs.Bytes.{written}
 use Rattle.wire.specs.Packet.{packetType, destination, source}
+use Rattle.wire.specs.Head.{is9, is11, headRows}
 use Rattle.responses.specs.Type13.{responseTo, answered}
-use Rattle.reading.specs.Table.{Lent, stateIn, is9, is11, table}
+use Rattle.reading.specs.Table.{Lent, stateIn, table}
 use Rattle.reading.specs.Read.{reading, outcome, accepting}
-use Rattle.reading.proofs.Cases.{by-test}
-use Rattle.reading.proofs.Rows.{one-type}
+use Rattle.lists.proofs.Tests.{by-test}
+use Rattle.wire.proofs.Head.{one-type}
 use Rattle.reading.proofs.Kept.{other-type}
 use Rattle.lists.specs.Each.{Each}
 use Rattle.promises.specs.Statements.{statusOf, responseLeft, ResponsesFromUs}
@@ -36,12 +37,12 @@ past-quiet (r ∷ earlier) later q = go (r .holds) refl (past-quiet earlier late
 module _ (x : Lent) where
   -- row 3 is the fifth
   addressed : none (take 5 (table x)) → destination (x .packet) ≡ stateIn x .device
-  unfolding none table
+  unfolding none table headRows
   addressed n = eqb-true (destination (x .packet)) (stateIn x .device) (not-false _ (n .1 .1 .1 .1 .0))
 
   -- the first five write nothing; so a verdict that writes has passed them
   written-for-us : (number status : ℕ) (leaves : Leaves) → verdict (table x) ≡ refuse number leaves → writes leaves ≡ option.some status → destination (x .packet) ≡ stateIn x .device
-  unfolding table
+  unfolding table headRows
   written-for-us number status leaves e w = go (past-quiet (take 5 (table x)) (drop 5 (table x)) (refl and refl and refl and refl and refl and tt))
     where
       go : ((n : ℕ) × (verdict (table x) ≡ refuse n all)) ⊎ none (take 5 (table x)) → destination (x .packet) ≡ stateIn x .device
@@ -53,17 +54,17 @@ module _ (x : Lent) where
 
   -- what is responded to is of type 11 and addressed to us
   record Right : Type 0 where
-    type : is11 x ≡ true
+    type : is11 (x .packet) ≡ true
     for-us : destination (x .packet) ≡ stateIn x .device
 
   first-five : none (table x) → none (take 5 (table x))
-  unfolding none table
+  unfolding none table headRows
   first-five n = n .0 and n .1 .0 and n .1 .1 .0 and n .1 .1 .1 .0 and n .1 .1 .1 .1 .0 and tt
 
   accepted-right : none (table x) → (status : ℕ) → statusOf x (accepting x .says) ≡ option.some status → Right
   accepted-right n status s =
-      by-test (is9 x)
-      (λ t. nothing-written status (sym (stream-silent x (one-type x t)) ∙ rw t at s))
+      by-test (is9 (x .packet))
+      (λ t. nothing-written status (sym (stream-silent x (one-type (x .packet) t)) ∙ rw t at s))
       (λ t. record { type = other-type x n t; for-us = addressed (first-five n) })
 
   right : (v : Verdict) → verdict (table x) ≡ v → (status : ℕ) → statusOf x (outcome x v .says) ≡ option.some status → Right

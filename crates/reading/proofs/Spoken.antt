@@ -8,12 +8,13 @@ use Rattle.answers.specs.declared.Reading.{Reading}
 use Rattle.answers.specs.Answers.{Said, said}
 use Rattle.tables.specs.Refusals.{Leaves, all, flowClosed, allERROR, allRETRY, Verdict, refuse, accept, verdict}
 use Rattle.wire.specs.Type11.{isSingle}
+use Rattle.wire.specs.Head.{is9}
 use Rattle.stream_rooms.specs.Placing as streamRoom
 use Rattle.streams.specs.Joining as stream
 use Rattle.message_rooms.specs.Placing as messageRoom
 use Rattle.messages.specs.Joining as message
 use Rattle.messages.specs.Rows.{messageOpen}
-use Rattle.reading.specs.Table.{Lent, stateIn, segmentIn, messageSegmentIn, is9, table}
+use Rattle.reading.specs.Table.{Lent, stateIn, segmentIn, messageSegmentIn, table}
 use Rattle.reading.specs.Read.{Left, left, reading, outcome, leaving, ReadPromise}
 
 record Spoken (says : Said) : Type 0 where
@@ -52,7 +53,7 @@ module _ (x : Lent) where
 
   by-verdict : (v : Verdict) → Spoken (outcome x v .says)
   by-verdict (refuse number leaves) = by-leaves number leaves
-  by-verdict accept = chosen (λ (l : Left). Spoken (l .says)) (is9 x) _ _ by-stream by-message
+  by-verdict accept = chosen (λ (l : Left). Spoken (l .says)) (is9 (x .packet)) _ _ by-stream by-message
 
   answer-of : Spoken (reading x .says)
   unfolding reading

@@ -6,13 +6,14 @@ use mathlib.Core.Bool.{Bool, false, cond}
 use Rattle.answers.specs.Answers.{Said, said, refused}
 use Rattle.answers.specs.declared.Reading.{Reading}
 use Rattle.tables.specs.Refusals.{Leaves, all, flowClosed, allERROR, allRETRY, Verdict, refuse, accept, verdict}
+use Rattle.wire.specs.Head.{is9}
 use Rattle.responses.specs.Type13.{ERROR, RETRY, answered}
 use Rattle.contexts.specs.Words.{wordsOf}
 use Rattle.stream_rooms.specs.Placing as streamRoom
 use Rattle.streams.specs.Joining as stream
 use Rattle.message_rooms.specs.Placing.{MessageJoined}
 use Rattle.messages.specs.Joining.{messageAccepted}
-use Rattle.reading.specs.Table.{Lent, stateIn, segmentIn, messageSegmentIn, is9, table}
+use Rattle.reading.specs.Table.{Lent, stateIn, segmentIn, messageSegmentIn, table}
 
 -- the answer, whether this packet closed an open stream context undelivered, and everything lent as it is left
 pub record Left : Type 0 where
@@ -55,7 +56,7 @@ leaving x number allRETRY = left (refused number) false (x .words) (x .streamMem
 -- an accepted packet: of type 9, else of type 11, since row 4 has passed
 abbrev pub accepting : Lent → Left
 accepting x =
-    cond (is9 x)
+    cond (is9 (x .packet))
     (ofStream x (stream.accepted (stateIn x) (x .streamMemory) (x .packet) (segmentIn x)))
     (ofMessage x (messageAccepted (stateIn x) (x .messageMemory) (x .response) (x .packet) (messageSegmentIn x)))
 

@@ -16,6 +16,7 @@ use Rattle.tables.proofs.Exactly.{none-held}
 use Rattle.wire.specs.declared.Segment.{Segment}
 use Rattle.wire.specs.declared.MessageSegment.{MessageSegment}
 use Rattle.wire.specs.Type11.{isSingle, mailbox}
+use Rattle.wire.specs.Head.{is9, headRows}
 use Rattle.sizes.specs.Sizes.{bytesOf}
 use Rattle.rules.specs.Messages.{lastWith}
 use Rattle.messages.specs.Rows.{messageFound as found, messageOpen}
@@ -25,7 +26,7 @@ use Rattle.stream_rooms.specs.Placing as placing
 use Rattle.streams.specs.Joining as stream
 use Rattle.message_rooms.specs.Placing as boxes
 use Rattle.messages.specs.Joining as message
-use Rattle.reading.specs.Table.{Lent, stateIn, segmentIn, messageSegmentIn, isState, is9, wrongMemory, wrongSizes, table}
+use Rattle.reading.specs.Table.{Lent, stateIn, segmentIn, messageSegmentIn, isState, wrongMemory, wrongSizes, table}
 use Rattle.reading.specs.Read.{lent, ofStream, ofMessage, leaving, outcome, reading}
 use Rattle.flows.specs.Board.{room, inRoom}
 use Rattle.sending.specs.OfSendings.{LengthIsMeasured}
@@ -146,14 +147,19 @@ length-is-measured b p context source cos st size = by-verdict (verdict (table x
     x : Lent
     x = lent (b .words) (b .streamMemory) (b .messageMemory) (b .response) p
 
-    placeable : is9 x ≡ true → none (table x) → Placeable (stateIn x) (b .streamMemory) (segmentIn x)
-    placeable nine rows = unfold none table in record {
-      size = right-size (stateIn x) (b .streamMemory) (b .messageMemory) (b .response) (or-false (not (isState x)) (wrongMemory x) (rows .1 .0) .1);
-      context = below-16 (stateIn x) (segmentIn x) (of-9 (is9 x) _ nine (rows .1 .1 .1 .1 .1 .1 .1 .1 .1 .1 .1 .0)) (of-9 (is9 x) _ nine (rows .1 .1 .1 .1 .1 .1 .1 .1 .1 .1 .1 .1 .1 .0));
-      fits = unfold passesRoom in (ltb-false (stateIn x .room) (total (stateIn x) (segmentIn x)) (of-9 (is9 x) _ nine (rows .1 .1 .1 .1 .1 .1 .1 .1 .1 .1 .1 .1 .0)));
-    }
+    placeable : is9 (x .packet) ≡ true → none (table x) → Placeable (stateIn x) (b .streamMemory) (segmentIn x)
+    placeable nine rows =
+        unfold none table headRows in
+        let row-8 = rows .1 .1 .1 .1 .1 .1 .1 .1 .1 .1 .1 in
+        let row-9 = row-8 .1 in
+        let row-10 = row-9 .1 in
+        record {
+          size = right-size (stateIn x) (b .streamMemory) (b .messageMemory) (b .response) (or-false (not (isState x)) (wrongMemory x) (rows .1 .0) .1);
+          context = below-16 (stateIn x) (segmentIn x) (of-9 (is9 (x .packet)) _ nine (row-8 .0)) (of-9 (is9 (x .packet)) _ nine (row-10 .0));
+          fits = unfold passesRoom in (ltb-false (stateIn x .room) (total (stateIn x) (segmentIn x)) (of-9 (is9 (x .packet)) _ nine (row-9 .0)));
+        }
 
-    by-type : (t : Bool) → is9 x ≡ t → none (table x)
+    by-type : (t : Bool) → is9 (x .packet) ≡ t → none (table x)
         → (cond t
         (ofStream x (stream.accepted (stateIn x) (b .streamMemory) p (segmentIn x)))
         (ofMessage x (message.messageAccepted (stateIn x) (b .messageMemory) (b .response) p (messageSegmentIn x)))) .says ≡ answers.delivered context source cos st size
@@ -166,4 +172,4 @@ length-is-measured b p context source cos st size = by-verdict (verdict (table x
     by-verdict : (v : Verdict) → verdict (table x) ≡ v → outcome x v .says ≡ answers.delivered context source cos st size
         → length (inRoom (stateIn x .room) (outcome x v .streamMemory) context size) ≡ size
     by-verdict (refuse number leaves) e d = absurd (leaving-none x number leaves context source cos st size d)
-    by-verdict accept e d = by-type (is9 x) refl (none-held (table x) e) d
+    by-verdict accept e d = by-type (is9 (x .packet)) refl (none-held (table x) e) d

@@ -7,15 +7,16 @@ use mathlib.Core.List.{List, [], _∷_, _++_, map, tail}
 use mathlib.Core.Bool.{Bool, true, false, cond, _||_, false≢true}
 use mathlib.Core.Option.{Option, none}
 use lib.ListN.{length, take}
-use lib.Dec.{eqb, ltb}
-use Rattle.wire.specs.Packet.{packetType, destination, tt as ttOf}
+use Rattle.tables.specs.Refusals.{Verdict, refuse, accept, verdict}
+use Rattle.wire.specs.Packet.{packetType}
 use Rattle.wire.specs.declared.Flow.{Flow}
 use Rattle.wire.specs.declared.MessageSegment.{MessageSegment}
 use Rattle.wire.specs.declared.Parsed.the-variants.{Refused, Message}
 use Rattle.wire.specs.Type9.{sameFlow}
 use Rattle.sizes.specs.Sizes.{badMTU}
 use Rattle.wire.specs.Type11.{messageOf}
-use Rattle.wire.specs.Parsed.{parsed, parsedByType}
+use Rattle.wire.specs.Head.{headRows}
+use Rattle.wire.specs.Parsed.{parsedBy, parsed}
 use Rattle.flows.specs.OneFlow.{PDU}
 use Rattle.flows.specs.Board.{Board, Delivery, deliveredBy, read, after, room, view}
 use Rattle.flows.specs.ByFlow.{among, AreBytes, NoFlow, ByFlow}
@@ -32,17 +33,12 @@ use Rattle.sending.proofs.Calls.{Own, by-own}
 
 -- a packet of type 11 is a message or refused
 pub type-11 : (device : ℕ) (p : List ℕ) → packetType p ≡ 11 → ((m : MessageSegment) × (parsed device p ≡ Message m)) ⊎ ((number : ℕ) × (parsed device p ≡ Refused number))
-unfolding parsed parsedByType
-type-11 device p e = rw e (go (ltb (length p) 5) (eqb (ttOf p) 1) (eqb (destination p) device) (ltb (length p) 7))
+unfolding parsed
+type-11 device p e = go (verdict (headRows device p))
   where
-    go : (a b c d : Bool)
-        → ((m : MessageSegment) × (cond a (Refused 1) (cond b (cond c (cond d (Refused 1) (Message (messageOf p))) (Refused 3)) (Refused 2)) ≡ Message m))
-        ⊎ ((number : ℕ) × (cond a (Refused 1) (cond b (cond c (cond d (Refused 1) (Message (messageOf p))) (Refused 3)) (Refused 2)) ≡ Refused number))
-    go true b c d = inr (1, refl)
-    go false true true true = inr (1, refl)
-    go false true true false = inl (messageOf p, refl)
-    go false true false d = inr (3, refl)
-    go false false c d = inr (2, refl)
+    go : (v : Verdict) → ((m : MessageSegment) × (parsedBy p v ≡ Message m)) ⊎ ((number : ℕ) × (parsedBy p v ≡ Refused number))
+    go (refuse number leaves) = inr (number, refl)
+    go accept = inl (messageOf p, rw e)
 
 module _ (device mtu R : ℕ) (flows : List Flow) (Ok : Board → Type 0) (law : ByFlow device mtu R flows Ok) (own-R : (b : Board) → Ok b → room b ≡ R) where
   AllGood : Board → (Flow → List Put) → Type 0

@@ -7,6 +7,7 @@ use Rattle.tables.specs.Refusals.{verdict}
 use Rattle.wire.specs.Type9.{sameFlow, segmentAt, segmentOf}
 use Rattle.sizes.specs.Sizes.{badMTU, bytesOf, dataLength, inEights, pduLength}
 use Rattle.wire.specs.Type11.{messageOf}
+use Rattle.wire.specs.Head.{headRows}
 use Rattle.responses.specs.Type13.{responseTo, answered}
 use Rattle.contexts.specs.State.{isFreeStream, isFreeMessage, isOfFlow, isOfMessage, flowContext, freeStream, messageContext, freeMessage}
 use Rattle.contexts.specs.Words.{stateOf, wordsOf}
@@ -26,5 +27,10 @@ use Rattle.sending.specs.Sending.{putOf}
 use Rattle.sending.specs.Mixture.{MixtureDelivered}
 
 pub mixture-delivered : MixtureDelivered
-unfolding written firstOf any rows joined verdict badMTU sameFlow segmentAt segmentOf pduLength dataLength messageOf bytesOf inEights responseTo answered isFreeStream isFreeMessage isOfFlow isOfMessage flowContext freeStream messageContext freeMessage stateOf wordsOf badRoom badStream badMessage namedBy19 malformed reservedSize badLength pastLast streamRows.missized streamRows.notOpen streamRows.passesRoom streamRows.noneFree streamRows.lengthDiffers placing.placed stream.accepted stream.refusedClosing messageRows.messageFound messageRows.otherMessage messageRows.alreadyMarked messageRows.neededNoneFree message.deliveredAtOnce boxes.messagePlaced message.messageAccepted wrongSizes table reading segmentCount segmentData isFirst isFinal padOf flagsOf fieldOf packetOf putOf
+unfolding written firstOf any rows joined verdict badMTU headRows sameFlow segmentAt segmentOf pduLength dataLength messageOf bytesOf inEights responseTo
+    answered isFreeStream isFreeMessage isOfFlow isOfMessage flowContext freeStream messageContext freeMessage stateOf wordsOf badRoom badStream
+    badMessage namedBy19 malformed reservedSize badLength pastLast streamRows.missized streamRows.notOpen streamRows.passesRoom streamRows.noneFree
+    streamRows.lengthDiffers placing.placed stream.accepted stream.refusedClosing messageRows.messageFound messageRows.otherMessage
+    messageRows.alreadyMarked messageRows.neededNoneFree message.deliveredAtOnce boxes.messagePlaced message.messageAccepted wrongSizes table reading
+    segmentCount segmentData isFirst isFinal padOf flagsOf fieldOf packetOf putOf
 mixture-delivered = refl

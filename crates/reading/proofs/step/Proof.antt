@@ -4,9 +4,10 @@ use Rattle.reading.proofs.Rows.{by-packet}
 use Rattle.reading.proofs.Left.{refusing, sizes-right, stream-left, message-left}
 use Rattle.reading.specs.Step.{byParsed}
 use Rattle.reading.specs.Read.{lent}
+use Rattle.wire.specs.Packet.{header}
 use Rattle.wire.specs.Parsed.{parsed}
 use lib.ListN.{getD}
-use Prim.Native.Nat.{ℕ, _<_}
+use Prim.Native.Nat.{ℕ, _+_, _<_}
 use Rattle.contexts.specs.Words.{stateOf}
 use mathlib.Core.Path.{ap, sym, _∙_}
 use native.Mathlib.Omega.{arith}
@@ -44,8 +45,8 @@ step-requires-2 c κs =
     let p = s .args .packet .now in
     let l = message-parsed p _ _ (sym (c .before .before .before .before .before .before .parse .ensures) ∙ c .before .before .before .before .m .given .1) in
     let known = c .before .before .before .before .before .before .before .before .before .shared-slice-known .given in
-    let a : getD p 5 0 < 256 = omega (arith, known 5) in
-    let b : getD p 6 0 < 256 = omega (arith, known 6) in
+    let a : getD p header 0 < 256 = omega (arith, known header) in
+    let b : getD p (header + 1) 0 < 256 = omega (arith, known (header + 1)) in
     let k = message-small p _ l a b in
     record { whole = s .pre .fit .whole; good = s .pre .fit .good; size = s .pre .fit .boxes; reply = s .pre .reply; inside = k .0; segments = k .1; number = k .2; boxes = k .3 }
 
