@@ -24,7 +24,8 @@ ROWS = [
     {"contexts": (0, 1.6), "rules": (1.6, 1.6), "responses": (3.2, 1.6), "cutting": (4.8, 2)},
     {"sizes": (0, 6.8)},
     {"wire": (0, 6.8)},
-    {"lists": (0, 9), "tables": (9.2, 1.4), "answers": (10.6, 1.4)},
+    {"tables": (0, 9)},
+    {"lists": (0, 9), "answers": (9.2, 2.8)},
 ]
 HEADS = [(0, 4.8, "reading packets"), (4.8, 2, "writing segments"), (6.8, 2.2, "the log"), (9.2, 2.8, "theorems")]
 PUBLIC = {"endpoint", "segments", "log_records", "log_lines", "log_run", "log_reader", "kaiverohm"}
@@ -75,7 +76,7 @@ def box(x, y, width, pair, words):
 def picture():
     height = TOP + len(ROWS) * ROW + 44
     parts = [f'<svg xmlns="http://www.w3.org/2000/svg" viewBox="0 0 {WIDTH} {height}" font-family="Helvetica, Arial, sans-serif" role="img" '
-             f'aria-label="The crates as layers, from lists, tables and answers at the bottom to the programs and the page of statements at the top">',
+             f'aria-label="The crates as layers, from lists and answers at the bottom to the programs and the page of statements at the top">',
              f'<rect x="1" y="1" width="{WIDTH - 2}" height="{height - 2}" rx="10" fill="{PANEL}" stroke="{EDGE}"/>']
     for start, width, words in HEADS:
         parts.append(text(LEFT + (start + width / 2) * COLUMN, 30, words, 14, SOFT, weight="bold"))

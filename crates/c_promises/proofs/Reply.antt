@@ -11,6 +11,7 @@ use Rattle.tables.specs.Refusals.{Row, Leaves, all, flowClosed, allERROR, allRE
 use Rattle.tables.proofs.Exactly.{none-held}
 use Rattle.wire.specs.Packet.{packetType}
 use Rattle.wire.specs.Type11.{isSingle}
+use Rattle.wire.specs.Head.{is9, is11, headRows}
 use Rattle.responses.specs.Type13.{DONE, ERROR, RETRY, answered}
 use Rattle.contexts.specs.State.{freeMessage}
 use Rattle.stream_rooms.specs.Placing as streamRoom
@@ -18,9 +19,9 @@ use Rattle.streams.specs.Joining as stream
 use Rattle.message_rooms.specs.Placing as messageRoom
 use Rattle.messages.specs.Joining as joined
 use Rattle.messages.specs.Rows.{messageOpen, messageFound}
-use Rattle.reading.specs.Table.{Lent, stateIn, segmentIn, messageSegmentIn, is9, is11, table}
+use Rattle.reading.specs.Table.{Lent, stateIn, segmentIn, messageSegmentIn, table}
 use Rattle.reading.specs.Read.{reading, outcome, leaving, accepting}
-use Rattle.reading.proofs.Cases.{by-test}
+use Rattle.lists.proofs.Tests.{by-test}
 use Rattle.c_reports.specs.Reports.{responseOf, isMessage}
 use Rattle.c_promises.specs.OfCalls.{Reply, silent, answers, ReportsReply}
 
@@ -54,7 +55,7 @@ not-so false e = refl
 
 module _ (x : Lent) where
   table-fits : Fits (table x)
-  unfolding table
+  unfolding table headRows
   table-fits = (refl, (refl, (refl, (refl, (refl, (refl, (refl, (refl, (refl, (refl, (refl, (refl, (refl, (refl, (refl, (refl, (refl, (refl, (refl, (refl, (refl, tt)))))))))))))))))))))
 
   quiet : (n : ℕ) → n ≡ 0 → Reply x n (x .response)
@@ -71,12 +72,12 @@ module _ (x : Lent) where
   by-leaves number allRETRY f = spoke _ RETRY (ap (λ (b : Bool). cond b 0 7) (not-so (ltb number 20) f))
 
   -- a type 9 packet is no message
-  no-message : is9 x ≡ true → isMessage (x .packet) ≡ false
+  no-message : is9 (x .packet) ≡ true → isMessage (x .packet) ≡ false
   no-message t =
       let nine : packetType (x .packet) ≡ 9 = eqb-true (packetType (x .packet)) 9 t in
       ap (λ (k : ℕ). eqb k 11) nine
 
-  stream-quiet : is9 x ≡ true → Reply x (responseOf (stream.accepted (stateIn x) (x .streamMemory) (x .packet) (segmentIn x) .says) (x .packet)) (x .response)
+  stream-quiet : is9 (x .packet) ≡ true → Reply x (responseOf (stream.accepted (stateIn x) (x .streamMemory) (x .packet) (segmentIn x) .says) (x .packet)) (x .response)
   unfolding stream.accepted streamRoom.placed
   stream-quiet t =
       by-test (segmentIn x .ends)
@@ -106,11 +107,11 @@ module _ (x : Lent) where
   other-type false false e f = absurd (true≢false e)
 
   accepted-answers : none (table x) → Reply x (responseOf (accepting x .says) (x .packet)) (accepting x .response)
-  unfolding none table
+  unfolding none table headRows
   accepted-answers n =
-      by-test (is9 x)
+      by-test (is9 (x .packet))
       (λ t. rw t (stream-quiet t))
-      (λ t. rw t (message-answers (other-type (is9 x) (is11 x) (n .1 .1 .1 .1 .1 .0) t)))
+      (λ t. rw t (message-answers (other-type (is9 (x .packet)) (is11 (x .packet)) (n .1 .1 .1 .1 .1 .0) t)))
 
 pub reports-reply : ReportsReply
 unfolding reading

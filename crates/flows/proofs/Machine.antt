@@ -12,6 +12,7 @@ use Rattle.wire.specs.declared.MessageSegment.{MessageSegment}
 use Rattle.wire.specs.declared.Parsed.{Parsed}
 use Rattle.wire.specs.declared.Parsed.the-variants.{Refused, Stream, Message}
 use Rattle.sizes.specs.Sizes.{dataLength}
+use Rattle.wire.specs.Packet.{header}
 use Rattle.wire.specs.Parsed.{parsed}
 use Rattle.contexts.specs.declared.StreamContext.{StreamContext}
 use Rattle.contexts.specs.State.{Setup, State}
@@ -25,9 +26,8 @@ use Rattle.messages.specs.Step as messageStep
 use Rattle.reading.specs.Desk.{Desk, stateOn}
 use Rattle.reading.specs.Table.{lent}
 use Rattle.reading.specs.Read.{Left, ofStream, ofMessage}
-use Rattle.reading.specs.Step.{byParsed}
 use Rattle.reading.specs.Good.{StillGood}
-use Rattle.reading.proofs.Rows.{by-packet}
+use Rattle.reading.proofs.Rows.{byParsed, by-packet}
 use Rattle.reading.proofs.Packets.{stream-parsed, message-parsed, message-small}
 use Rattle.reading.proofs.Kept.{stays-good}
 use Rattle.reading.proofs.Left.{sizes-right}
@@ -56,7 +56,7 @@ module _ (setup : Setup) (flows : List Flow) (b : Desk) (p : List ℕ) (f : Fine
       ∙ ap (byParsed (lent b p)) (ap (λ (t : Setup). parsed (t .device) p) (f .same-setup) ∙ e)
 
   still-good : StillGood s (read b p .desk .words)
-  still-good = stays-good (lent b p) (f .whole) (f .good) (bytes 5)
+  still-good = stays-good (lent b p) (f .whole) (f .good) (bytes header)
 
   -- ---- a type 9 packet
   module _ (few : length flows ≤ 16) (g : Segment) (e : parsed (setup .device) p ≡ Stream g) (member : among (g .flow) flows ≡ true) where
@@ -110,7 +110,7 @@ module _ (setup : Setup) (flows : List Flow) (b : Desk) (p : List ℕ) (f : Fine
 
     quiet : Quiet s (b .messageMemory) (b .response) k
     quiet =
-        let small = message-small p m (message-parsed p (setup .device) m e) (bytes 5) (bytes 6) in
+        let small = message-small p m (message-parsed p (setup .device) m e) (bytes header) (bytes (header + 1)) in
         quiet-stepped s (b .messageMemory) (b .response) p m (f .lends .boxes) (f .lends .reply) (small .0) (small .2)
 
     message-back : stateOf (wordsOf (k .state)) ≡ k .state

@@ -22,7 +22,7 @@ use Rattle.message_rooms.specs.Placing.{MessageJoined, messageData, marksWith, 
 use Rattle.messages.specs.Joining.{deliveredAtOnce, messageAccepted}
 use Rattle.messages.specs.Step.{refusedWith, matched, messageStepped}
 use Rattle.message_rooms.proofs.Laws.{segment-ends}
-use Rattle.reading.proofs.Cases.{by-test}
+use Rattle.lists.proofs.Tests.{by-test}
 use Rattle.reading.proofs.Response.{length-answered}
 use Rattle.flows.specs.Deliveries.{deliveredBy}
 

@@ -25,7 +25,7 @@ use Rattle.stream_rooms.specs.Placing as streamRoom
 use Rattle.streams.specs.Step as step
 use Rattle.streams.specs.Inside.{Passed}
 use Rattle.streams.proofs.Laws.{size-le, passed, begin-own, begin-free, go-closed, go-passes, go-differs, go-placed, step-begins, step-continues}
-use Rattle.reading.proofs.Cases.{by-test}
+use Rattle.lists.proofs.Tests.{by-test}
 use Rattle.flows.specs.OneFlow.{PDU, pdu, held, delivered, refused, FlowOutcome, flowOutcome, isOpen, flowRefused, flowJoined, flowStep}
 use Rattle.flows.specs.Deliveries.{inRoom, delivery}
 use Rattle.flows.specs.ByFlow.{among, Tells}

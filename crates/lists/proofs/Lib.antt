@@ -1,3 +1,4 @@
 pub mod Written
 pub mod First
 pub mod Rows
+pub mod Tests

@@ -1,9 +1,13 @@
--- The tests of rows 23 to 25 of the refusal table, for a type 11 packet and a state; rows 20 to 22 need no state (crate rules). (Document 01, 'Refusal numbers').
+-- Rows 20 to 25 of the refusal table, for a type 11 packet and a state: the tests of 23 to 25 (20 to 22 need no state, crate rules), and
+-- the rows (document 01, 'Refusal numbers').
 use Prim.Native.Nat.{ℕ}
+use mathlib.Core.List.{List, [], _∷_}
 use mathlib.Core.Bool.{Bool, cond, not, _||_, _&&_}
 use lib.Dec.{eqb, ltb}
+use Rattle.tables.specs.Refusals.{Row, row, allERROR, allRETRY}
 use Rattle.wire.specs.declared.MessageSegment.{MessageSegment}
 use Rattle.wire.specs.Type11.{isSingle}
+use Rattle.rules.specs.Messages.{reservedSize, badLength, pastLast}
 use Rattle.contexts.specs.State.{State, messageIn, messageContext, freeMessage}
 use Rattle.contexts.specs.Marks.{marked}
 
@@ -25,3 +29,20 @@ alreadyMarked s m = messageOpen s m && marked (messageIn s (messageFound s m) .m
 -- 25: context needed, none free
 unfoldable pub neededNoneFree : State → MessageSegment → Bool
 neededNoneFree s m = not (messageOpen s m) && not (ltb (freeMessage s) 8)
+
+-- in the paper's order and words
+unfoldable pub messageRows : State → MessageSegment → List Row
+messageRows s m =
+    -- ssize reserved
+    row 20 (reservedSize m) allERROR
+    -- message data length breaks the rule
+    ∷ row 21 (badLength m) allERROR
+    -- msglen over 0, msgseg over msglen
+    ∷ row 22 (pastLast m) allERROR
+    -- open message has another msglen or ssize
+    ∷ row 23 (otherMessage s m) allERROR
+    -- segment already marked
+    ∷ row 24 (alreadyMarked s m) allERROR
+    -- context needed, none free
+    ∷ row 25 (neededNoneFree s m) allRETRY
+    ∷ []

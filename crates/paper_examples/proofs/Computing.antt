@@ -2,9 +2,10 @@
 use Rattle.lists.specs.Bytes.{written}
 use Rattle.lists.specs.First.{firstOf, any}
 use Rattle.lists.specs.Rows.{rows, joined}
-use Rattle.tables.specs.Refusals.{verdict}
+use Rattle.tables.specs.Refusals.{verdict, given}
 use Rattle.wire.specs.Type9.{sameFlow, segmentAt, segmentOf}
 use Rattle.wire.specs.Type11.{messageOf}
+use Rattle.wire.specs.Head.{headRows}
 use Rattle.sizes.specs.Sizes.{badMTU, pduLength, dataLength, bytesOf, inEights}
 use Rattle.responses.specs.Type13.{responseTo, answered}
 use Rattle.rules.specs.Segments.{malformed}
@@ -19,19 +20,20 @@ use Rattle.streams.specs.Rows as streamRows
 use Rattle.message_rooms.specs.Placing as messageRooms
 use Rattle.messages.specs.Joining as message
 use Rattle.messages.specs.Rows as messageRows
-use Rattle.reading.specs.Table.{wrongSizes, table}
+use Rattle.wire.specs.Head.{headRows}
+use Rattle.reading.specs.Table.{wrongSizes, lentRows, table}
 use Rattle.reading.specs.Read.{reading}
 use Rattle.cutting.specs.Cutting.{segmentCount, segmentData, isFirst, isFinal, padOf, flagsOf, fieldOf, packetOf, badSize}
 use Rattle.segments.specs.Writer.{writerTable, writing}
 
 unfoldable pub computing : Unit {0}
 unfolding written firstOf any rows joined verdict
-    sameFlow segmentAt segmentOf badMTU pduLength dataLength messageOf bytesOf inEights responseTo answered
+    sameFlow headRows segmentAt segmentOf badMTU pduLength dataLength messageOf bytesOf inEights responseTo answered
     malformed reservedSize badLength pastLast
     marked allMarked isFreeStream isFreeMessage isOfFlow isOfMessage flowContext freeStream messageContext freeMessage stateOf wordsOf
     badRoom badStream badLast badMarks badMessage namedBy19
     streamRooms.placed stream.accepted stream.refusedClosing streamRows.missized streamRows.notOpen streamRows.passesRoom streamRows.noneFree streamRows.lengthDiffers
     message.deliveredAtOnce messageRooms.messagePlaced message.messageAccepted messageRows.messageFound messageRows.otherMessage messageRows.alreadyMarked messageRows.neededNoneFree
-    wrongSizes table reading
+    wrongSizes lentRows headRows given streamRows.streamRows messageRows.messageRows table reading
     segmentCount segmentData isFirst isFinal padOf flagsOf fieldOf packetOf badSize writerTable writing
 computing = tt

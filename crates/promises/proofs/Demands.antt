@@ -9,7 +9,7 @@ use borrow.Author.Tests.{le-ltb}
 use Rattle.lists.specs.Each.{Each}
 use Rattle.tables.proofs.Exactly.{accepted}
 use Rattle.wire.specs.declared.Flow.{Flow}
-use Rattle.wire.specs.Parsed.{parsed, parsedByType, parsedStream, parsedFielded}
+use Rattle.wire.specs.Parsed.{parsed}
 use Rattle.sizes.specs.Sizes.{badMTU}
 use Rattle.refusal19.specs.Refusal19.{badRoom}
 use Rattle.cutting.specs.Cutting.{segmentCount, packetOf}
@@ -119,7 +119,7 @@ all-bytes (p ∷ ps) e = go (under 256 p) refl e (all-bytes ps)
     go false h e rest = absurd (false≢true e)
 
 pub flows-not-empty : FlowsNotEmpty
-unfolding computing parsed parsedByType parsedStream parsedFielded putOf under ofBytes
+unfolding computing parsed putOf under ofBytes
 flows-not-empty = record {
   mtu-fits = refl;
   room-fits = refl;

@@ -8,6 +8,7 @@ use Rattle.answers.specs.Answers.{Said, held, refused}
 use Rattle.tables.specs.Refusals.{Leaves, all, flowClosed, allERROR, allRETRY, Verdict, refuse, accept, verdict, none}
 use Rattle.tables.proofs.Exactly.{answered, exactly, accepted, none-held}
 use Rattle.wire.specs.Type11.{isSingle}
+use Rattle.wire.specs.Head.{is9}
 use Rattle.contexts.specs.State.{State, streamIn, messageIn, withStream, withMessage, closedStream, closedMessage, isFreeStream, isFreeMessage}
 use Rattle.contexts.specs.Words.{stateOf}
 use Rattle.stream_rooms.specs.Placing as streamRoom
@@ -15,7 +16,7 @@ use Rattle.streams.specs.Joining as stream
 use Rattle.message_rooms.specs.Placing as messageRoom
 use Rattle.messages.specs.Joining as message
 use Rattle.messages.specs.Rows.{messageOpen}
-use Rattle.reading.specs.Table.{Lent, stateIn, segmentIn, messageSegmentIn, is9, table}
+use Rattle.reading.specs.Table.{Lent, stateIn, segmentIn, messageSegmentIn, table}
 use Rattle.reading.specs.Read.{Left, reading, outcome, leaving, accepting}
 use Rattle.cutting.specs.Cutting.{packetOf}
 use Rattle.segments.specs.Writer.{writerTable, writing, wroteBy}
@@ -62,7 +63,7 @@ message-no x =
     (chosen (λ (j : messageRoom.MessageJoined). no-refusal (j .says)) (messageOpen (stateIn x) (messageSegmentIn x)) _ _ (placed-no x _ _ _) (placed-no x _ 0 0))
 
 accepted-no : (x : Lent) → no-refusal (accepting x .says)
-accepted-no x = chosen (λ (l : Left). no-refusal (l .says)) (is9 x) _ _ (stream-no x) (message-no x)
+accepted-no x = chosen (λ (l : Left). no-refusal (l .says)) (is9 (x .packet)) _ _ (stream-no x) (message-no x)
 
 pub refused-exactly : RefusedExactly
 unfolding reading

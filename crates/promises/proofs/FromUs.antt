@@ -11,11 +11,12 @@ use Rattle.tables.specs.Refusals.{Leaves, all, Row, Verdict, refuse, accept, ve
 use Rattle.tables.proofs.Exactly.{none-held}
 use Rattle.lists.specs.Bytes.{written}
 use Rattle.wire.specs.Packet.{packetType, destination, source}
+use Rattle.wire.specs.Head.{is9, is11, headRows}
 use Rattle.responses.specs.Type13.{responseTo, answered}
-use Rattle.reading.specs.Table.{Lent, stateIn, is9, is11, table}
+use Rattle.reading.specs.Table.{Lent, stateIn, table}
 use Rattle.reading.specs.Read.{reading, outcome, accepting}
-use Rattle.reading.proofs.Cases.{by-test}
-use Rattle.reading.proofs.Rows.{one-type}
+use Rattle.lists.proofs.Tests.{by-test}
+use Rattle.wire.proofs.Head.{one-type}
 use Rattle.reading.proofs.Kept.{other-type}
 use Rattle.lists.specs.Each.{Each}
 use Rattle.promises.specs.Statements.{statusOf, responseLeft, ResponsesFromUs}
@@ -57,13 +58,13 @@ module _ (x : Lent) where
     for-us : destination (x .packet) ≡ stateIn x .setup .device
 
   first-five : none (table x) → none (take 5 (table x))
-  unfolding none table
+  unfolding none table headRows
   first-five n = n .0 and n .1 .0 and n .1 .1 .0 and n .1 .1 .1 .0 and n .1 .1 .1 .1 .0 and tt
 
   accepted-right : none (table x) → (status : ℕ) → statusOf x (accepting x .says) ≡ option.some status → Right
   accepted-right n status s =
-      by-test (is9 x)
-      (λ t. nothing-written status (sym (stream-silent x (one-type x t)) ∙ rw t at s))
+      by-test (is9 (x .packet))
+      (λ t. nothing-written status (sym (stream-silent x (one-type (x .packet) t)) ∙ rw t at s))
       (λ t. record { type = other-type x n t; for-us = addressed (first-five n) })
 
   right : (v : Verdict) → verdict (table x) ≡ v → (status : ℕ) → statusOf x (outcome x v .says) ≡ option.some status → Right

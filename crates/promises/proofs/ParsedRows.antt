@@ -1,27 +1,27 @@
--- `parsed` is rows 1 to 5 of the table: its cascade of tests, and the rows' verdict, test by test.
+-- `parsed` is the rows of the head: a refusal is theirs, exactly, and what they let pass is the packet's fields.
 use Prim.Native.Nat.{ℕ}
-use mathlib.Core.Path.{_≡_, refl, ap, sym, _∙_}
-use mathlib.Core.Bool.{cond}
+use mathlib.Core.Path.{_≡_, refl, ap}
+use mathlib.Core.List.{List}
 use native.Mathlib.Omega.{arith}
-use lib.Dec.{eqb}
-use Rattle.tables.specs.Refusals.{Row, Verdict, refuse, accept, verdict, Decides}
-use Rattle.tables.proofs.Exactly.{answered, decided, accepted}
-use Rattle.wire.specs.declared.Parsed.{Parsed}
+use Rattle.lists.proofs.Tests.{by-test}
+use Rattle.tables.specs.Refusals.{Verdict, accept}
+use Rattle.tables.proofs.Exactly.{exactly, accepted}
 use Rattle.wire.specs.declared.Parsed.the-variants.{Refused, Stream, Message}
-use Rattle.wire.specs.Packet.{tt, destination}
-use Rattle.wire.specs.Type9.{isS, isE, xh}
-use Rattle.wire.specs.Parsed.{parsed, parsedByType, parsedStream, parsedFielded}
-use Rattle.reading.specs.Table.{Lent, stateIn, segmentIn, messageSegmentIn, under, is9, is11, table}
-use Rattle.reading.proofs.Cases.{by-test}
-use Rattle.promises.specs.Statements.{packetRows, ParsedRefusedExactly, ParsedAccepted}
+use Rattle.wire.specs.Type9.{segmentOf}
+use Rattle.wire.specs.Type11.{messageOf}
+use Rattle.wire.specs.Head.{is9, headRows}
+use Rattle.wire.specs.Parsed.{parsedBy, parsed}
+use Rattle.promises.specs.Statements.{ParsedRefusedExactly, ParsedAccepted}
 
--- what it is by the rows' verdict
-abbrev byVerdict : Parsed → Verdict → Parsed
-byVerdict packet (refuse number leaves) = Refused number
-byVerdict packet accept = packet
+one-number : (m n : ℕ) → Refused m ≡ Refused n → m ≡ n
+one-number m n e = cc
 
-abbrev byRows : Lent → Verdict → Parsed
-byRows x v = byVerdict (cond (is9 x) (Stream (segmentIn x)) (Message (messageSegmentIn x))) v
+-- a packet is no refusal
+no-refusal : (p : List ℕ) (number : ℕ) → parsedBy p accept ≡ Refused number → ⊥
+no-refusal p number e = by-test (is9 p) (λ n. stream (rw n at e)) (λ n. other (rw n at e))
+  where
+    stream : Stream (segmentOf p) ≡ Refused number → ⊥
+    stream e = let z : _≡_ {A = ℕ} 0 1 = cc in omega arith
 
 module _ (x : Lent) where
   by-rows : parsed (stateIn x .setup .device) (x .packet) ≡ byRows x (verdict (packetRows x))
@@ -62,10 +62,9 @@ module _ (x : Lent) where
   to number accept t e = absurd (no-refusal number e)
 
 pub parsed-refused-exactly : ParsedRefusedExactly
-parsed-refused-exactly x number = (
-  λ e. to x number (verdict (packetRows x)) refl (sym (by-rows x) ∙ e),
-  λ w. by-rows x ∙ (ap (byRows x) (answered (packetRows x) (w .0) (w .1)) ∙ ap Refused (w .2)),
-)
+unfolding parsed
+parsed-refused-exactly device p number = exactly Refused one-number (λ (v : Verdict). parsedBy p v) (λ n l. refl) (no-refusal p) (headRows device p) number
 
 pub parsed-accepted : ParsedAccepted
-parsed-accepted x n = by-rows x ∙ ap (byRows x) (accepted (packetRows x) n)
+unfolding parsed
+parsed-accepted device p n = ap (parsedBy p) (accepted (headRows device p) n)

@@ -10,6 +10,7 @@ use Rattle.answers.specs.Answers.{Said, held}
 use Rattle.tables.specs.Refusals.{Leaves, all, flowClosed, allERROR, allRETRY, Row, Verdict, refuse, accept, verdict, none}
 use Rattle.tables.proofs.Exactly.{decided, none-held}
 use Rattle.wire.specs.Type11.{isSingle}
+use Rattle.wire.specs.Head.{is9, is11, headRows}
 use Rattle.responses.specs.Type13.{DONE, RETRY, ERROR, answered}
 use Rattle.stream_rooms.specs.Placing as streamRoom
 use Rattle.streams.specs.Joining as stream
@@ -17,10 +18,10 @@ use Rattle.message_rooms.specs.Placing as messageRoom
 use Rattle.messages.specs.Joining as message
 use Rattle.messages.specs.Rows.{messageOpen}
 use Rattle.refusal19.proofs.Good.{both}
-use Rattle.reading.specs.Table.{Lent, stateIn, segmentIn, messageSegmentIn, is9, is11, table}
+use Rattle.reading.specs.Table.{Lent, stateIn, segmentIn, messageSegmentIn, table}
 use Rattle.reading.specs.Read.{reading, outcome, leaving, accepting}
-use Rattle.reading.proofs.Cases.{by-test}
-use Rattle.reading.proofs.Rows.{one-type}
+use Rattle.lists.proofs.Tests.{by-test}
+use Rattle.wire.proofs.Head.{one-type}
 use Rattle.reading.proofs.Kept.{other-type}
 use Rattle.lists.specs.Each.{Each}
 use Rattle.promises.specs.Statements.{statuses, statusIn, statusOf, responseLeft, ResponsesExactly}
@@ -52,7 +53,7 @@ nothing-written status e = absurd (let z : _≡_ {A = ℕ} 0 1 = cc in omega ari
 -- a row's number has the status that its last column writes; and what writes is of type 11
 record Agrees (x : Lent) (r : Row) : Type 0 where
   status : statusIn statuses (r .number) ≡ writes (r .leaves)
-  type : (status : ℕ) → writes (r .leaves) ≡ option.some status → r .holds ≡ true → is11 x ≡ true
+  type : (status : ℕ) → writes (r .leaves) ≡ option.some status → r .holds ≡ true → is11 (x .packet) ≡ true
 
 -- what holds of each row holds of one of them
 of-each : (P : Row → Type 0) (earlier later : List Row) (r : Row) → Each P (earlier ++ (r ∷ later)) → P r
@@ -63,11 +64,11 @@ module _ (x : Lent) where
   quiet : (number : ℕ) (holds : Bool) (leaves : Leaves) → statusIn statuses number ≡ option.none → writes leaves ≡ option.none → Agrees x (record { number = number; holds = holds; leaves = leaves })
   quiet number holds leaves s w = record { status = s ∙ sym w; type = λ status e h. nothing-written status (sym w ∙ e) }
 
-  told : (number : ℕ) (test : Bool) (leaves : Leaves) → statusIn statuses number ≡ writes leaves → Agrees x (record { number = number; holds = is11 x && test; leaves = leaves })
-  told number test leaves s = record { status = s; type = λ status e h. both (is11 x) test h .0 }
+  told : (number : ℕ) (test : Bool) (leaves : Leaves) → statusIn statuses number ≡ writes leaves → Agrees x (record { number = number; holds = is11 (x .packet) && test; leaves = leaves })
+  told number test leaves s = record { status = s; type = λ status e h. both (is11 (x .packet)) test h .0 }
 
   agree : Each (Agrees x) (table x)
-  unfolding table
+  unfolding table headRows
   agree =
       quiet 19 _ all refl refl and quiet 12 _ all refl refl and quiet 1 _ all refl refl and quiet 2 _ all refl refl and quiet 3 _ all refl refl and quiet 4 _ all refl refl
       and quiet 1 _ all refl refl and quiet 5 _ all refl refl and quiet 1 _ all refl refl and quiet 6 _ flowClosed refl refl and quiet 7 _ flowClosed refl refl
@@ -78,7 +79,7 @@ module _ (x : Lent) where
   -- so does the verdict
   pub record Told (number : ℕ) (leaves : Leaves) : Type 0 where
     pub status : statusIn statuses number ≡ writes leaves
-    pub type : (status : ℕ) → writes leaves ≡ option.some status → is11 x ≡ true
+    pub type : (status : ℕ) → writes leaves ≡ option.some status → is11 (x .packet) ≡ true
 
   pub refused-so : (number : ℕ) (leaves : Leaves) → verdict (table x) ≡ refuse number leaves → Told number leaves
   refused-so number leaves e =
@@ -92,7 +93,7 @@ module _ (x : Lent) where
 
   -- ---- An accepted packet
 
-  pub stream-silent : is11 x ≡ false → statusOf x (stream.accepted (stateIn x) (x .streamMemory) (x .packet) (segmentIn x) .says) ≡ option.none
+  pub stream-silent : is11 (x .packet) ≡ false → statusOf x (stream.accepted (stateIn x) (x .streamMemory) (x .packet) (segmentIn x) .says) ≡ option.none
   unfolding stream.accepted streamRoom.placed
   stream-silent t = chosen (λ (s : Said). statusOf x s ≡ option.none) (segmentIn x .ends) _ held refl (rw t)
 
@@ -101,14 +102,14 @@ module _ (x : Lent) where
     status : statusOf x (j .says) ≡ option.some DONE
     response : j .response ≡ answered (x .response) (x .packet) DONE
 
-  placed-done : is11 x ≡ true → (n marks last : ℕ) → Done (messageRoom.messagePlaced (stateIn x) (x .messageMemory) (x .response) (x .packet) (messageSegmentIn x) n marks last)
+  placed-done : is11 (x .packet) ≡ true → (n marks last : ℕ) → Done (messageRoom.messagePlaced (stateIn x) (x .messageMemory) (x .response) (x .packet) (messageSegmentIn x) n marks last)
   unfolding messageRoom.messagePlaced
   placed-done t n marks last = record {
     status = chosen (λ (s : Said). statusOf x s ≡ option.some DONE) (messageRoom.complete (messageSegmentIn x) (messageRoom.marksWith (messageSegmentIn x) marks)) _ held refl (rw t);
     response = refl;
   }
 
-  message-done : is11 x ≡ true → Done (message.messageAccepted (stateIn x) (x .messageMemory) (x .response) (x .packet) (messageSegmentIn x))
+  message-done : is11 (x .packet) ≡ true → Done (message.messageAccepted (stateIn x) (x .messageMemory) (x .response) (x .packet) (messageSegmentIn x))
   unfolding message.messageAccepted message.deliveredAtOnce
   message-done t =
       chosen Done (isSingle (messageSegmentIn x)) _ _ (record { status = refl; response = refl })
@@ -119,10 +120,10 @@ module _ (x : Lent) where
   by-status : (s : Option ℕ) (response : List ℕ) (says : Said) → statusOf x says ≡ s → response ≡ responseLeft x s → response ≡ responseLeft x (statusOf x says)
   by-status s response says a b = b ∙ ap (responseLeft x) (sym a)
 
-  stream-left : is9 x ≡ true → accepting x .response ≡ responseLeft x (statusOf x (accepting x .says))
-  stream-left n = rw n (by-status option.none (x .response) (stream.accepted (stateIn x) (x .streamMemory) (x .packet) (segmentIn x) .says) (stream-silent (one-type x n)) refl)
+  stream-left : is9 (x .packet) ≡ true → accepting x .response ≡ responseLeft x (statusOf x (accepting x .says))
+  stream-left n = rw n (by-status option.none (x .response) (stream.accepted (stateIn x) (x .streamMemory) (x .packet) (segmentIn x) .says) (stream-silent (one-type (x .packet) n)) refl)
 
-  message-left : is9 x ≡ false → is11 x ≡ true → accepting x .response ≡ responseLeft x (statusOf x (accepting x .says))
+  message-left : is9 (x .packet) ≡ false → is11 (x .packet) ≡ true → accepting x .response ≡ responseLeft x (statusOf x (accepting x .says))
   message-left n t =
       let j = message.messageAccepted (stateIn x) (x .messageMemory) (x .response) (x .packet) (messageSegmentIn x) in
       let d = message-done t in
@@ -134,7 +135,7 @@ module _ (x : Lent) where
   left : (v : Verdict) → verdict (table x) ≡ v → outcome x v .response ≡ responseLeft x (statusOf x (outcome x v .says))
   left (refuse number leaves) e =
       by-status (writes leaves) (leaving x number leaves .response) (leaving x number leaves .says) (said-status number leaves ∙ refused-so number leaves e .status) (left-response x number leaves)
-  left accept e = by-test (is9 x) stream-left (λ n. message-left n (other-type x (none-held (table x) e) n))
+  left accept e = by-test (is9 (x .packet)) stream-left (λ n. message-left n (other-type x (none-held (table x) e) n))
 
 pub responses-exactly : ResponsesExactly
 unfolding reading

@@ -15,13 +15,16 @@ use mathlib.Core.List.{List, [], _∷_, _++_}
 use mathlib.Core.Option.{Option}
 use mathlib.Core.Option as option
 use lib.Dec.{eqb}
-use lib.ListN.{length, take, drop, replicate}
+use lib.ListN.{length, take, replicate}
 use denote.Ref.{RefT, now}
 use Rattle.lists.specs.Bytes.{byte, written}
 use Rattle.wire.specs.Packet.{priority, tt, packetType, destination, source}
 use Rattle.wire.specs.declared.Flow.{Flow}
 use Rattle.wire.specs.declared.Parsed.the-variants.{Refused, Stream, Message}
+use Rattle.wire.specs.Type9.{segmentOf}
+use Rattle.wire.specs.Type11.{messageOf}
 use Rattle.wire.specs.Parsed.{parsed}
+use Rattle.wire.specs.Head.{is9, is11, headRows}
 use Rattle.responses.specs.Type13.{DONE, RETRY, ERROR, above, responseTo, answered}
 use Rattle.cutting.specs.Cutting.{packetOf}
 use Rattle.flows.specs.OneFlow.{pdu}
@@ -46,7 +49,7 @@ use Rattle.answers.specs.Answers.{Said, held, delivered, message, refused, read
 use Rattle.tables.specs.Refusals.{RowOf, Row, Decides, none}
 use Rattle.contexts.specs.State.{fresh, fixed, streamIn, messageIn, withStream, withMessage, closedStream, closedMessage, isFreeStream, isFreeMessage}
 use Rattle.contexts.specs.Words.{stateOf, wordsOf}
-use Rattle.reading.specs.Table.{Lent, stateIn, segmentIn, messageSegmentIn, is9, is11, table}
+use Rattle.reading.specs.Table.{Lent, stateIn, table}
 use Rattle.reading.specs.Read.{ReadPromise, butResponse, reading, leaving, accepting, lent}
 use Rattle.reading.specs.Good.{GoodWords, StillGood}
 use Rattle.cutting.specs.declared.Heading.{Heading}
@@ -121,11 +124,7 @@ WriterRowLeaves =
     (out : List ℕ) (h : Heading) (mtu : ℕ) (pdu : List ℕ) (k : ℕ) (r : Row) → Decides (writerTable out h mtu pdu k) r
     → writing out h mtu pdu k ≡ wroteOf (refused (r .number)) out
 
--- ---- `parsed`, on which the statements about flows rest, is rows 1 to 5 of the table
-
--- the seven rows 1, 2, 3, 4, 1, 5, 1, which follow 19 and 12
-abbrev pub packetRows : Lent → List Row
-packetRows x = take 7 (drop 2 (table x))
+-- ---- `parsed`, on which the statements about flows rest, is the rows of the head: the seven rows 1, 2, 3, 4, 1, 5, 1, which follow 19 and 12 in the table
 
 abbrev pub ParsedRefusedExactly : Type 0
 ParsedRefusedExactly = (x : Lent) (number : ℕ) → (parsed (stateIn x .setup .device) (x .packet) ≡ Refused number) ↔ ((r : Row) × Decides (packetRows x) r × (r .number ≡ number))
@@ -147,7 +146,7 @@ statusIn (s ∷ rest) number = cond (eqb (s .0) number) (option.some (s .1)) (st
 -- the status of the response, by the answer; none: nothing is written
 abbrev pub statusOf : Lent → Said → Option ℕ
 -- a segment is accepted: of a message, if the packet is of type 11
-statusOf x held = cond (is11 x) (option.some DONE) option.none
+statusOf x held = cond (is11 (x .packet)) (option.some DONE) option.none
 statusOf x (message context source letter mailbox size) = option.some DONE
 statusOf x (refused number) = statusIn statuses number
 statusOf x (delivered context source cos streamID size) = option.none

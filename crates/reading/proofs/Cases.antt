@@ -1,4 +1,4 @@
--- Going by cases on a test, and a table read row by row.
+-- A table read row by row, and a choice between two steps.
 use Prim.Native.Nat.{ℕ}
 use mathlib.Core.Path.{_≡_, refl}
 use mathlib.Core.List.{List, [], _∷_}
@@ -8,10 +8,6 @@ use Rattle.stream_rooms.specs.Placing as streamRoom
 use Rattle.message_rooms.specs.Placing as messageRoom
 use Rattle.reading.specs.Table.{Lent}
 use Rattle.reading.specs.Read.{leaving, accepting, outcome, ofStream, ofMessage}
-
-pub by-test : {P : Type 0} (b : Bool) → (b ≡ true → P) → (b ≡ false → P) → P
-by-test true yes-case no-case = yes-case refl
-by-test false yes-case no-case = no-case refl
 
 -- what the first row leaves, or what the others do
 pub by-row : (x : Lent) (number : ℕ) (holds : Bool) (leaves : Leaves) (rows : List Row)

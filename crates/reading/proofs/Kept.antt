@@ -2,12 +2,15 @@
 use Prim.Native.Nat.{ℕ, _<_}
 use mathlib.Core.Path.{_≡_, refl, ap, _∙_}
 use mathlib.Core.List.{List}
-use mathlib.Core.Bool.{Bool, true, false, not, _||_, _&&_, true≢false, false≢true}
+use mathlib.Core.Bool.{true, false}
 use native.Mathlib.Omega.{arith}
 use lib.ListN.{length, getD, length-set}
-use Rattle.tables.specs.Refusals.{Leaves, all, flowClosed, allERROR, allRETRY, Verdict, refuse, accept, verdict, none}
+use Rattle.lists.proofs.Tests.{by-test, not-second, the-other}
+use Rattle.tables.specs.Refusals.{Leaves, all, flowClosed, allERROR, allRETRY, Verdict, refuse, accept, verdict, given, none}
 use Rattle.tables.proofs.Exactly.{none-held}
+use Rattle.wire.specs.Packet.{header}
 use Rattle.wire.specs.Type11.{messageOf, isSingle}
+use Rattle.wire.specs.Head.{is9, is11, headRows}
 use Rattle.contexts.specs.State.{Setup, State, freeMessage}
 use Rattle.contexts.specs.Words.{stateOf, wordsOf, stateWords}
 use Rattle.refusal19.specs.Refusal19.{namedBy19}
@@ -16,13 +19,13 @@ use Rattle.stream_rooms.specs.Placing as streamRoom
 use Rattle.streams.specs.Joining as stream
 use Rattle.message_rooms.specs.Placing as messageRoom
 use Rattle.messages.specs.Joining as message
-use Rattle.messages.specs.Rows.{messageOpen, messageFound}
+use Rattle.streams.specs.Rows.{streamRows}
+use Rattle.messages.specs.Rows.{messageOpen, messageFound, messageRows}
 use Rattle.streams.proofs.Kept as streams
 use Rattle.messages.proofs.Kept as messages
-use Rattle.reading.specs.Table.{Lent, stateIn, segmentIn, messageSegmentIn, is9, is11, table}
+use Rattle.reading.specs.Table.{Lent, stateIn, segmentIn, messageSegmentIn, lentRows, table}
 use Rattle.reading.specs.Read.{reading, outcome, leaving}
 use Rattle.reading.specs.Good.{StillGood}
-use Rattle.reading.proofs.Cases.{by-test}
 
 -- the words of a state with as many contexts
 pub record Same (s t : State) : Type 0 where
@@ -80,45 +83,43 @@ module _ (x : Lent) where
       by-verdict (refuse number flowClosed) = same-R _ (closing-same number)
       by-verdict (refuse number allERROR) = refl
       by-verdict (refuse number allRETRY) = refl
-      by-verdict accept = by-test (is9 x) (λ t. rw t (same-R _ stream-same)) (λ t. rw t (same-R _ message-same))
+      by-verdict accept = by-test (is9 (x .packet)) (λ t. rw t (same-R _ stream-same)) (λ t. rw t (same-R _ message-same))
 
   -- every row of an accepted packet has failed
   abbrev Passed : Type 0
   Passed = none (table x)
 
   -- an accepted packet that is not of type 9 is of type 11
-  pub other-type : Passed → is9 x ≡ false → is11 x ≡ true
-  unfolding none table
-  other-type n f = go (is9 x) (is11 x) (n .1 .1 .1 .1 .1 .0) f
-    where
-      go : (a b : Bool) → not (a || b) ≡ false → a ≡ false → b ≡ true
-      go true b e f = absurd (true≢false f)
-      go false true e f = refl
-      go false false e f = absurd (true≢false e)
+  pub other-type : Passed → is9 (x .packet) ≡ false → is11 (x .packet) ≡ true
+  unfolding none table lentRows headRows given streamRows messageRows
+  other-type n f = the-other (is9 (x .packet)) (is11 (x .packet)) (n .1 .1 .1 .1 .1 .0) f
 
-  -- under a type that the packet has, a row's own test failed
-  of-type : (type b : Bool) → type ≡ true → (type && b) ≡ false → b ≡ false
-  of-type true b t e = e
-  of-type false b t e = absurd (false≢true t)
-
-  module _ (whole : length (x .desk .words) ≡ stateWords) (fine : namedBy19 (stateIn x) ≡ false) (small : getD (x .packet) 5 0 < 256) where
-    stream-settled : Passed → is9 x ≡ true → StillGood (stateIn x) (wordsOf (stream.accepted (stateIn x) (x .desk .streamMemory) (x .packet) (segmentIn x) .state))
-    unfolding none table
+  module _ (whole : length (x .desk .words) ≡ stateWords) (fine : namedBy19 (stateIn x) ≡ false) (small : getD (x .packet) header 0 < 256) where
+    stream-settled : Passed → is9 (x .packet) ≡ true → StillGood (stateIn x) (wordsOf (stream.accepted (stateIn x) (x .desk .streamMemory) (x .packet) (segmentIn x) .state))
+    unfolding none table lentRows headRows given streamRows messageRows
     stream-settled n t =
+        let row-6 = n .1 .1 .1 .1 .1 .1 .1 .1 .1 in
+        let row-9 = row-6 .1 .1 .1 in
         settled (x .desk .words) _ stream-same
-        (streams.accepted-kept (stateIn x) (x .desk .streamMemory) (x .packet) (segmentIn x) fine (of-type (is9 x) _ t (n .1 .1 .1 .1 .1 .1 .1 .1 .1 .0)) (of-type (is9 x) _ t (n .1 .1 .1 .1 .1 .1 .1 .1 .1 .1 .1 .1 .0)))
+        (streams.accepted-kept (stateIn x) (x .desk .streamMemory) (x .packet) (segmentIn x) fine (not-second (is9 (x .packet)) _ t (row-6 .0)) (not-second (is9 (x .packet)) _ t (row-9 .0)))
 
     few : messageSegmentIn x .msglen < 16
     unfolding messageOf
     few = omega (arith, small)
 
-    message-settled : Passed → is9 x ≡ false → StillGood (stateIn x) (wordsOf (message.messageAccepted (stateIn x) (x .desk .messageMemory) (x .desk .response) (x .packet) (messageSegmentIn x) .state))
-    unfolding none table
+    message-settled : Passed → is9 (x .packet) ≡ false → StillGood (stateIn x) (wordsOf (message.messageAccepted (stateIn x) (x .desk .messageMemory) (x .desk .response) (x .packet) (messageSegmentIn x) .state))
+    unfolding none table lentRows headRows given streamRows messageRows
     message-settled n f =
-        let t : is11 x ≡ true = other-type n f in
+        let t : is11 (x .packet) ≡ true = other-type n f in
+        let row-20 = n .1 .1 .1 .1 .1 .1 .1 .1 .1 .1 .1 .1 .1 .1 .1 in
+        let row-21 = row-20 .1 in
+        let row-22 = row-21 .1 in
+        let row-23 = row-22 .1 in
+        let row-24 = row-23 .1 in
         settled (x .desk .words) _ message-same
-        (messages.accepted-kept (stateIn x) (x .desk .messageMemory) (x .desk .response) (x .packet) (messageSegmentIn x) fine (eight (x .desk .words)) few (of-type (is11 x) _ t (n .1 .1 .1 .1 .1 .1 .1 .1 .1 .1 .1 .1 .1 .1 .1 .0))
-        (of-type (is11 x) _ t (n .1 .1 .1 .1 .1 .1 .1 .1 .1 .1 .1 .1 .1 .1 .1 .1 .0)) (of-type (is11 x) _ t (n .1 .1 .1 .1 .1 .1 .1 .1 .1 .1 .1 .1 .1 .1 .1 .1 .1 .0)) (of-type (is11 x) _ t (n .1 .1 .1 .1 .1 .1 .1 .1 .1 .1 .1 .1 .1 .1 .1 .1 .1 .1 .0)) (of-type (is11 x) _ t (n .1 .1 .1 .1 .1 .1 .1 .1 .1 .1 .1 .1 .1 .1 .1 .1 .1 .1 .1 .0)))
+        (messages.accepted-kept (stateIn x) (x .desk .messageMemory) (x .desk .response) (x .packet) (messageSegmentIn x) fine (eight (x .desk .words)) few
+        (not-second (is11 (x .packet)) _ t (row-20 .0)) (not-second (is11 (x .packet)) _ t (row-21 .0)) (not-second (is11 (x .packet)) _ t (row-22 .0))
+        (not-second (is11 (x .packet)) _ t (row-23 .0)) (not-second (is11 (x .packet)) _ t (row-24 .0)))
 
     pub stays-good : StillGood (stateIn x) (reading x .desk .words)
     unfolding reading
@@ -133,6 +134,6 @@ module _ (x : Lent) where
         by-verdict : (v : Verdict) → verdict (table x) ≡ v → StillGood (stateIn x) (outcome x v .desk .words)
         by-verdict (refuse number leaves) e = by-leaves number leaves
         by-verdict accept e =
-            by-test (is9 x)
+            by-test (is9 (x .packet))
             (λ t. rw t (stream-settled (none-held (table x) e) t))
             (λ t. rw t (message-settled (none-held (table x) e) t))

@@ -12,7 +12,8 @@ use Rattle.messages.specs.Joining.{messageAccepted}
 use Rattle.messages.specs.Step.{matched, messageStepped, refusedWith}
 use Rattle.reading.specs.Table.{Lent, stateIn, messageSegmentIn}
 use Rattle.reading.specs.Read.{Left, leaving, ofMessage}
-use Rattle.reading.proofs.Cases.{by-test, choose-message}
+use Rattle.lists.proofs.Tests.{by-test}
+use Rattle.reading.proofs.Cases.{choose-message}
 use Rattle.rules.specs.Messages.{reservedSize, badLength, pastLast, judged}
 
 module _ (x : Lent) (whole : length (x .desk .words) ≡ stateWords) where

@@ -8,15 +8,16 @@ use borrow.Author.Tests.{le-ltb}
 use Rattle.lists.proofs.Written.{length-written}
 use Rattle.tables.specs.Refusals.{Row, Leaves, all, flowClosed, allERROR, allRETRY, Verdict, refuse, accept, verdict}
 use Rattle.wire.specs.Type11.{isSingle}
+use Rattle.wire.specs.Head.{is9}
 use Rattle.responses.specs.Type13.{DONE, ERROR, RETRY, responseTo, answered}
 use Rattle.contexts.specs.State.{freeMessage}
 use Rattle.message_rooms.specs.Placing as messageRoom
 use Rattle.messages.specs.Joining as message
 use Rattle.messages.specs.Rows.{messageOpen, messageFound}
 use Rattle.reading.specs.Desk.{desk}
-use Rattle.reading.specs.Table.{Lent, lent, stateIn, messageSegmentIn, is9, wrongSizes, table}
+use Rattle.reading.specs.Table.{Lent, lent, stateIn, messageSegmentIn, wrongSizes, lentRows, table}
 use Rattle.reading.specs.Read.{butResponse, ofMessage, reading, outcome, leaving}
-use Rattle.reading.proofs.Cases.{by-test}
+use Rattle.lists.proofs.Tests.{by-test}
 
 module _ (words streams messages response response′ packet : List ℕ) where
   abbrev x : Lent
@@ -49,11 +50,11 @@ module _ (words streams messages response response′ packet : List ℕ) where
 
   by-verdict : (v : Verdict) → butResponse (outcome x v) ≡ butResponse (outcome y v)
   by-verdict (refuse number leaves) = by-leaves number leaves
-  by-verdict accept = by-test (is9 x) (λ t. rw t) (λ t. rw t message-alike)
+  by-verdict accept = by-test (is9 (x .packet)) (λ t. rw t) (λ t. rw t message-alike)
 
   -- only row 12 looks at it, and there only at its length
   same-table : 7 ≤ length response → 7 ≤ length response′ → table x ≡ table y
-  unfolding table wrongSizes
+  unfolding table lentRows wrongSizes
   same-table a b = rw (le-ltb (length response) 7 a, le-ltb (length response′) 7 b)
 
   pub response-decides-nothing : 7 ≤ length response → 7 ≤ length response′ → butResponse (reading x) ≡ butResponse (reading y)
@@ -85,7 +86,7 @@ module _ (x : Lent) (h : 7 ≤ length (x .desk .response)) where
   left-length (refuse number flowClosed) = refl
   left-length (refuse number allERROR) = length-answered (x .desk .response) (x .packet) ERROR h
   left-length (refuse number allRETRY) = length-answered (x .desk .response) (x .packet) RETRY h
-  left-length accept = by-test (is9 x) (λ t. rw t) (λ t. rw t message-length)
+  left-length accept = by-test (is9 (x .packet)) (λ t. rw t) (λ t. rw t message-length)
 
   pub response-length : length (reading x .desk .response) ≡ length (x .desk .response)
   unfolding reading

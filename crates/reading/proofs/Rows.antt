@@ -1,120 +1,87 @@
--- The table and the code's order say the same: `reading`, by rows, is `readStep`.
-use mathlib.Core.Path.{_≡_, sym, _∙_}
-use mathlib.Core.Bool.{true, false, cond, not, _||_, _&&_}
-use lib.Dec.{eqb}
+-- The table by its parts: rows 19 and 12, then what the packet is, then the step of its type.
+use Prim.Native.Nat.{ℕ}
+use mathlib.Core.Path.{_≡_, refl, ap, sym, _∙_}
+use mathlib.Core.List.{List, _++_}
+use mathlib.Core.Bool.{Bool, true, false, cond, not, _||_, _&&_}
 use lib.ListN.{length}
-use borrow.Author.Tests.{eqb-true, eq-eqb, ne-eqb}
-use native.Mathlib.Omega.{arith}
-use Rattle.tables.specs.Refusals.{all, flowClosed, allERROR, allRETRY}
-use Rattle.wire.specs.Packet.{tt, packetType, destination}
-use Rattle.wire.specs.Type9.{isS, isE, xh}
-use Rattle.wire.specs.Parsed.{parsed, parsedByType, parsedStream, parsedFielded}
-use Rattle.wire.specs.declared.Parsed.the-variants.{Message}
+use borrow.Author.Tests.{eq-eqb, ne-eqb}
+use Rattle.lists.specs.Each.{Each}
+use Rattle.lists.proofs.Tests.{by-test}
+use Rattle.tables.specs.Refusals.{Row, Leaves, all, Verdict, refuse, accept, verdict, given}
+use Rattle.tables.proofs.Exactly.{every-row, none-held}
+use Rattle.tables.proofs.Joined.{orElse, verdict-joined}
+use Rattle.wire.specs.declared.Parsed.{Parsed}
+use Rattle.wire.specs.declared.Parsed.the-variants.{Refused, Stream, Message}
+use Rattle.wire.specs.Parsed.{parsedBy, parsed}
+use Rattle.wire.specs.Head.{is9, is11, headRows}
+use Rattle.wire.proofs.Head.{one-type, other-type}
 use Rattle.contexts.specs.Words.{stateWords}
 use Rattle.refusal19.specs.Refusal19.{namedBy19}
-use Rattle.rules.specs.Segments.{malformed}
-use Rattle.rules.specs.Messages.{reservedSize, badLength, pastLast}
-use Rattle.streams.specs.Rows as stream
-use Rattle.messages.specs.Rows as message
-use Rattle.reading.specs.Table.{Lent, stateIn, segmentIn, messageSegmentIn, under, is9, is11, isState, wrongSizes, table}
-use Rattle.reading.specs.Read.{Left, leaving, accepting, reading}
-use Rattle.reading.specs.Step.{byParsed, readStep}
-use Rattle.reading.proofs.Cases.{by-test, by-row, by-end}
+use Rattle.streams.specs.Rows.{streamRows}
+use Rattle.streams.specs.Step as stream
+use Rattle.messages.specs.Rows.{messageRows}
+use Rattle.messages.specs.Step.{messageStepped}
+use Rattle.reading.specs.Table.{Lent, stateIn, segmentIn, messageSegmentIn, isState, wrongSizes, lentRows, table}
+use Rattle.reading.specs.Read.{Left, ofStream, ofMessage, leaving, reading, outcome}
+use Rattle.reading.proofs.Cases.{by-row, by-end}
 use Rattle.reading.proofs.StreamRows.{stream-rows}
 use Rattle.reading.proofs.MessageRows.{message-rows}
 
--- a type 9 packet is no type 11 packet
-pub one-type : (x : Lent) → is9 x ≡ true → is11 x ≡ false
-one-type x n =
-    let nine : packetType (x .packet) ≡ 9 = eqb-true (packetType (x .packet)) 9 n in
-    ne-eqb (packetType (x .packet)) 11 (λ e. omega arith)
+-- what is left by what the packet is
+abbrev pub byParsed : Lent → Parsed → Left
+byParsed x (Refused number) = leaving x number all
+byParsed x (Stream g) = ofStream x (stream.stepped (stateIn x) (x .desk .streamMemory) (x .packet) g)
+byParsed x (Message m) = ofMessage x (messageStepped (stateIn x) (x .desk .messageMemory) (x .desk .response) (x .packet) m)
 
--- the rows from 5 on
-abbrev typed : Lent → Left
-typed x =
-    cond (is9 x && xh (x .packet)) (leaving x 5 all)
-    (cond (is9 x && ((isS (x .packet) || isE (x .packet)) && under 9 x)) (leaving x 1 all)
-    (cond (is9 x && malformed (segmentIn x)) (leaving x 6 flowClosed)
-    (cond (is9 x && stream.missized (stateIn x) (segmentIn x)) (leaving x 7 flowClosed)
-    (cond (is9 x && stream.notOpen (stateIn x) (segmentIn x)) (leaving x 8 all)
-    (cond (is9 x && stream.passesRoom (stateIn x) (segmentIn x)) (leaving x 9 flowClosed)
-    (cond (is9 x && stream.noneFree (stateIn x) (segmentIn x)) (leaving x 10 all)
-    (cond (is9 x && stream.lengthDiffers (stateIn x) (segmentIn x)) (leaving x 11 flowClosed)
-    (cond (is11 x && reservedSize (messageSegmentIn x)) (leaving x 20 allERROR)
-    (cond (is11 x && badLength (messageSegmentIn x)) (leaving x 21 allERROR)
-    (cond (is11 x && pastLast (messageSegmentIn x)) (leaving x 22 allERROR)
-    (cond (is11 x && message.otherMessage (stateIn x) (messageSegmentIn x)) (leaving x 23 allERROR)
-    (cond (is11 x && message.alreadyMarked (stateIn x) (messageSegmentIn x)) (leaving x 24 allERROR)
-    (cond (is11 x && message.neededNoneFree (stateIn x) (messageSegmentIn x)) (leaving x 25 allRETRY)
-    (accepting x))))))))))))))
+-- the rows behind the head's: from 6 on
+unfoldable typedRows : Lent → List Row
+typedRows x = given (is9 (x .packet)) (streamRows (stateIn x) (segmentIn x)) ++ given (is11 (x .packet)) (messageRows (stateIn x) (messageSegmentIn x))
 
--- the rows from the first 1 on
-abbrev packeted : Lent → Left
-packeted x =
-    cond (under 5 x) (leaving x 1 all)
-    (cond (not (eqb (tt (x .packet)) 1)) (leaving x 2 all)
-    (cond (not (eqb (destination (x .packet)) (stateIn x .setup .device))) (leaving x 3 all)
-    (cond (not (is9 x || is11 x)) (leaving x 4 all)
-    (cond (under 7 x) (leaving x 1 all)
-    (typed x)))))
+-- rows 19 and 12, then those of the head and those of its type
+flat : (x : Lent) → reading x ≡ cond (isState (x .desk) && namedBy19 (stateIn x)) (leaving x 19 all)
+    (cond (not (isState (x .desk)) || wrongSizes (x .desk)) (leaving x 12 all) (outcome x (verdict (headRows (stateIn x .setup .device) (x .packet) ++ typedRows x))))
+unfolding reading table lentRows typedRows
+flat x = by-row x 19 _ all _ ∙ rw (by-row x 12 (not (isState (x .desk)) || wrongSizes (x .desk)) all)
 
-flat : (x : Lent) → reading x ≡ cond (isState x && namedBy19 (stateIn x)) (leaving x 19 all) (cond (not (isState x) || wrongSizes (x .desk)) (leaving x 12 all) (packeted x))
-unfolding reading table
-flat x = simp (by-row, by-end)
+-- every row of the head leaves all
+head-leaves : (device : ℕ) (p : List ℕ) → Each (λ (r : Row). r .leaves ≡ all) (headRows device p)
+unfolding headRows
+head-leaves device p = (refl, (refl, (refl, (refl, (refl, (refl, (refl, tt)))))))
 
 module _ (x : Lent) (whole : length (x .desk .words) ≡ stateWords) (fine : namedBy19 (stateIn x) ≡ false) where
-  stream-typed : is9 x ≡ true → typed x ≡ byParsed x (parsedStream (x .packet))
-  unfolding parsedStream parsedFielded
-  stream-typed n =
-      rw (n, one-type x n)
-      (by-test (xh (x .packet)) (λ h. rw h)
-      (λ h. by-test (isS (x .packet))
-      (λ s. by-test (under 9 x) (λ u. rw (h, s, u)) (λ u. rw (h, s, u) (sym (stream-rows x whole fine))))
-      (λ s. by-test (isE (x .packet))
-      (λ e. by-test (under 9 x) (λ u. rw (h, s, e, u)) (λ u. rw (h, s, e, u) (sym (stream-rows x whole fine))))
-      (λ e. rw (h, s, e) (sym (stream-rows x whole fine))))))
+  stream-typed : is9 (x .packet) ≡ true → outcome x (verdict (typedRows x)) ≡ byParsed x (Stream (segmentIn x))
+  unfolding typedRows given streamRows messageRows
+  stream-typed n = simp (by-row, by-end, n, one-type (x .packet) n) (sym (stream-rows x whole fine))
 
-  message-typed : is9 x ≡ false → is11 x ≡ true → typed x ≡ byParsed x (Message (messageSegmentIn x))
-  message-typed n e = rw (n, e) (sym (message-rows x whole))
+  message-typed : is9 (x .packet) ≡ false → is11 (x .packet) ≡ true → outcome x (verdict (typedRows x)) ≡ byParsed x (Message (messageSegmentIn x))
+  unfolding typedRows given streamRows messageRows
+  message-typed n e = simp (by-row, by-end, n, e) (sym (message-rows x whole))
 
-  pub packet-rows : packeted x ≡ byParsed x (parsed (stateIn x .setup .device) (x .packet))
-  unfolding parsed parsedByType
-  packet-rows =
-      by-test (under 5 x) (λ a. rw a)
-      (λ a. by-test (eqb (tt (x .packet)) 1)
-      (λ b. by-test (eqb (destination (x .packet)) (stateIn x .setup .device))
-      (λ d. by-test (is9 x)
-      (λ n. by-test (under 7 x) (λ u. rw (a, b, d, n, u)) (λ u. rw (a, b, d, n, u) (rw n at (stream-typed n))))
-      (λ n. by-test (is11 x)
-      (λ e. by-test (under 7 x) (λ u. rw (a, b, d, n, e, u)) (λ u. rw (a, b, d, n, e, u) (rw (n, e) at (message-typed n e))))
-      (λ e. rw (a, b, d, n, e))))
-      (λ d. rw (a, b, d)))
-      (λ b. rw (a, b)))
+  packet-rows : outcome x (verdict (headRows (stateIn x .setup .device) (x .packet) ++ typedRows x)) ≡ byParsed x (parsed (stateIn x .setup .device) (x .packet))
+  unfolding parsed
+  packet-rows = ap (outcome x) (verdict-joined (headRows (stateIn x .setup .device) (x .packet)) (typedRows x)) ∙ go (verdict (headRows (stateIn x .setup .device) (x .packet))) refl
+    where
+      go : (v : Verdict) → verdict (headRows (stateIn x .setup .device) (x .packet)) ≡ v → outcome x (orElse v (verdict (typedRows x))) ≡ byParsed x (parsedBy (x .packet) v)
+      go (refuse number leaves) e =
+          rw (every-row (λ (l : Leaves). l ≡ all) (headRows (stateIn x .setup .device) (x .packet)) number leaves (head-leaves (stateIn x .setup .device) (x .packet)) e)
+      go accept e =
+          by-test (is9 (x .packet))
+          (λ n. rw n (stream-typed n))
+          (λ n. rw n (message-typed n (other-type (x .packet) (stateIn x .setup .device) (none-held _ e) n)))
 
--- rows 19 and 12, then the packet's
-pub by-steps : (x : Lent) → reading x ≡ readStep x
-unfolding readStep
-by-steps x =
-    flat x
-    ∙ by-test (isState x)
-    (λ l. by-test (namedBy19 (stateIn x)) (λ h. rw (l, h))
-    (λ h. by-test (wrongSizes (x .desk)) (λ m. rw (l, h, m)) (λ m. rw (l, h, m) (packet-rows x (eqb-true (length (x .desk .words)) stateWords l) h))))
-    (λ l. rw l)
+module _ (x : Lent) where
+  -- a buffer that is no state: 12
+  pub no-words : (length (x .desk .words) ≡ stateWords → ⊥) → leaving x 12 all ≡ reading x
+  no-words l = sym (flat x ∙ rw (ne-eqb (length (x .desk .words)) stateWords l))
 
--- what remains once rows 19 and 12 have passed
-pub by-packet : (x : Lent) → length (x .desk .words) ≡ stateWords → namedBy19 (stateIn x) ≡ false → wrongSizes (x .desk) ≡ false → reading x ≡ byParsed x (parsed (stateIn x .setup .device) (x .packet))
-unfolding readStep
-by-packet x l h m = by-steps x ∙ rw (eq-eqb (length (x .desk .words)) stateWords l, h, m)
+  module _ (l : length (x .desk .words) ≡ stateWords) where
+    pub named : namedBy19 (stateIn x) ≡ true → leaving x 19 all ≡ reading x
+    named h = sym (flat x ∙ rw (eq-eqb (length (x .desk .words)) stateWords l, h))
 
--- rows 19 and 12 themselves
-pub no-words : (x : Lent) → (length (x .desk .words) ≡ stateWords → ⊥) → leaving x 12 all ≡ reading x
-unfolding readStep
-no-words x l = sym (by-steps x ∙ rw (ne-eqb (length (x .desk .words)) stateWords l))
+    module _ (h : namedBy19 (stateIn x) ≡ false) where
+      pub missized : wrongSizes (x .desk) ≡ true → leaving x 12 all ≡ reading x
+      missized m = sym (flat x ∙ rw (eq-eqb (length (x .desk .words)) stateWords l, h, m))
 
-pub named : (x : Lent) → length (x .desk .words) ≡ stateWords → namedBy19 (stateIn x) ≡ true → leaving x 19 all ≡ reading x
-unfolding readStep
-named x l h = sym (by-steps x ∙ rw (eq-eqb (length (x .desk .words)) stateWords l, h))
-
-pub missized : (x : Lent) → length (x .desk .words) ≡ stateWords → namedBy19 (stateIn x) ≡ false → wrongSizes (x .desk) ≡ true → leaving x 12 all ≡ reading x
-unfolding readStep
-missized x l h m = sym (by-steps x ∙ rw (eq-eqb (length (x .desk .words)) stateWords l, h, m))
+      -- what remains once rows 19 and 12 have passed
+      pub by-packet : wrongSizes (x .desk) ≡ false → reading x ≡ byParsed x (parsed (stateIn x .setup .device) (x .packet))
+      by-packet m = flat x ∙ (rw (eq-eqb (length (x .desk .words)) stateWords l, h, m) (packet-rows x l h))

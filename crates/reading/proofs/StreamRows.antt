@@ -19,7 +19,8 @@ use Rattle.streams.specs.Step.{begun, continued, stepped, refusedStaying}
 use Rattle.streams.proofs.Laws.{size-le}
 use Rattle.reading.specs.Table.{Lent, stateIn, segmentIn}
 use Rattle.reading.specs.Read.{Left, leaving, ofStream}
-use Rattle.reading.proofs.Cases.{by-test, choose-stream}
+use Rattle.lists.proofs.Tests.{by-test}
+use Rattle.reading.proofs.Cases.{choose-stream}
 use Rattle.rules.specs.Segments.{malformed, wrongLength}
 
 -- rows 8 and 11 are for continuations and ends, row 10 for starts and singles

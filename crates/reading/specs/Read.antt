@@ -6,6 +6,7 @@ use mathlib.Core.Bool.{Bool, false, cond}
 use Rattle.answers.specs.Answers.{Said, said, refused}
 use Rattle.answers.specs.declared.Reading.{Reading}
 use Rattle.tables.specs.Refusals.{Leaves, all, flowClosed, allERROR, allRETRY, Verdict, refuse, accept, verdict}
+use Rattle.wire.specs.Head.{is9}
 use Rattle.responses.specs.Type13.{responseSize, ERROR, RETRY, answered}
 use Rattle.contexts.specs.Words.{wordsOf}
 use Rattle.stream_rooms.specs.Placing as streamRoom
@@ -13,7 +14,7 @@ use Rattle.streams.specs.Joining as stream
 use Rattle.message_rooms.specs.Placing.{MessageJoined}
 use Rattle.messages.specs.Joining.{messageAccepted}
 use Rattle.reading.specs.Desk.{Desk, withStreams, withMessages, withResponse}
-use Rattle.reading.specs.Table.{Lent, stateIn, segmentIn, messageSegmentIn, is9, table}
+use Rattle.reading.specs.Table.{Lent, stateIn, segmentIn, messageSegmentIn, table}
 
 -- the answer, whether this packet closed an open stream context undelivered, how many bytes of response were written, and everything lent
 -- as it is left
@@ -52,7 +53,7 @@ leaving x number allRETRY = left (refused number) false responseSize (responded 
 -- an accepted packet: of type 9, else of type 11, since row 4 has passed
 abbrev pub accepting : Lent → Left
 accepting x =
-    cond (is9 x)
+    cond (is9 (x .packet))
     (ofStream x (stream.accepted (stateIn x) (x .desk .streamMemory) (x .packet) (segmentIn x)))
     (ofMessage x (messageAccepted (stateIn x) (x .desk .messageMemory) (x .desk .response) (x .packet) (messageSegmentIn x)))
 

@@ -1,22 +1,22 @@
--- The refusal table of document 01, row by row in its order: number, 'given exactly if', what it leaves.
+-- The refusal table of document 01, in its order: rows of what is lent, of the packet's head, of type 9, of type 11. Each part stands beside its
+-- tests, with its numbers, 'given exactly if' and what it leaves.
 use Prim.Native.Nat.{ℕ, _*_}
-use mathlib.Core.List.{List, [], _∷_}
+use mathlib.Core.List.{List, [], _∷_, _++_}
 use mathlib.Core.Bool.{Bool, not, _||_, _&&_}
 use lib.ListN.{length}
 use lib.Dec.{eqb, ltb}
-use Rattle.tables.specs.Refusals.{Row, row, all, flowClosed, allERROR, allRETRY}
+use Rattle.tables.specs.Refusals.{Row, row, all, given}
 use Rattle.wire.specs.declared.Segment.{Segment}
 use Rattle.wire.specs.declared.MessageSegment.{MessageSegment}
-use Rattle.wire.specs.Packet.{tt, packetType, destination}
-use Rattle.wire.specs.Type9.{isS, isE, xh, segmentOf}
+use Rattle.wire.specs.Type9.{segmentOf}
 use Rattle.wire.specs.Type11.{messageOf}
+use Rattle.wire.specs.Head.{is9, is11, headRows}
+use Rattle.responses.specs.Type13.{responseSize}
 use Rattle.contexts.specs.State.{State}
 use Rattle.contexts.specs.Words.{stateWords}
 use Rattle.refusal19.specs.Refusal19.{namedBy19}
-use Rattle.rules.specs.Segments.{malformed}
-use Rattle.rules.specs.Messages.{reservedSize, badLength, pastLast}
-use Rattle.streams.specs.Rows as stream
-use Rattle.messages.specs.Rows as message
+use Rattle.streams.specs.Rows.{streamRows}
+use Rattle.messages.specs.Rows.{messageRows}
 use Rattle.reading.specs.Desk.{Desk, stateOn}
 
 -- what the caller lends for a packet: the desk and the packet
@@ -36,69 +36,33 @@ segmentIn x = segmentOf (x .packet)
 abbrev pub messageSegmentIn : Lent → MessageSegment
 messageSegmentIn x = messageOf (x .packet)
 
--- the packet is under n bytes long
-abbrev pub under : ℕ → Lent → Bool
-under n x = ltb (length (x .packet)) n
-
-abbrev pub is9 : Lent → Bool
-is9 x = eqb (packetType (x .packet)) 9
-
-abbrev pub is11 : Lent → Bool
-is11 x = eqb (packetType (x .packet)) 11
-
--- 147 words are a state; a buffer of another length is a lent memory of the wrong size
-abbrev pub isState : Lent → Bool
-isState x = eqb (length (x .desk .words)) stateWords
+-- so many words are a state; a buffer of another length is a lent memory of the wrong size
+abbrev pub isState : Desk → Bool
+isState d = eqb (length (d .words)) stateWords
 
 -- 12: a stream memory that is not 16 R bytes long, a message memory that is not 32,768, or a response buffer under 7
 unfoldable pub wrongSizes : Desk → Bool
 wrongSizes d =
     not (eqb (length (d .streamMemory)) (16 * stateOn d .setup .room))
     || not (eqb (length (d .messageMemory)) 32768)
-    || ltb (length (d .response)) 7
+    || ltb (length (d .response)) responseSize
+
+-- the rows of what is lent
+unfoldable pub lentRows : Desk → List Row
+lentRows d =
+    -- a state that 19 names
+    row 19 (isState d && namedBy19 (stateOn d)) all
+    -- a lent memory of the wrong size, or response buffer under 7
+    ∷ row 12 (not (isState d) || wrongSizes d) all
+    ∷ []
 
 unfoldable pub table : Lent → List Row
 table x =
-    -- a state that 19 names
-    row 19 (isState x && namedBy19 (stateIn x)) all
-    -- a lent memory of the wrong size, or response buffer under 7
-    ∷ row 12 (not (isState x) || wrongSizes (x .desk)) all
-    -- under 5 bytes
-    ∷ row 1 (under 5 x) all
-    -- tt not 01
-    ∷ row 2 (not (eqb (tt (x .packet)) 0b01)) all
-    -- destination not ours
-    ∷ row 3 (not (eqb (destination (x .packet)) (stateIn x .setup .device))) all
-    -- type not 9 or 11
-    ∷ row 4 (not (is9 x || is11 x)) all
-    -- under 7 bytes
-    ∷ row 1 (under 7 x) all
-    -- type 9, xh=1
-    ∷ row 5 (is9 x && xh (x .packet)) all
-    -- type 9 with S or E, under 9 bytes
-    ∷ row 1 (is9 x && ((isS (x .packet) || isE (x .packet)) && under 9 x)) all
-    -- type 9: no data, odd bytes of data, or O wrong
-    ∷ row 6 (is9 x && malformed (segmentIn x)) flowClosed
-    -- start or continuation not MTU data bytes (pad not counted); end or single over MTU
-    ∷ row 7 (is9 x && stream.missized (stateIn x) (segmentIn x)) flowClosed
-    -- continuation or end, flow not open
-    ∷ row 8 (is9 x && stream.notOpen (stateIn x) (segmentIn x)) all
-    -- type 9: total would pass R
-    ∷ row 9 (is9 x && stream.passesRoom (stateIn x) (segmentIn x)) flowClosed
-    -- start or single, flow not open, no context free
-    ∷ row 10 (is9 x && stream.noneFree (stateIn x) (segmentIn x)) all
-    -- end, total differs from PDU length
-    ∷ row 11 (is9 x && stream.lengthDiffers (stateIn x) (segmentIn x)) flowClosed
-    -- ssize reserved
-    ∷ row 20 (is11 x && reservedSize (messageSegmentIn x)) allERROR
-    -- message data length breaks the rule
-    ∷ row 21 (is11 x && badLength (messageSegmentIn x)) allERROR
-    -- msglen over 0, msgseg over msglen
-    ∷ row 22 (is11 x && pastLast (messageSegmentIn x)) allERROR
-    -- open message has another msglen or ssize
-    ∷ row 23 (is11 x && message.otherMessage (stateIn x) (messageSegmentIn x)) allERROR
-    -- segment already marked
-    ∷ row 24 (is11 x && message.alreadyMarked (stateIn x) (messageSegmentIn x)) allERROR
-    -- context needed, none free
-    ∷ row 25 (is11 x && message.neededNoneFree (stateIn x) (messageSegmentIn x)) allRETRY
-    ∷ []
+    -- 19, 12
+    lentRows (x .desk)
+    -- 1 under 5 bytes, 2, 3, 4, 1 under 7, 5, 1 under 9 (wire/specs/Head.antt)
+    ++ (headRows (stateIn x .setup .device) (x .packet)
+    -- type 9: 6 to 11 (streams/specs/Rows.antt)
+    ++ (given (is9 (x .packet)) (streamRows (stateIn x) (segmentIn x))
+    -- type 11: 20 to 25 (messages/specs/Rows.antt)
+    ++ given (is11 (x .packet)) (messageRows (stateIn x) (messageSegmentIn x))))

@@ -2,21 +2,23 @@
 use Prim.Native.Nat.{ℕ, _+_, _-_, _*_, _/_, _%_, _≤_, _<_}
 use mathlib.Core.Path.{_≡_, refl, sym, ap, _∙_, subst}
 use mathlib.Core.List.{List, _∷_, _++_}
-use mathlib.Core.Bool.{Bool, true, false, cond, not, _||_}
+use mathlib.Core.Bool.{Bool, true, false, cond, not, _||_, _&&_}
 use native.Mathlib.Omega.{arith}
 use lib.ListN.{length, take, drop, length-append}
 use lib.Seq.{take-append-seam}
 use lib.Dec.{eqb}
 use borrow.Author.Tests.{ltb-true, eqb-true, eqb-false, eq-eqb, ne-eqb, le-ltb}
 use Rattle.lists.specs.Bytes.{byte, high, low}
-use Rattle.wire.specs.Packet.{packetType, destination, tt as ttOf}
+use Rattle.tables.specs.Refusals.{none}
+use Rattle.wire.specs.Packet.{header, packetType, destination, tt as ttOf}
 use Rattle.wire.specs.declared.Flow.{Flow}
 use Rattle.wire.specs.declared.Segment.{Segment}
 use Rattle.wire.specs.declared.Parsed.the-variants.{Stream}
 use Rattle.wire.specs.Type9.{segmentAt, segmentOf}
 use Rattle.sizes.specs.Sizes.{badMTU, dataLength}
-use Rattle.wire.specs.Parsed.{parsed, parsedByType, parsedStream, parsedFielded}
-use Rattle.wire.proofs.Forms.{with-field, without-field}
+use Rattle.wire.specs.Head.{under, is9, headRows}
+use Rattle.wire.specs.Parsed.{parsed}
+use Rattle.wire.proofs.Head.{with-field, without-field, is-stream}
 use Rattle.rules.specs.Segments.{malformed}
 use Rattle.stream_rooms.specs.Placing as placing
 use Rattle.cutting.specs.declared.Heading.{Heading}
@@ -92,48 +94,54 @@ module _ (h : Heading) (range : InRange h) (size : ℕ) (bytes : List ℕ) where
       without-field (shape h false false size bytes) (fl .of-S) (fl .of-E)
       ∙ by-fields _ _ _ _ _ _ _ _ _ _ _ _ _ _ _ _ _ (fl .of-S) (fl .of-E) (two-bytes (h .source) (range .source)) refl refl (omega arith) (fl .of-O) (fl .of-P)
 
-  -- rows 1 to 5 pass it
-  with-S-or-E : (first final : Bool) → 9 ≤ length (shape h first final size bytes) → (first || final) ≡ true
-      → parsedStream (shape h first final size bytes) ≡ Stream (segmentOf (shape h first final size bytes))
-  unfolding parsedStream parsedFielded
-  with-S-or-E true final long e =
-      let fl = flags-of true final (length bytes) in
-      rw (fl .of-xh, fl .of-S, le-ltb _ 9 long)
-  with-S-or-E false true long e =
-      let fl = flags-of false true (length bytes) in
-      rw (fl .of-xh, fl .of-S, fl .of-E, le-ltb _ 9 long)
-  with-S-or-E false false long e = absurd (let z : _≡_ {A = ℕ} 0 1 = cc in omega arith)
+  -- the rows of the head pass it
+  of-9 : (first final : Bool) → is9 (shape h first final size bytes) ≡ true
+  of-9 first final = eq-eqb (packetType (shape h first final size bytes)) 9 (first-byte (h .priority) (range .priority) .of-type)
 
-  by-stream : (first final : Bool) → parsedStream (shape h first final size bytes) ≡ Stream (segmentOf (shape h first final size bytes))
-  unfolding parsedStream fieldOf
-  by-stream true final = with-S-or-E true final (omega arith) refl
-  by-stream false true = with-S-or-E false true (omega arith) refl
-  by-stream false false =
-      let fl = flags-of false false (length bytes) in
-      rw (fl .of-xh, fl .of-S, fl .of-E)
+  field-fits : (first final : Bool) → ((first || final) && under (header + 4) (shape h first final size bytes)) ≡ false
+  unfolding fieldOf
+  field-fits true final = le-ltb (length (shape h true final size bytes)) (header + 4) (omega arith)
+  field-fits false true = le-ltb (length (shape h false true size bytes)) (header + 4) (omega arith)
+  field-fits false false = refl
+
+  passes : (first final : Bool) → none (headRows (h .destination) (shape h first final size bytes))
+  unfolding none headRows
+  passes first final =
+      let fl = flags-of first final (length bytes) in
+      let f = first-byte (h .priority) (range .priority) in (
+        le-ltb (length (shape h first final size bytes)) header (omega arith),
+        (
+          rw (eq-eqb (ttOf (shape h first final size bytes)) 1 (f .of-tt)),
+          (
+            rw (eq-eqb (destination (shape h first final size bytes)) (h .destination) (two-bytes (h .destination) (range .destination))),
+            (
+              rw (of-9 first final),
+              (
+                le-ltb (length (shape h first final size bytes)) (header + 2) (omega arith),
+                (
+                  rw (of-9 first final, fl .of-xh),
+                  (
+                    rw (of-9 first final, fl .of-S, fl .of-E) (field-fits first final),
+                    tt,
+                  ),
+                ),
+              ),
+            ),
+          ),
+        ),
+      )
 
   is-parsed : (first final : Bool) → parsed (h .destination) (shape h first final size bytes) ≡ Stream (segment h first final size bytes)
-  unfolding parsed parsedByType
-  is-parsed first final =
-      let f = first-byte (h .priority) (range .priority) in
-      let long : 7 ≤ length (shape h first final size bytes) = omega arith in
-      rw (
-        le-ltb (length (shape h first final size bytes)) 5 (omega arith),
-        eq-eqb (ttOf (shape h first final size bytes)) 1 (f .of-tt),
-        eq-eqb (destination (shape h first final size bytes)) (h .destination) (two-bytes (h .destination) (range .destination)),
-        eq-eqb (packetType (shape h first final size bytes)) 9 (f .of-type),
-        le-ltb (length (shape h first final size bytes)) 7 long,
-        by-stream first final,
-      ) (ap Stream (is-segment first final))
+  is-parsed first final = is-stream (shape h first final size bytes) (h .destination) (passes first final) (of-9 first final) ∙ ap Stream (is-segment first final)
 
   -- its data
   is-data : (first final : Bool) → placing.dataOf (shape h first final size bytes) (segment h first final size bytes) ≡ bytes
   unfolding fieldOf
   is-data first final =
-      ap (λ (n : ℕ). take n (drop (cond (first || final) 9 7) (shape h first final size bytes))) (cut-length (headingFlow h) first final (h .stream) size (length bytes))
+      ap (λ (n : ℕ). take n (drop (cond (first || final) (header + 4) (header + 2)) (shape h first final size bytes))) (cut-length (headingFlow h) first final (h .stream) size (length bytes))
       ∙ go first final
     where
-      go : (first final : Bool) → take (length bytes) (drop (cond (first || final) 9 7) (shape h first final size bytes)) ≡ bytes
+      go : (first final : Bool) → take (length bytes) (drop (cond (first || final) (header + 4) (header + 2)) (shape h first final size bytes)) ≡ bytes
       go true final = take-append-seam bytes (padOf (length bytes))
       go false true = take-append-seam bytes (padOf (length bytes))
       go false false = take-append-seam bytes (padOf (length bytes))

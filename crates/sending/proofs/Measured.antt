@@ -11,25 +11,26 @@ use lib.Dec.{eqb, ltb}
 use borrow.Author.Tests.{eqb-true, ltb-true, ltb-false, not-false}
 use Rattle.lists.specs.Bytes.{written}
 use Rattle.answers.specs.Answers as answers
-use Rattle.tables.specs.Refusals.{Leaves, all, flowClosed, allERROR, allRETRY, Verdict, refuse, accept, verdict, none}
+use Rattle.tables.specs.Refusals.{Leaves, all, flowClosed, allERROR, allRETRY, Verdict, refuse, accept, verdict, none, given}
 use Rattle.tables.proofs.Exactly.{none-held}
 use Rattle.wire.specs.declared.Flow.{Flow}
 use Rattle.wire.specs.declared.Segment.{Segment}
 use Rattle.wire.specs.declared.MessageSegment.{MessageSegment}
 use Rattle.wire.specs.Type11.{isSingle, mailbox}
+use Rattle.wire.specs.Head.{is9, headRows}
 use Rattle.sizes.specs.Sizes.{bytesOf}
 use Rattle.rules.specs.Messages.{lastWith}
-use Rattle.messages.specs.Rows.{messageFound as found, messageOpen}
+use Rattle.messages.specs.Rows.{messageFound as found, messageOpen, messageRows}
 use Rattle.contexts.specs.State.{State, freeStream, freeMessage, messageIn}
-use Rattle.streams.specs.Rows.{foundFor, flowOpen, heldBefore, total, notOpen, passesRoom, noneFree}
+use Rattle.streams.specs.Rows.{foundFor, flowOpen, heldBefore, total, notOpen, passesRoom, noneFree, streamRows}
 use Rattle.stream_rooms.specs.Placing as placing
 use Rattle.streams.specs.Joining as stream
 use Rattle.message_rooms.specs.Placing as boxes
 use Rattle.messages.specs.Joining as message
-use Rattle.reading.specs.Table.{Lent, lent, stateIn, segmentIn, messageSegmentIn, isState, is9, wrongSizes, table}
-use Rattle.reading.proofs.Left.{sizes-fit}
-use Rattle.reading.specs.Read.{ofStream, ofMessage, leaving, outcome, reading}
 use Rattle.reading.specs.Desk.{Desk, stateOn}
+use Rattle.reading.specs.Table.{Lent, lent, stateIn, segmentIn, messageSegmentIn, isState, wrongSizes, lentRows, table}
+use Rattle.reading.specs.Read.{ofStream, ofMessage, leaving, outcome, reading}
+use Rattle.reading.proofs.Left.{sizes-fit}
 use Rattle.flows.specs.Deliveries.{inRoom}
 use Rattle.sending.specs.OfSendings.{LengthIsMeasured}
 
@@ -146,14 +147,19 @@ length-is-measured b p context flow st size = by-verdict (verdict (table x)) ref
     x : Lent
     x = lent b p
 
-    placeable : is9 x ≡ true → none (table x) → Placeable (stateIn x) (b .streamMemory) (segmentIn x)
-    placeable nine rows = unfold none table in record {
-      size = right-size b (or-false (not (isState x)) (wrongSizes b) (rows .1 .0) .1);
-      context = below-16 (stateIn x) (segmentIn x) (of-9 (is9 x) _ nine (rows .1 .1 .1 .1 .1 .1 .1 .1 .1 .1 .1 .0)) (of-9 (is9 x) _ nine (rows .1 .1 .1 .1 .1 .1 .1 .1 .1 .1 .1 .1 .1 .0));
-      fits = unfold passesRoom in (ltb-false (stateIn x .setup .room) (total (stateIn x) (segmentIn x)) (of-9 (is9 x) _ nine (rows .1 .1 .1 .1 .1 .1 .1 .1 .1 .1 .1 .1 .0)));
-    }
+    placeable : is9 (x .packet) ≡ true → none (table x) → Placeable (stateIn x) (b .streamMemory) (segmentIn x)
+    placeable nine rows =
+        unfold none table lentRows headRows given streamRows messageRows in
+        let row-8 = rows .1 .1 .1 .1 .1 .1 .1 .1 .1 .1 .1 in
+        let row-9 = row-8 .1 in
+        let row-10 = row-9 .1 in
+        record {
+          size = right-size b (or-false (not (isState b)) (wrongSizes b) (rows .1 .0) .1);
+          context = below-16 (stateIn x) (segmentIn x) (of-9 (is9 (x .packet)) _ nine (row-8 .0)) (of-9 (is9 (x .packet)) _ nine (row-10 .0));
+          fits = unfold passesRoom in (ltb-false (stateIn x .setup .room) (total (stateIn x) (segmentIn x)) (of-9 (is9 (x .packet)) _ nine (row-9 .0)));
+        }
 
-    by-type : (t : Bool) → is9 x ≡ t → none (table x)
+    by-type : (t : Bool) → is9 (x .packet) ≡ t → none (table x)
         → (cond t
         (ofStream x (stream.accepted (stateIn x) (b .streamMemory) p (segmentIn x)))
         (ofMessage x (message.messageAccepted (stateIn x) (b .messageMemory) (b .response) p (messageSegmentIn x)))) .says ≡ answers.delivered context flow st size
@@ -166,4 +172,4 @@ length-is-measured b p context flow st size = by-verdict (verdict (table x)) ref
     by-verdict : (v : Verdict) → verdict (table x) ≡ v → outcome x v .says ≡ answers.delivered context flow st size
         → length (inRoom (stateIn x .setup .room) (outcome x v .desk .streamMemory) context size) ≡ size
     by-verdict (refuse number leaves) e d = absurd (leaving-none x number leaves context flow st size d)
-    by-verdict accept e d = by-type (is9 x) refl (none-held (table x) e) d
+    by-verdict accept e d = by-type (is9 (x .packet)) refl (none-held (table x) e) d

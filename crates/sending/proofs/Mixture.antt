@@ -12,7 +12,9 @@ use Rattle.wire.specs.Type11.{messageOf}
 use Rattle.wire.specs.declared.Segment.{Segment}
 use Rattle.wire.specs.declared.Parsed.{Parsed}
 use Rattle.wire.specs.declared.Parsed.the-variants.{Refused, Stream, Message}
-use Rattle.wire.specs.Parsed.{parsed, parsedByType}
+use Rattle.tables.specs.Refusals.{verdict}
+use Rattle.wire.specs.Head.{headRows}
+use Rattle.wire.specs.Parsed.{parsed}
 use Rattle.cutting.specs.Cutting.{segmentCount, segmentData, isFirst, isFinal, padOf, flagsOf, fieldOf, packetOf}
 use Rattle.flows.specs.ByFlow.{AreBytes}
 use Rattle.sending.specs.Sending.{putOf, FairPDU, Fair}
@@ -62,7 +64,7 @@ unfolding isSegment
 no-segment p e g s = false≢true (sym e ∙ ap isSegment s)
 
 fair-mixture : Fair smallSetup mixture
-unfolding segmentCount under parsed parsedByType messageOf isSegment
+unfolding segmentCount under parsed headRows verdict messageOf isSegment
 fair-mixture = record {
   sent-fairly = record {
     sixteen = omega arith;

@@ -9,6 +9,7 @@ use Rattle.wire.specs.declared.Flow.{Flow}
 use Rattle.wire.specs.declared.Segment.{Segment}
 use Rattle.wire.specs.declared.MessageSegment.{MessageSegment}
 use Rattle.wire.specs.Type11.{isSingle}
+use Rattle.wire.specs.Head.{is9}
 use Rattle.contexts.specs.State.{Setup, State, freeMessage, messageIn}
 use Rattle.contexts.specs.Words.{stateOf, wordsOf}
 use Rattle.messages.specs.Rows.{messageFound as found, messageOpen}
@@ -16,7 +17,7 @@ use Rattle.stream_rooms.specs.Placing as placing
 use Rattle.streams.specs.Joining as stream
 use Rattle.message_rooms.specs.Placing as boxes
 use Rattle.messages.specs.Joining as message
-use Rattle.reading.specs.Table.{Lent, lent, stateIn, segmentIn, messageSegmentIn, is9, table}
+use Rattle.reading.specs.Table.{Lent, lent, stateIn, segmentIn, messageSegmentIn, table}
 use Rattle.reading.specs.Read.{ofStream, ofMessage, leaving, outcome, reading}
 use Rattle.reading.specs.Desk.{Desk, stateOn}
 use Rattle.flows.specs.Deliveries.{after, view}
@@ -66,7 +67,7 @@ room-stays b p = go (verdict (table x))
 
     go : (v : Verdict) → stateOf (outcome x v .desk .words) .setup .room ≡ stateIn x .setup .room
     go (refuse number leaves) = refused-room x number leaves
-    go accept = accepted-room x (is9 x)
+    go accept = accepted-room x (is9 (x .packet))
 
 -- so the laws may carry it along
 pub record Carried (setup : Setup) (flows : List Flow) (b : Desk) : Type 1 where

@@ -1,10 +1,12 @@
--- The tests of rows 7 to 11 of the refusal table, for a type 9 packet and a state; row 6 needs no state (crate rules). (Document 01, 'Refusal numbers').
+-- Rows 6 to 11 of the refusal table, for a type 9 packet and a state: their tests, and the rows (document 01, 'Refusal numbers').
 use Prim.Native.Nat.{ℕ, _+_}
+use mathlib.Core.List.{List, [], _∷_}
 use mathlib.Core.Bool.{Bool, cond, not, _&&_}
 use lib.Dec.{ltb}
+use Rattle.tables.specs.Refusals.{Row, row, all, flowClosed}
 use Rattle.wire.specs.declared.Segment.{Segment}
 use Rattle.sizes.specs.Sizes.{dataLength}
-use Rattle.rules.specs.Segments.{wrongSize, wrongLength}
+use Rattle.rules.specs.Segments.{malformed, wrongSize, wrongLength}
 use Rattle.contexts.specs.State.{State, streamIn, flowContext, freeStream}
 
 -- the flow's open context, 16 where it has none, and whether it has one
@@ -40,3 +42,20 @@ noneFree s g = g .begins && (not (flowOpen s g) && not (ltb (freeStream s) 16))
 -- 11: end, total differs from PDU length
 unfoldable pub lengthDiffers : State → Segment → Bool
 lengthDiffers s g = not (g .begins) && wrongLength g (total s g)
+
+-- in the paper's order and words
+unfoldable pub streamRows : State → Segment → List Row
+streamRows s g =
+    -- no data, odd bytes of data, or O wrong
+    row 6 (malformed g) flowClosed
+    -- start or continuation not MTU data bytes (pad not counted); end or single over MTU
+    ∷ row 7 (missized s g) flowClosed
+    -- continuation or end, flow not open
+    ∷ row 8 (notOpen s g) all
+    -- total would pass R
+    ∷ row 9 (passesRoom s g) flowClosed
+    -- start or single, flow not open, no context free
+    ∷ row 10 (noneFree s g) all
+    -- end, total differs from PDU length
+    ∷ row 11 (lengthDiffers s g) flowClosed
+    ∷ []

@@ -5,6 +5,7 @@ use mathlib.Core.Logic.{_↔_}
 use mathlib.Core.List.{List, [], _∷_, _++_}
 use mathlib.Core.Bool.{Bool, true, false, cond}
 use native.Mathlib.Omega.{arith}
+use Rattle.lists.specs.Each.{Each}
 use Rattle.tables.specs.Refusals.{RowOf, VerdictOf, refuse, accept, verdict, none, Decides}
 
 module _ {L : Type 0} where
@@ -33,6 +34,16 @@ module _ {L : Type 0} where
           let w = ih e in
           let d = w .1 in
           (w .0, record { earlier = r ∷ d .earlier; later = d .later; place = ap (λ (l : List (RowOf L)). r ∷ l) (d .place); before = (h, d .before); this = d .this }, w .2, w .3)
+
+  -- what every row of a table leaves, a refusal by it leaves
+  pub every-row : (P : L → Type 0) (table : List (RowOf L)) (number : ℕ) (leaves : L) → Each (λ (r : RowOf L). P (r .leaves)) table → verdict table ≡ refuse number leaves → P leaves
+  unfolding verdict
+  every-row P [] number leaves rows e = absurd (let z : _≡_ {A = ℕ} 0 1 = cc in omega arith)
+  every-row P (r ∷ table) number leaves rows e = go (r .holds) e (every-row P table number leaves (rows .1))
+    where
+      go : (b : Bool) → cond b (refuse (r .number) (r .leaves)) (verdict table) ≡ refuse number leaves → (verdict table ≡ refuse number leaves → P leaves) → P leaves
+      go true e ih = let same : r .leaves ≡ leaves = cc in rw (← same) (rows .0)
+      go false e ih = ih e
 
   -- an answer made from a verdict, where no two numbers are answered alike and an accepted call is answered otherwise:
   -- a number is answered exactly if a row of that number decides

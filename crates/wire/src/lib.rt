@@ -1,12 +1,14 @@
 // Packets as document 01 lays them out: the head of types 9 and 11 read into small structs. No state.
 ghost use mathlib.Core.Path.{_≡_};
 ghost use mathlib.Core.Bool.{_||_, true};
-ghost use Prim.Native.Nat.{_<_, _≤_};
+ghost use Prim.Native.Nat.{_+_, _<_, _≤_};
 ghost use lib.ListN.{length};
-ghost use Rattle.wire.specs.Packet.{bit as bitOf};
+ghost use Rattle.wire.specs.Packet.{header, bit as bitOf};
 ghost use Rattle.wire.specs.Type9.{isS, isE, sameFlow, segmentAt};
 ghost use Rattle.wire.specs.Type11.{messageOf};
-ghost use Rattle.wire.specs.Parsed.{parsedFielded, parsedStream, parsedByType, parsed};
+ghost use Rattle.wire.specs.Head.{is9};
+ghost use Rattle.wire.specs.Parsed.{parsed};
+ghost use Rattle.wire.specs.Inside.{parsedBehind};
 
 // Where the fields of a type begin: behind byte 0 and two IDs of two bytes.
 pub const HEADER: usize = 5;
@@ -68,7 +70,7 @@ fn bit(byte: usize, weight: usize) -> bool
 
 // The fields of a type 9 packet whose data begin at `from`.
 fn segment_at(packet: &[u8], from: usize, field: usize) -> Segment
-    requires { ⌜ (7 ≤ length (now packet)) × (from ≤ length (now packet)) ⌝ }
+    requires { ⌜ (header + 2 ≤ length (now packet)) × (from ≤ length (now packet)) ⌝ }
     ensures { λ r. ⌜ r ≡ segmentAt (now (packet .entry)) from field ⌝ }
 {
     let flags = lists::wide(packet[HEADER + 1]);
@@ -90,9 +92,10 @@ fn segment_at(packet: &[u8], from: usize, field: usize) -> Segment
 
 // A type 9 packet with S or E set, which has a field of two bytes before its data.
 fn parse_fielded(packet: &[u8]) -> Parsed
-    requires { ⌜ 7 ≤ length (now packet) ⌝ }
+    requires { ⌜ header + 2 ≤ length (now packet) ⌝ }
+    requires { ⌜ is9 (now packet) ≡ true ⌝ }
     requires { ⌜ (isS (now packet) || isE (now packet)) ≡ true ⌝ }
-    ensures { λ r. ⌜ r ≡ parsedFielded (now (packet .entry)) ⌝ }
+    ensures { λ r. ⌜ r ≡ parsedBehind 6 (now (packet .entry)) ⌝ }
 {
     if packet.len() < HEADER + 4 {
         return Parsed::Refused(1);
@@ -103,8 +106,9 @@ fn parse_fielded(packet: &[u8]) -> Parsed
 
 // A type 9 packet behind its IDs.
 fn parse_stream(packet: &[u8]) -> Parsed
-    requires { ⌜ 7 ≤ length (now packet) ⌝ }
-    ensures { λ r. ⌜ r ≡ parsedStream (now (packet .entry)) ⌝ }
+    requires { ⌜ header + 2 ≤ length (now packet) ⌝ }
+    requires { ⌜ is9 (now packet) ≡ true ⌝ }
+    ensures { λ r. ⌜ r ≡ parsedBehind 5 (now (packet .entry)) ⌝ }
 {
     let flags = lists::wide(packet[HEADER + 1]);
     if bit(flags, 4) {
@@ -121,7 +125,7 @@ fn parse_stream(packet: &[u8]) -> Parsed
 
 // A type 11 packet behind its IDs.
 fn parse_message(packet: &[u8]) -> MessageSegment
-    requires { ⌜ 7 ≤ length (now packet) ⌝ }
+    requires { ⌜ header + 2 ≤ length (now packet) ⌝ }
     ensures { λ r. ⌜ r ≡ messageOf (now (packet .entry)) ⌝ }
 {
     let sizes = lists::wide(packet[HEADER]);
@@ -139,8 +143,8 @@ fn parse_message(packet: &[u8]) -> MessageSegment
 
 // The one place where types part.
 fn parse_by_type(packet: &[u8]) -> Parsed
-    requires { ⌜ 5 ≤ length (now packet) ⌝ }
-    ensures { λ r. ⌜ r ≡ parsedByType (now (packet .entry)) ⌝ }
+    requires { ⌜ header ≤ length (now packet) ⌝ }
+    ensures { λ r. ⌜ r ≡ parsedBehind 3 (now (packet .entry)) ⌝ }
 {
     let kind = lists::wide(packet[0]) % 16;
     if kind == 9 {

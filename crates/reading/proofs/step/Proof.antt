@@ -1,17 +1,17 @@
 -- `reading::step` meets its contract: by what the packet is, the step of its type, in the words that it leaves.
-use Prim.Native.Nat.{ℕ, _<_}
+use Prim.Native.Nat.{ℕ, _+_, _<_}
 use mathlib.Core.Path.{_≡_, ap, sym, _∙_}
 use lib.ListN.{getD}
 use native.Mathlib.Omega.{arith}
 use borrow.Author.Needs.{needs}
+use Rattle.wire.specs.Packet.{header}
 use Rattle.wire.specs.Parsed.{parsed}
 use Rattle.reading.specs.Desk.{desk}
 use Rattle.reading.specs.Table.{Lent, lent}
 use Rattle.reading.specs.Read.{reading}
-use Rattle.reading.specs.Step.{byParsed}
 use Rattle.reading.specs.Inside.{ReadyToRead}
 use Rattle.reading.proofs.Packets.{stream-parsed, message-parsed, message-small}
-use Rattle.reading.proofs.Rows.{by-packet}
+use Rattle.reading.proofs.Rows.{byParsed, by-packet}
 use Rattle.reading.proofs.Left.{refusing, sizes-right, stream-left, message-left}
 use Rattle.reading.proofs.step.Statement.{statement}
 use Rattle.reading.proofs.step.Tie as tie
@@ -67,8 +67,8 @@ step-requires-2 c κs =
     let p = lent-to at-parse .packet in
     let says = message-parsed p _ _ (sym (at-parse .parse .ensures) ∙ at-m .m .given .1) in
     let known = at-parse .before .before .before .shared-slice-known .given in
-    let a : getD p 5 0 < 256 = omega (arith, known 5) in
-    let b : getD p 6 0 < 256 = omega (arith, known 6) in
+    let a : getD p header 0 < 256 = omega (arith, known header) in
+    let b : getD p (header + 1) 0 < 256 = omega (arith, known (header + 1)) in
     let small = message-small p _ says a b in
     let fit = ready at-parse .fit in
     record { whole = fit .whole; good = fit .good; size = fit .boxes; reply = ready at-parse .reply; inside = small .0; segments = small .1; number = small .2; boxes = small .3 }

@@ -1,60 +1,60 @@
 -- `wire::parse_by_type` meets its contract: each return follows from the tests on the way.
-use Rattle.wire.specs.Parsed.{parsedByType}
+use Rattle.wire.proofs.Head.{behind-5}
+use Rattle.tables.specs.Refusals.{verdict}
+use Rattle.wire.specs.Head.{headRows}
+use Rattle.wire.specs.Inside.{parsedBehind}
+use mathlib.Core.Path.{_∙_}
 use borrow.Author.Tests.{eq-eqb, le-ltb, lt-ltb, ne-eqb}
 use borrow.Author.Needs.{needs}
 use Rattle.wire.proofs.parse_by_type.Statement.{statement}
 use Rattle.wire.proofs.parse_by_type.Tie as tie
 
-shared-slice-read-wide : tie.Need-shared-slice-read-wide
-shared-slice-read-wide c = search needs
-
-wide-requires : tie.Need-wide-requires
-wide-requires c κs = search needs
-
-add-if2 : tie.Need-add-if2
-add-if2 c = search needs
-
+-- type 9. 1: under 7 bytes
 returns : tie.Need-returns
-unfolding parsedByType
-returns c = simp (← c .before .before .wide .ensures .0, eq-eqb _ _ (c .before .if1 .taken), lt-ltb _ _ (c .if2 .taken))
+unfolding parsedBehind headRows verdict
+returns c =
+    let at-type = c .before .before in
+    simp (← at-type .wide .ensures .0, eq-eqb _ _ (c .before .if1 .taken), lt-ltb _ _ (c .if2 .taken))
 
+-- type 9
 parse-stream-requires : tie.Need-parse-stream-requires
-parse-stream-requires c κs = search needs
+parse-stream-requires c κs =
+    let at-type = c .before .before in
+    (search needs, simp (← at-type .wide .ensures .0) (eq-eqb _ _ (c .before .if1 .taken)))
 
 returns-2 : tie.Need-returns-2
-unfolding parsedByType
-returns-2 c = simp (← c .before .before .before .wide .ensures .0, eq-eqb _ _ (c .before .before .if1 .taken), le-ltb _ _ (c .before .if2 .left), ← c .parse-stream .ensures)
+returns-2 c =
+    let at-9 = c .before .before in
+    c .parse-stream .ensures ∙ behind-5 _ (simp (← at-9 .before .wide .ensures .0) (eq-eqb _ _ (at-9 .if1 .taken))) (c .before .if2 .left)
 
-add-if4 : tie.Need-add-if4
-add-if4 c = search needs
-
+-- type 11. 1: under 7 bytes
 returns-3 : tie.Need-returns-3
-unfolding parsedByType
-returns-3 c = simp (← c .before .before .before .wide .ensures .0, ne-eqb _ _ (c .before .before .if1 .left), eq-eqb _ _ (c .before .if3 .taken), lt-ltb _ _ (c .if4 .taken))
+unfolding parsedBehind headRows verdict
+returns-3 c =
+    let at-9 = c .before .before in
+    simp (← at-9 .before .wide .ensures .0, ne-eqb _ _ (at-9 .if1 .left), eq-eqb _ _ (c .before .if3 .taken), lt-ltb _ _ (c .if4 .taken))
 
-parse-message-requires : tie.Need-parse-message-requires
-parse-message-requires c κs = search needs
-
+-- type 11
 returns-4 : tie.Need-returns-4
-unfolding parsedByType
-returns-4 c = simp (← c .before .before .before .before .wide .ensures .0, ne-eqb _ _ (c .before .before .before .if1 .left), eq-eqb _ _ (c .before .before .if3 .taken), le-ltb _ _ (c .before .if4 .left), ← c .parse-message .ensures)
+unfolding parsedBehind headRows verdict
+returns-4 c =
+    let at-11 = c .before .before in
+    let at-9 = at-11 .before in
+    simp (← at-9 .before .wide .ensures .0, ne-eqb _ _ (at-9 .if1 .left), eq-eqb _ _ (at-11 .if3 .taken), le-ltb _ _ (c .before .if4 .left), ← c .parse-message .ensures)
 
+-- 4: another type
 returns-5 : tie.Need-returns-5
-unfolding parsedByType
-returns-5 c = simp (← c .before .before .wide .ensures .0, ne-eqb _ _ (c .before .if1 .left), ne-eqb _ _ (c .if3 .left))
+unfolding parsedBehind headRows verdict
+returns-5 c =
+    let at-9 = c .before in
+    simp (← at-9 .before .wide .ensures .0, ne-eqb _ _ (at-9 .if1 .left), ne-eqb _ _ (c .if3 .left))
 
 pub parse-by-type-spec : {M : Type 1} → statement M
 parse-by-type-spec =
     tie.close
     (tie.spec
-    shared-slice-read-wide
-    wide-requires
-    add-if2
-    returns
-    parse-stream-requires
-    returns-2
-    add-if4
-    returns-3
-    parse-message-requires
-    returns-4
+    (λ c. search needs) (λ c κs. search needs) (λ c. search needs) returns
+    parse-stream-requires returns-2
+    (λ c. search needs) returns-3
+    (λ c κs. search needs) returns-4
     returns-5)

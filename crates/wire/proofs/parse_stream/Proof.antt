@@ -1,74 +1,74 @@
 -- `wire::parse_stream` meets its contract: xh, then S, then E; without both the data begin at byte 7.
-use Rattle.wire.proofs.Forms.{without-field}
-use Rattle.wire.specs.Parsed.{parsedStream}
+use Rattle.wire.proofs.Head.{behind-6, without-field}
+use Rattle.tables.specs.Refusals.{verdict}
+use Rattle.wire.specs.Head.{headRows}
+use Rattle.wire.specs.Inside.{parsedBehind}
+use mathlib.Core.Path.{_∙_}
 use borrow.Author.Needs.{needs}
 use Rattle.wire.proofs.parse_stream.Statement.{statement}
 use Rattle.wire.proofs.parse_stream.Tie as tie
 
-add-wide : tie.Need-add-wide
-add-wide c = search needs
-
-shared-slice-read-wide : tie.Need-shared-slice-read-wide
-shared-slice-read-wide c = search needs
-
-wide-requires : tie.Need-wide-requires
-wide-requires c κs = search needs
-
-bit-requires : tie.Need-bit-requires
-bit-requires c κs = search needs
-
+-- 5: xh
 returns : tie.Need-returns
-unfolding parsedStream
-returns c = simp (← c .before .before .wide .ensures .0, ← c .before .bit .ensures, c .if1 .taken)
+unfolding parsedBehind headRows verdict
+returns c =
+    let at-xh = c .before in
+    let at-flags = at-xh .before in
+    let s = at-flags .before .before .before in
+    simp (s .pre .1, ← at-flags .wide .ensures .0, ← at-xh .bit .ensures, c .if1 .taken)
 
-bit-requires-2 : tie.Need-bit-requires-2
-bit-requires-2 c κs = search needs
-
+-- S: a field follows
 parse-fielded-requires : tie.Need-parse-fielded-requires
-parse-fielded-requires c κs = (search needs, simp (← c .before .before .before .before .wide .ensures .0, ← c .before .bit2 .ensures, c .if2 .taken))
+parse-fielded-requires c κs =
+    let at-S = c .before in
+    let at-flags = at-S .before .before .before in
+    let s = at-flags .before .before .before in
+    (search needs, (s .pre .1, simp (← at-flags .wide .ensures .0, ← at-S .bit2 .ensures, c .if2 .taken)))
 
 returns-2 : tie.Need-returns-2
-unfolding parsedStream
-returns-2 c = simp (← c .before .before .before .before .before .wide .ensures .0, ← c .before .before .before .before .bit .ensures, c .before .before .before .if1 .left, ← c .before .before .bit2 .ensures, c .before .if2 .taken, ← c .parse-fielded .ensures)
+returns-2 c =
+    let at-S = c .before .before in
+    let at-xh = at-S .before .before in
+    let at-flags = at-xh .before in
+    let s = at-flags .before .before .before in
+    c .parse-fielded .ensures ∙ behind-6 _ (simp (← at-flags .wide .ensures .0, ← at-xh .bit .ensures, at-S .before .if1 .left)) (s .pre .1)
 
-bit-requires-3 : tie.Need-bit-requires-3
-bit-requires-3 c κs = search needs
-
+-- E: the same
 parse-fielded-requires-2 : tie.Need-parse-fielded-requires-2
-parse-fielded-requires-2 c κs = (search needs, simp (← c .before .before .before .before .before .before .wide .ensures .0, ← c .before .before .before .bit2 .ensures, c .before .before .if2 .left, ← c .before .bit3 .ensures, c .if3 .taken))
+parse-fielded-requires-2 c κs =
+    let at-E = c .before in
+    let at-S = at-E .before .before in
+    let at-flags = at-S .before .before .before in
+    let s = at-flags .before .before .before in
+    (search needs, (s .pre .1, simp (← at-flags .wide .ensures .0, ← at-S .bit2 .ensures, at-E .before .if2 .left, ← at-E .bit3 .ensures, c .if3 .taken)))
 
 returns-3 : tie.Need-returns-3
-unfolding parsedStream
-returns-3 c = simp (← c .before .before .before .before .before .before .before .wide .ensures .0, ← c .before .before .before .before .before .before .bit .ensures, c .before .before .before .before .before .if1 .left, ← c .before .before .before .before .bit2 .ensures, c .before .before .before .if2 .left, ← c .before .before .bit3 .ensures, c .before .if3 .taken, ← c .parse-fielded2 .ensures)
+returns-3 c =
+    let at-xh = c .before .before .before .before .before .before in
+    let at-flags = at-xh .before in
+    let s = at-flags .before .before .before in
+    c .parse-fielded2 .ensures ∙ behind-6 _ (simp (← at-flags .wide .ensures .0, ← at-xh .bit .ensures, c .before .before .before .before .before .if1 .left)) (s .pre .1)
 
-add-segment-at : tie.Need-add-segment-at
-add-segment-at c = search needs
-
-segment-at-requires : tie.Need-segment-at-requires
-segment-at-requires c κs = search needs
-
+-- neither: a continuation
 returns-4 : tie.Need-returns-4
-unfolding parsedStream
+unfolding parsedBehind headRows verdict
 returns-4 c =
-    let w = c .before .before .before .before .before .before .before .wide .ensures .0 in
-    let form = without-field (c .before .before .before .before .before .before .before .before .before .before .args .packet .now) (simp (← w, ← c .before .before .before .before .bit2 .ensures, c .before .before .before .if2 .left)) (simp (← w, ← c .before .before .bit3 .ensures, c .before .if3 .left)) in
-    simp (← w, ← c .before .before .before .before .before .before .bit .ensures, c .before .before .before .before .before .if1 .left, ← c .before .before .before .before .bit2 .ensures, c .before .before .before .if2 .left, ← c .before .before .bit3 .ensures, c .before .if3 .left, form, ← c .segment-at .ensures)
+    let at-E = c .before .before in
+    let at-S = at-E .before .before in
+    let at-xh = at-S .before .before in
+    let at-flags = at-xh .before in
+    let s = at-flags .before .before .before in
+    let w = at-flags .wide .ensures .0 in
+    let form = without-field (s .args .packet .now) (simp (← w, ← at-S .bit2 .ensures, at-E .before .if2 .left)) (simp (← w, ← at-E .bit3 .ensures, c .before .if3 .left)) in
+    simp (s .pre .1, ← w, ← at-xh .bit .ensures, at-S .before .if1 .left, ← at-S .bit2 .ensures, at-E .before .if2 .left, ← at-E .bit3 .ensures, c .before .if3 .left, form, ← c .segment-at .ensures)
 
 pub parse-stream-spec : {M : Type 1} → statement M
 parse-stream-spec =
     tie.close
     (tie.spec
-    add-wide
-    shared-slice-read-wide
-    wide-requires
-    bit-requires
-    returns
-    bit-requires-2
-    parse-fielded-requires
+    (λ c. search needs) (λ c. search needs) (λ c κs. search needs) (λ c κs. search needs) returns
+    (λ c κs. search needs) parse-fielded-requires
     returns-2
-    bit-requires-3
-    parse-fielded-requires-2
+    (λ c κs. search needs) parse-fielded-requires-2
     returns-3
-    add-segment-at
-    segment-at-requires
-    returns-4)
+    (λ c. search needs) (λ c κs. search needs) returns-4)
