@@ -6,6 +6,7 @@ use native.Mathlib.Nat.{zero-add}
 use lib.ListN.{length, replicate}
 use borrow.Author.Tests.{lt-ltb}
 use Rattle.answers.specs.declared.Begun.{Begun}
+use Rattle.answers.specs.Answers.{SetupSaid}
 use Rattle.tables.specs.Refusals.{verdict}
 use Rattle.sizes.specs.Sizes.{badMTU}
 use Rattle.contexts.specs.State.{fresh, fixed}
@@ -20,7 +21,7 @@ use Rattle.log_run.proofs.Runs.{still}
 
 set-up : (words : List ℕ) (r : Begun) → SetupPromise (replicate 147 0) 1 32 2048 r words → words ≡ wordsOf (fresh (fixed 1 32 2048))
 unfolding setup setupTable verdict badMTU badRoom
-set-up words r p = ap (λ (x : Stands). x .words) p
+set-up words r p = ap (λ (x : Stands SetupSaid). x .words) p
 
 -- nothing is put, and the whole output is still to come
 pub begins : (log words : List ℕ) (r : Begun) → length log ≤ 65536 → SetupPromise (replicate 147 0) 1 32 2048 r words

@@ -1,39 +1,8 @@
 -- A proof by computation looks through every definition of reading, cutting and writing: this names them all, once.
-use Rattle.lists.specs.Bytes.{written}
-use Rattle.lists.specs.First.{firstOf, any}
-use Rattle.lists.specs.Rows.{rows, joined}
-use Rattle.tables.specs.Refusals.{verdict, given}
-use Rattle.wire.specs.Type9.{sameFlow, segmentAt, segmentOf}
-use Rattle.wire.specs.Type11.{messageOf}
-use Rattle.wire.specs.Head.{headRows}
-use Rattle.sizes.specs.Sizes.{badMTU, pduLength, dataLength, bytesOf, inEights}
-use Rattle.responses.specs.Type13.{responseTo, answered}
-use Rattle.rules.specs.Segments.{malformed}
-use Rattle.rules.specs.Messages.{reservedSize, badLength, pastLast}
-use Rattle.contexts.specs.Marks.{marked, allMarked}
-use Rattle.contexts.specs.State.{isFreeStream, isFreeMessage, isOfFlow, isOfMessage, flowContext, freeStream, messageContext, freeMessage}
-use Rattle.contexts.specs.Words.{stateOf, wordsOf}
-use Rattle.refusal19.specs.Refusal19.{badRoom, badStream, badLast, badMarks, badMessage, namedBy19}
-use Rattle.stream_rooms.specs.Placing as streamRooms
-use Rattle.streams.specs.Joining as stream
-use Rattle.streams.specs.Rows as streamRows
-use Rattle.message_rooms.specs.Placing as messageRooms
-use Rattle.messages.specs.Joining as message
-use Rattle.messages.specs.Rows as messageRows
-use Rattle.wire.specs.Head.{headRows}
-use Rattle.reading.specs.Table.{wrongSizes, lentRows, table}
-use Rattle.reading.specs.Read.{reading}
+use Rattle.reading.proofs.Computing.{reads}
 use Rattle.cutting.specs.Cutting.{segmentCount, segmentData, isFirst, isFinal, padOf, flagsOf, fieldOf, packetOf, badSize}
 use Rattle.segments.specs.Writer.{writerTable, writing}
 
 unfoldable pub computing : Unit {0}
-unfolding written firstOf any rows joined verdict
-    sameFlow headRows segmentAt segmentOf badMTU pduLength dataLength messageOf bytesOf inEights responseTo answered
-    malformed reservedSize badLength pastLast
-    marked allMarked isFreeStream isFreeMessage isOfFlow isOfMessage flowContext freeStream messageContext freeMessage stateOf wordsOf
-    badRoom badStream badLast badMarks badMessage namedBy19
-    streamRooms.placed stream.accepted stream.refusedClosing streamRows.missized streamRows.notOpen streamRows.passesRoom streamRows.noneFree streamRows.lengthDiffers
-    message.deliveredAtOnce messageRooms.messagePlaced message.messageAccepted messageRows.messageFound messageRows.otherMessage messageRows.alreadyMarked messageRows.neededNoneFree
-    wrongSizes lentRows headRows given streamRows.streamRows messageRows.messageRows table reading
-    segmentCount segmentData isFirst isFinal padOf flagsOf fieldOf packetOf badSize writerTable writing
+unfolding reads segmentCount segmentData isFirst isFinal padOf flagsOf fieldOf packetOf badSize writerTable writing
 computing = tt

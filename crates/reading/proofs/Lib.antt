@@ -7,3 +7,4 @@ pub mod Kept
 pub mod Left
 pub mod Response
 pub mod Spoken
+pub mod Computing
