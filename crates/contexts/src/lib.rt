@@ -4,11 +4,10 @@
 use wire::Flow;
 ghost use mathlib.Core.Path.{_≡_};
 ghost use mathlib.Core.List.{_∷_};
-ghost use Prim.Native.Nat.{_+_, _*_, _<_, _≤_, _^_};
+ghost use Prim.Native.Nat.{_<_};
 ghost use lib.ListN.{length, replicate};
 ghost use Rattle.contexts.specs.State.{isOfFlow, isOfMessage, streamIn, messageIn, withStream, withMessage, flowContext, freeStream, messageContext, freeMessage};
 ghost use Rattle.contexts.specs.Words.{stateOf, stateWords};
-ghost use Rattle.contexts.specs.Marks.{marked as markedOf, allMarked};
 
 // The words of a state.
 pub const WORDS: usize = 147;
@@ -214,31 +213,6 @@ pub fn free_message(state: &[usize]) -> usize
         i += 1;
     }
     8
-}
-
-// Two to the k: the weight of mark k.
-pub fn power(k: usize) -> usize
-    requires { ⌜ k ≤ 16 ⌝ }
-    ensures { λ r. ⌜ (r ≡ 2 ^ k) × (r ≤ 65536) ⌝ }
-{
-    1usize << k
-}
-
-// Whether segment k is marked.
-pub fn marked(marks: u16, k: usize) -> bool
-    requires { ⌜ k < 16 ⌝ }
-    ensures { λ r. ⌜ r ≡ markedOf marks k ⌝ }
-{
-    (marks >> k) % 2 == 1
-}
-
-// Whether segments 0 to count-1 are all marked: what the marks say of these is the greatest number of so many bits.
-pub fn all_marked(marks: u16, count: usize) -> bool
-    requires { ⌜ count ≤ 16 ⌝ }
-    ensures { λ r. ⌜ r ≡ allMarked marks count ⌝ }
-{
-    let weight = power(count);
-    marks as usize % weight == weight - 1
 }
 
 // A state of zeros.

@@ -10,7 +10,7 @@ use Rattle.wire.specs.Type11.{isSingle}
 use Rattle.responses.specs.Type13.{answered}
 use Rattle.contexts.specs.State.{State, withMessage}
 use Rattle.contexts.specs.Words.{stateOf, stateWords}
-use Rattle.contexts.specs.Marks.{marked}
+use Rattle.marks.specs.Marks.{marked}
 use Rattle.refusal19.specs.Refusal19.{namedBy19}
 use Rattle.message_rooms.specs.Placing.{answerWith, contextWith}
 

@@ -11,7 +11,7 @@ use Rattle.sizes.specs.Sizes.{bytesOf}
 use Rattle.responses.specs.Type13.{DONE, answered}
 use Rattle.contexts.specs.declared.MessageContext.{MessageContext}
 use Rattle.contexts.specs.State.{State, withMessage, closedMessage}
-use Rattle.contexts.specs.Marks.{withMark, allMarked}
+use Rattle.marks.specs.Marks.{withMark, allMarked}
 use Rattle.rules.specs.Messages.{lastWith}
 
 -- the answer, the state, the message memory and the response buffer

@@ -55,7 +55,7 @@ fn keep(state: &mut [usize], m: MessageSegment, n: usize, marks: usize, last: us
     requires { ⌜ (marks < 65536) × (last ≤ 256) × (m .msglen < 16) × (m .msgseg < 16) × (m .mbox < 4) ⌝ }
     ensures { λ r. ⌜ MessageKept (stateOf (now (state .entry))) m n marks last (said r) (stateOf (now (state .exit))) ⌝ }
 {
-    if contexts::all_marked(marks as u16, m.msglen + 1) {
+    if marks::all_marked(marks as u16, m.msglen + 1) {
         contexts::put_message(state, n, closed());
         return Answer::Message {
             context: n,
@@ -100,7 +100,7 @@ pub fn place(
     ensures { λ r. ⌜ messageJoining (said r) (stateOf (now (state .exit))) (now (memory .exit)) (now (response .exit)) ≡ messagePlaced (stateOf (now (state .entry))) (now (memory .entry)) (now (response .entry)) (now (packet .entry)) m n marks last ⌝ }
 {
     let size = sizes::bytes_of(m.ssize);
-    let with_this = marks + contexts::power(m.msgseg);
+    let with_this = marks + marks::power(m.msgseg);
     lists::store(
         memory,
         n * ROOM + m.msgseg * size,

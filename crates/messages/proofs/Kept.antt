@@ -14,12 +14,12 @@ use Rattle.wire.specs.Type11.{isSingle}
 use Rattle.sizes.specs.Sizes.{bytesOf, inEights}
 use Rattle.contexts.specs.declared.MessageContext.{MessageContext}
 use Rattle.contexts.specs.State.{State, messageIn, closedMessage, messageContext, freeMessage}
-use Rattle.contexts.specs.Marks.{marked}
+use Rattle.marks.specs.Marks.{marked}
 use Rattle.refusal19.specs.Refusal19.{badLast, namedBy19}
-use Rattle.contexts.proofs.Bits.{mark-set, mark-other}
+use Rattle.marks.proofs.Bits.{mark-set, mark-other}
 use Rattle.refusal19.proofs.Good.{Message, good, neither, message-found}
 use Rattle.refusal19.proofs.Kept.{closed-message, kept-message, message-kept}
-use Rattle.contexts.proofs.Marks.{room-for-mark, nothing-marked}
+use Rattle.marks.proofs.Marks.{room-for-mark, nothing-marked}
 use Rattle.message_rooms.specs.Placing.{messagePlaced, kept, complete, marksWith}
 use Rattle.messages.specs.Rows.{messageFound, messageOpen, otherMessage, alreadyMarked}
 use Rattle.messages.specs.Joining.{messageAccepted, deliveredAtOnce}

@@ -16,7 +16,7 @@ use Rattle.responses.specs.Type13.{ERROR, RETRY, DONE, answered}
 use Rattle.sizes.proofs.Laws.{bytes-le, eights-le}
 use Rattle.contexts.specs.declared.MessageContext.{MessageContext}
 use Rattle.contexts.specs.State.{State, messageIn, withMessage, closedMessage, messageContext, freeMessage}
-use Rattle.contexts.specs.Marks.{marked}
+use Rattle.marks.specs.Marks.{marked}
 use Rattle.refusal19.specs.Refusal19.{badLast, namedBy19}
 use Rattle.contexts.specs.Words.{stateOf}
 use Rattle.contexts.proofs.Words.{eight}

@@ -5,7 +5,7 @@ use lib.Dec.{eqb, ltb}
 use Rattle.wire.specs.declared.MessageSegment.{MessageSegment}
 use Rattle.wire.specs.Type11.{isSingle}
 use Rattle.contexts.specs.State.{State, messageIn, messageContext, freeMessage}
-use Rattle.contexts.specs.Marks.{marked}
+use Rattle.marks.specs.Marks.{marked}
 
 -- the open context of a multi-segment message, 8 where it has none; a single-segment message is never compared with open ones
 unfoldable pub messageFound : State → MessageSegment → ℕ

@@ -61,7 +61,7 @@ fn join(
     if c.ssize != m.ssize {
         return message_rooms::refuse(response, packet, 23, responses::ERROR);
     }
-    if contexts::marked(c.marks as u16, m.msgseg) {
+    if marks::marked(c.marks as u16, m.msgseg) {
         return message_rooms::refuse(response, packet, 24, responses::ERROR);
     }
     message_rooms::place(state, memory, response, packet, m, found, c.marks, c.last)

@@ -35,7 +35,7 @@ fn bad_last(c: MessageContext) -> bool
     ensures { λ r. ⌜ r ≡ badLast c ⌝ }
 {
     let size = sizes::bytes_of(c.ssize);
-    if contexts::marked(c.marks as u16, c.msglen) {
+    if marks::marked(c.marks as u16, c.msglen) {
         if sizes::in_eights(c.last, size) {
             return false;
         }
@@ -49,13 +49,13 @@ fn bad_marks(c: MessageContext) -> bool
     ensures { λ r. ⌜ r ≡ badMarks c ⌝ }
 {
     let count = c.msglen + 1;
-    if contexts::power(count) <= c.marks {
+    if marks::power(count) <= c.marks {
         return true;
     }
     if c.marks == 0 {
         return true;
     }
-    if contexts::all_marked(c.marks as u16, count) {
+    if marks::all_marked(c.marks as u16, count) {
         return true;
     }
     bad_last(c)

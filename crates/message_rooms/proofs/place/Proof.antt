@@ -1,6 +1,6 @@
 -- `message_rooms::place` meets its contract: the store ends inside the room, and a mark that was not set leaves room for it.
 use Rattle.message_rooms.proofs.Laws.{placing, product-le, segment-ends, marks-le}
-use Rattle.contexts.proofs.Marks.{room-for-mark}
+use Rattle.marks.proofs.Marks.{room-for-mark}
 use Rattle.sizes.proofs.Laws.{bytes-le}
 use lib.ListN.{length-take, length-drop}
 use Prim.Native.Nat.{ℕ, _+_, _≤_}

@@ -1,7 +1,7 @@
 -- `messages::begin` meets its contract: a free context is taken with no marks, or none is free.
 use Rattle.messages.proofs.Laws.{begin-none, begin-placed}
 use Rattle.message_rooms.specs.Placing.{messagePlaced}
-use Rattle.contexts.proofs.Marks.{nothing-marked}
+use Rattle.marks.proofs.Marks.{nothing-marked}
 use lib.Pow.{pow-pos}
 use Prim.Native.Nat.{ℕ, _+_}
 use Rattle.contexts.specs.Words.{stateOf}
