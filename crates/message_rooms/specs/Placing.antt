@@ -10,9 +10,16 @@ use Rattle.wire.specs.Type11.{mailbox, messageDataFrom}
 use Rattle.sizes.specs.Sizes.{bytesOf}
 use Rattle.responses.specs.Type13.{DONE, answered}
 use Rattle.contexts.specs.declared.MessageContext.{MessageContext}
-use Rattle.contexts.specs.State.{State, withMessage, closedMessage}
+use Rattle.contexts.specs.State.{State, withMessage, closedMessage, messageContexts}
 use Rattle.marks.specs.Marks.{withMark, allMarked}
 use Rattle.rules.specs.Messages.{lastWith}
+
+-- the bytes of a message context's room, and of the memory that has one for each
+abbrev pub messageRoomBytes : ℕ
+messageRoomBytes = 4096
+
+abbrev pub messageMemoryBytes : ℕ
+messageMemoryBytes = messageContexts * messageRoomBytes
 
 -- the answer, the state, the message memory and the response buffer
 pub record MessageJoined : Type 0 where
@@ -61,5 +68,5 @@ unfoldable pub messagePlaced : State → List ℕ → List ℕ → List ℕ → 
 messagePlaced s memory response p m n marks last =
     messageJoining (answerWith m n (marksWith m marks) (lastWith m last))
     (withMessage s n (contextWith m (marksWith m marks) (lastWith m last)))
-    (written memory (n * 4096 + m .msgseg * bytesOf (m .ssize)) (messageData p))
+    (written memory (n * messageRoomBytes + m .msgseg * bytesOf (m .ssize)) (messageData p))
     (answered response p DONE)

@@ -7,14 +7,16 @@ ghost use Prim.Native.Nat.{_<_, _≤_};
 ghost use lib.ListN.{length};
 ghost use Rattle.answers.specs.Answers.{said};
 ghost use Rattle.responses.specs.Type13.{DONE, answered};
-ghost use Rattle.contexts.specs.State.{closedMessage};
+ghost use Rattle.contexts.specs.State.{closedMessage, messageContexts};
 ghost use Rattle.contexts.specs.Words.{stateOf, stateWords};
 ghost use Rattle.rules.specs.Inside.{Sound};
 ghost use Rattle.message_rooms.specs.Placing.{messageJoining, messagePlaced};
 ghost use Rattle.message_rooms.specs.Inside.{MessageReady, MessageFits, MessageKept, Replied};
 
-// The bytes of a message context's room.
+// The bytes of a message context's room, and of the memory that has one for each.
 pub const ROOM: usize = 4096;
+
+pub const MEMORY: usize = contexts::MESSAGE_CONTEXTS * ROOM;
 
 // A closed context: all its fields 0.
 pub fn closed() -> MessageContext
@@ -51,7 +53,7 @@ pub fn done(response: &mut [u8], packet: &[u8])
 
 // Context n with these marks: delivered where all segments are in, else kept.
 fn keep(state: &mut [usize], m: MessageSegment, n: usize, marks: usize, last: usize) -> Answer
-    requires { ⌜ (n < 8) × (length (now state) ≡ stateWords) ⌝ }
+    requires { ⌜ (n < messageContexts) × (length (now state) ≡ stateWords) ⌝ }
     requires { ⌜ (marks < 65536) × (last ≤ 256) × (m .msglen < 16) × (m .msgseg < 16) × (m .mbox < 4) ⌝ }
     ensures { λ r. ⌜ MessageKept (stateOf (now (state .entry))) m n marks last (said r) (stateOf (now (state .exit))) ⌝ }
 {

@@ -10,11 +10,12 @@ use Rattle.wire.specs.declared.MessageSegment.{MessageSegment}
 use Rattle.wire.specs.Packet.{tt, packetType, destination}
 use Rattle.wire.specs.Type9.{isS, isE, xh, segmentOf}
 use Rattle.wire.specs.Type11.{messageOf}
-use Rattle.contexts.specs.State.{State}
+use Rattle.contexts.specs.State.{State, streamContexts}
 use Rattle.contexts.specs.Words.{stateWords}
 use Rattle.refusal19.specs.Refusal19.{namedBy19}
 use Rattle.rules.specs.Segments.{malformed}
 use Rattle.rules.specs.Messages.{reservedSize, badLength, pastLast}
+use Rattle.message_rooms.specs.Placing.{messageMemoryBytes}
 use Rattle.streams.specs.Rows as stream
 use Rattle.messages.specs.Rows as message
 use Rattle.reading.specs.Desk.{Desk, stateOn}
@@ -46,15 +47,15 @@ is9 x = eqb (packetType (x .packet)) 9
 abbrev pub is11 : Lent → Bool
 is11 x = eqb (packetType (x .packet)) 11
 
--- 147 words are a state; a buffer of another length is a lent memory of the wrong size
+-- stateWords words are a state; a buffer of another length is a lent memory of the wrong size
 abbrev pub isState : Lent → Bool
 isState x = eqb (length (x .desk .words)) stateWords
 
 -- 12: a stream memory that is not 16 R bytes long, a message memory that is not 32,768, or a response buffer under 7
 unfoldable pub wrongSizes : Desk → Bool
 wrongSizes d =
-    not (eqb (length (d .streamMemory)) (16 * stateOn d .setup .room))
-    || not (eqb (length (d .messageMemory)) 32768)
+    not (eqb (length (d .streamMemory)) (streamContexts * stateOn d .setup .room))
+    || not (eqb (length (d .messageMemory)) messageMemoryBytes)
     || ltb (length (d .response)) 7
 
 unfoldable pub table : Lent → List Row

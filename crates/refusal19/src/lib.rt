@@ -85,7 +85,7 @@ fn any_bad_stream(state: &[usize], room: usize) -> bool
     ensures { λ r. ⌜ r ≡ any (badStream room) (stateOf (now (state .entry)) .streams) ⌝ }
 {
     let mut i = 0;
-    while i < 16 {
+    while i < contexts::STREAM_CONTEXTS {
         if bad_stream(contexts::stream_at(state, i), room) {
             return true;
         }
@@ -100,7 +100,7 @@ fn any_bad_message(state: &[usize]) -> bool
     ensures { λ r. ⌜ r ≡ any badMessage (stateOf (now (state .entry)) .messages) ⌝ }
 {
     let mut i = 0;
-    while i < 8 {
+    while i < contexts::MESSAGE_CONTEXTS {
         if bad_message(contexts::message_at(state, i)) {
             return true;
         }

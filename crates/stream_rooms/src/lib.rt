@@ -9,7 +9,7 @@ ghost use Prim.Native.Nat.{_<_, _≤_};
 ghost use lib.ListN.{length};
 ghost use Rattle.answers.specs.Answers.{said};
 ghost use Rattle.contexts.specs.Words.{stateOf, stateWords};
-ghost use Rattle.contexts.specs.State.{closedStream};
+ghost use Rattle.contexts.specs.State.{closedStream, streamContexts};
 ghost use Rattle.stream_rooms.specs.Placing.{joining, placed};
 ghost use Rattle.stream_rooms.specs.Inside.{Ready, Closing, Kept, Fits};
 
@@ -28,10 +28,10 @@ pub fn closed() -> StreamContext
 
 // A refusal that closes the flow's context, where it has one. Every caller has tested the state, and `found` is what was found.
 pub fn refused_closing(state: &mut [usize], found: usize, number: usize) -> StreamAnswer
-    requires { ⌜ (length (now state) ≡ stateWords) × (found ≤ 16) ⌝ }
+    requires { ⌜ (length (now state) ≡ stateWords) × (found ≤ streamContexts) ⌝ }
     ensures { λ r. ⌜ Closing (stateOf (now (state .entry))) found number (said (r .answer)) (r .dropped) (stateOf (now (state .exit))) ⌝ }
 {
-    if found < 16 {
+    if found < contexts::STREAM_CONTEXTS {
         contexts::put_stream(state, found, closed());
         return StreamAnswer {
             answer: Answer::Refused(number),
@@ -53,7 +53,7 @@ fn keep(
     total: usize,
     dropped: bool,
 ) -> StreamAnswer
-    requires { ⌜ (n < 16) × (length (now state) ≡ stateWords) ⌝ }
+    requires { ⌜ (n < streamContexts) × (length (now state) ≡ stateWords) ⌝ }
     ensures { λ r. ⌜ Kept (stateOf (now (state .entry))) n g stream total dropped (said (r .answer)) (r .dropped) (stateOf (now (state .exit))) ⌝ }
 {
     let flow = g.flow;
