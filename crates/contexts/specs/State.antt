@@ -42,6 +42,23 @@ closedStream = record { live = 0; flow = record { source = 0; cos = 0 }; stream 
 abbrev pub closedMessage : MessageContext
 closedMessage = record { live = 0; source = 0; letter = 0; mbox = 0; msglen = 0; ssize = 0; marks = 0; last = 0 }
 
+-- an open context: of a PDU of that flow and streamID with so many bytes held
+abbrev pub openStream : Flow → (stream held : ℕ) → StreamContext
+openStream flow stream held = record { live = 1; flow = flow; stream = stream; held = held }
+
+-- of a message with these marks, and the length of its last segment once that has come
+abbrev pub openMessage : (source letter mbox msglen ssize marks last : ℕ) → MessageContext
+openMessage source letter mbox msglen ssize marks last = record {
+  live = 1;
+  source = source;
+  letter = letter;
+  mbox = mbox;
+  msglen = msglen;
+  ssize = ssize;
+  marks = marks;
+  last = last;
+}
+
 -- as setup makes it
 abbrev pub fresh : Setup → State
 fresh setup = record {

@@ -5,7 +5,8 @@ use wire::Flow;
 ghost use mathlib.Core.Path.{_≡_};
 ghost use Prim.Native.Nat.{_<_};
 ghost use lib.ListN.{length, replicate};
-ghost use Rattle.contexts.specs.State.{streamContexts, messageContexts, fixed, fresh, isOfFlow, isOfMessage, streamIn, messageIn, withStream, withMessage, flowContext, freeStream, messageContext, freeMessage};
+ghost use Rattle.contexts.specs.State.{streamContexts, messageContexts, fixed, fresh, closedStream, openStream, closedMessage, openMessage};
+ghost use Rattle.contexts.specs.State.{isOfFlow, isOfMessage, streamIn, messageIn, withStream, withMessage, flowContext, freeStream, messageContext, freeMessage};
 ghost use Rattle.contexts.specs.Words.{stateOf, wordsOf, stateWords};
 
 // How many contexts of each kind there are.
@@ -119,8 +120,8 @@ pub fn stream_at(state: &[usize], n: usize) -> StreamContext
     }
 }
 
-// Puts c in the place of stream context n.
-pub fn put_stream(state: &mut [usize], n: usize, c: StreamContext)
+// Puts c in the place of stream context n. Only the two functions below do: a context is opened, kept and closed nowhere else.
+fn put_stream(state: &mut [usize], n: usize, c: StreamContext)
     requires { ⌜ (n < streamContexts) × (length (now state) ≡ stateWords) ⌝ }
     ensures { λ _. ⌜ stateOf (now (state .exit)) ≡ withStream (stateOf (now (state .entry))) n c ⌝ }
 {
@@ -131,6 +132,41 @@ pub fn put_stream(state: &mut [usize], n: usize, c: StreamContext)
     state[at + COS] = flow.cos;
     state[at + STREAM] = c.stream;
     state[at + HELD] = c.held;
+}
+
+// Stream context n is open: `held` bytes of that flow's PDU are in its room.
+pub fn keep_stream(state: &mut [usize], n: usize, flow: Flow, stream: usize, held: usize)
+    requires { ⌜ (n < streamContexts) × (length (now state) ≡ stateWords) ⌝ }
+    ensures { λ _. ⌜ stateOf (now (state .exit)) ≡ withStream (stateOf (now (state .entry))) n (openStream flow stream held) ⌝ }
+{
+    put_stream(
+        state,
+        n,
+        StreamContext {
+            live: 1,
+            flow,
+            stream,
+            held,
+        },
+    );
+}
+
+// Stream context n is closed: all its fields are 0.
+pub fn close_stream(state: &mut [usize], n: usize)
+    requires { ⌜ (n < streamContexts) × (length (now state) ≡ stateWords) ⌝ }
+    ensures { λ _. ⌜ stateOf (now (state .exit)) ≡ withStream (stateOf (now (state .entry))) n closedStream ⌝ }
+{
+    let flow = Flow { source: 0, cos: 0 };
+    put_stream(
+        state,
+        n,
+        StreamContext {
+            live: 0,
+            flow,
+            stream: 0,
+            held: 0,
+        },
+    );
 }
 
 // Message context n.
@@ -151,8 +187,8 @@ pub fn message_at(state: &[usize], n: usize) -> MessageContext
     }
 }
 
-// Puts c in the place of message context n.
-pub fn put_message(state: &mut [usize], n: usize, c: MessageContext)
+// Puts c in the place of message context n. Only the two functions below do.
+fn put_message(state: &mut [usize], n: usize, c: MessageContext)
     requires { ⌜ (n < messageContexts) × (length (now state) ≡ stateWords) ⌝ }
     ensures { λ _. ⌜ stateOf (now (state .exit)) ≡ withMessage (stateOf (now (state .entry))) n c ⌝ }
 {
@@ -165,6 +201,58 @@ pub fn put_message(state: &mut [usize], n: usize, c: MessageContext)
     state[at + SSIZE] = c.ssize;
     state[at + MARKS] = c.marks;
     state[at + LAST] = c.last;
+}
+
+// Message context n is open, with these marks and the length of its last segment once that has come.
+pub fn keep_message(
+    state: &mut [usize],
+    n: usize,
+    source: usize,
+    letter: usize,
+    mbox: usize,
+    msglen: usize,
+    ssize: usize,
+    marks: usize,
+    last: usize,
+)
+    requires { ⌜ (n < messageContexts) × (length (now state) ≡ stateWords) ⌝ }
+    ensures { λ _. ⌜ stateOf (now (state .exit)) ≡ withMessage (stateOf (now (state .entry))) n (openMessage source letter mbox msglen ssize marks last) ⌝ }
+{
+    put_message(
+        state,
+        n,
+        MessageContext {
+            live: 1,
+            source,
+            letter,
+            mbox,
+            msglen,
+            ssize,
+            marks,
+            last,
+        },
+    );
+}
+
+// Message context n is closed: all its fields are 0.
+pub fn close_message(state: &mut [usize], n: usize)
+    requires { ⌜ (n < messageContexts) × (length (now state) ≡ stateWords) ⌝ }
+    ensures { λ _. ⌜ stateOf (now (state .exit)) ≡ withMessage (stateOf (now (state .entry))) n closedMessage ⌝ }
+{
+    put_message(
+        state,
+        n,
+        MessageContext {
+            live: 0,
+            source: 0,
+            letter: 0,
+            mbox: 0,
+            msglen: 0,
+            ssize: 0,
+            marks: 0,
+            last: 0,
+        },
+    );
 }
 
 // The flow is asked first: it sets most contexts aside, open or not.

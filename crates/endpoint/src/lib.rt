@@ -76,7 +76,7 @@ pub fn abandon_stream(state: &mut [usize], n: usize) -> Abandoned
     if c.live == 0 {
         return Abandoned::WasFree;
     }
-    contexts::put_stream(state, n, stream_rooms::closed());
+    contexts::close_stream(state, n);
     Abandoned::Closed
 }
 
@@ -97,7 +97,7 @@ pub fn abandon_message(state: &mut [usize], n: usize) -> Abandoned
     if c.live == 0 {
         return Abandoned::WasFree;
     }
-    contexts::put_message(state, n, message_rooms::closed());
+    contexts::close_message(state, n);
     Abandoned::Closed
 }
 

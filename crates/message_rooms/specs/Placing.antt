@@ -10,7 +10,7 @@ use Rattle.wire.specs.Type11.{mailbox, messageDataFrom}
 use Rattle.sizes.specs.Sizes.{bytesOf}
 use Rattle.responses.specs.Type13.{DONE, answered}
 use Rattle.contexts.specs.declared.MessageContext.{MessageContext}
-use Rattle.contexts.specs.State.{State, withMessage, closedMessage, messageContexts}
+use Rattle.contexts.specs.State.{State, withMessage, closedMessage, openMessage, messageContexts}
 use Rattle.marks.specs.Marks.{withMark, allMarked}
 use Rattle.rules.specs.Messages.{lastWith}
 
@@ -41,16 +41,7 @@ marksWith m marks = withMark marks (m .msgseg)
 
 -- the context as it is kept with `marks` and `last`
 abbrev pub kept : MessageSegment → ℕ → ℕ → MessageContext
-kept m marks last = record {
-  live = 1;
-  source = m .source;
-  letter = m .letter;
-  mbox = m .mbox;
-  msglen = m .msglen;
-  ssize = m .ssize;
-  marks = marks;
-  last = last;
-}
+kept m marks last = openMessage (m .source) (m .letter) (m .mbox) (m .msglen) (m .ssize) marks last
 
 -- all segments of the message are in
 abbrev pub complete : MessageSegment → ℕ → Bool

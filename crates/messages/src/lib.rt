@@ -30,7 +30,7 @@ fn take_alone(
         return message_rooms::refuse(response, packet, 25, responses::RETRY);
     }
     lists::store(memory, n * message_rooms::ROOM, &packet[wire::HEADER + 2..]);
-    contexts::put_message(state, n, message_rooms::closed());
+    contexts::close_message(state, n);
     message_rooms::done(response, packet);
     Answer::Message {
         context: n,
