@@ -21,7 +21,7 @@ ROWS = [
     {"streams": (0, 2.4), "messages": (2.4, 2.4)},
     {"stream_rooms": (0, 2.4), "message_rooms": (2.4, 2.4)},
     {"refusal19": (0, 4.8)},
-    {"contexts": (0, 1.6), "rules": (1.6, 1.6), "responses": (3.2, 1.6), "cutting": (4.8, 2)},
+    {"contexts": (0, 1.2), "marks": (1.2, 1.2), "rules": (2.4, 1.2), "responses": (3.6, 1.2), "cutting": (4.8, 2)},
     {"sizes": (0, 6.8)},
     {"wire": (0, 6.8)},
     {"tables": (0, 9)},

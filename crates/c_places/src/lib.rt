@@ -1,6 +1,7 @@
 // Rooms as places: an offset and a length in the caller's memory, for callers that keep their memory to themselves.
 ghost use mathlib.Core.Path.{_≡_};
 ghost use Prim.Native.Nat.{_≤_};
+ghost use Rattle.contexts.specs.State.{streamContexts};
 ghost use Rattle.endpoint.specs.Calls.{part, roomPart};
 ghost use Rattle.c_places.specs.Places.{placeOf, StreamPlacePromise, MessagePlacePromise};
 
@@ -23,7 +24,7 @@ fn nowhere() -> Place
 
 // The first l bytes of room n of a memory of so many rooms and that size. Every caller knows the rooms to be small.
 fn room_at(rooms: usize, room: usize, size: usize, n: usize, l: usize) -> Place
-    requires { ⌜ (rooms ≤ 16) × (room ≤ 65536) ⌝ }
+    requires { ⌜ (rooms ≤ streamContexts) × (room ≤ 65536) ⌝ }
     ensures { λ r. ⌜ r ≡ placeOf (roomPart rooms room size n l) ⌝ }
 {
     if size != rooms * room {
@@ -51,7 +52,7 @@ pub fn stream_place(state: &[usize], size: usize, n: usize, l: usize) -> Place
     if refusal19::named_by_19(state) {
         return nowhere();
     }
-    room_at(16, contexts::room(state), size, n, l)
+    room_at(contexts::STREAM_CONTEXTS, contexts::room(state), size, n, l)
 }
 
 // The same of message context n.
@@ -64,5 +65,5 @@ pub fn message_place(state: &[usize], size: usize, n: usize, l: usize) -> Place
     if refusal19::named_by_19(state) {
         return nowhere();
     }
-    room_at(8, message_rooms::ROOM, size, n, l)
+    room_at(contexts::MESSAGE_CONTEXTS, message_rooms::ROOM, size, n, l)
 }

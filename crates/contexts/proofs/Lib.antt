@@ -1,4 +1,2 @@
 pub mod Words
-pub mod Marks
 pub mod Found
-pub mod Bits

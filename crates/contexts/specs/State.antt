@@ -10,6 +10,13 @@ use Rattle.wire.specs.Type9.{sameFlow}
 use Rattle.contexts.specs.declared.StreamContext.{StreamContext}
 use Rattle.contexts.specs.declared.MessageContext.{MessageContext}
 
+-- how many contexts of each kind there are
+abbrev pub streamContexts : ℕ
+streamContexts = 16
+
+abbrev pub messageContexts : ℕ
+messageContexts = 8
+
 -- what setup fixed
 pub record Setup : Type 0 where
   -- our device ID
@@ -23,9 +30,9 @@ fixed device mtu room = record { device = device; mtu = mtu; room = room }
 
 pub record State : Type 0 where
   pub setup : Setup
-  -- 16 of them
+  -- streamContexts of them
   pub streams : List StreamContext
-  -- 8 of them
+  -- messageContexts of them
   pub messages : List MessageContext
 
 -- a context with all its fields 0
@@ -35,12 +42,29 @@ closedStream = record { live = 0; flow = record { source = 0; cos = 0 }; stream 
 abbrev pub closedMessage : MessageContext
 closedMessage = record { live = 0; source = 0; letter = 0; mbox = 0; msglen = 0; ssize = 0; marks = 0; last = 0 }
 
+-- an open context: of a PDU of that flow and streamID with so many bytes held
+abbrev pub openStream : Flow → (stream held : ℕ) → StreamContext
+openStream flow stream held = record { live = 1; flow = flow; stream = stream; held = held }
+
+-- of a message with these marks, and the length of its last segment once that has come
+abbrev pub openMessage : (source letter mbox msglen ssize marks last : ℕ) → MessageContext
+openMessage source letter mbox msglen ssize marks last = record {
+  live = 1;
+  source = source;
+  letter = letter;
+  mbox = mbox;
+  msglen = msglen;
+  ssize = ssize;
+  marks = marks;
+  last = last;
+}
+
 -- as setup makes it
 abbrev pub fresh : Setup → State
 fresh setup = record {
   setup = setup;
-  streams = replicate 16 closedStream;
-  messages = replicate 8 closedMessage;
+  streams = replicate streamContexts closedStream;
+  messages = replicate messageContexts closedMessage;
 }
 
 -- context n; a closed one past the last
@@ -72,18 +96,18 @@ isOfFlow flow c = not (isFreeStream c) && sameFlow (c .flow) flow
 unfoldable pub isOfMessage : ℕ → ℕ → ℕ → MessageContext → Bool
 isOfMessage source letter mbox c = not (isFreeMessage c) && (eqb (c .source) source && (eqb (c .letter) letter && eqb (c .mbox) mbox))
 
--- the flow's open context: of two, the lower number; 16: none
+-- the flow's open context: of two, the lower number; streamContexts: none
 unfoldable pub flowContext : State → Flow → ℕ
 flowContext s flow = firstOf (isOfFlow flow) (s .streams)
 
--- the lowest free stream context; 16: none
+-- the lowest free stream context; streamContexts: none
 unfoldable pub freeStream : State → ℕ
 freeStream s = firstOf isFreeStream (s .streams)
 
--- the message's open context: of two, the lower number; 8: none
+-- the message's open context: of two, the lower number; messageContexts: none
 unfoldable pub messageContext : State → ℕ → ℕ → ℕ → ℕ
 messageContext s source letter mbox = firstOf (isOfMessage source letter mbox) (s .messages)
 
--- the lowest free message context; 8: none
+-- the lowest free message context; messageContexts: none
 unfoldable pub freeMessage : State → ℕ
 freeMessage s = firstOf isFreeMessage (s .messages)

@@ -1,24 +1,38 @@
--- The state in the words that the caller lends: device, MTU, R; 5 words for each stream context; 8 words for each message context.
-use Prim.Native.Nat.{ℕ}
+-- The state in the words that the caller lends: the head, then the stream contexts, then the message contexts.
+-- A new word is one line where a part's words are given and one where they are read. Every number follows.
+use Prim.Native.Nat.{ℕ, _+_, _*_}
 use mathlib.Core.List.{List, [], _∷_, _++_, map}
-use lib.ListN.{getD, drop}
-use Rattle.lists.specs.Rows.{rows, joined}
-use Rattle.contexts.specs.State.{State, fixed}
+use lib.ListN.{length, getD, take}
+use Rattle.lists.specs.Rows.{joined, recordsAt}
+use Rattle.contexts.specs.State.{Setup, State, fixed, closedStream, closedMessage, streamContexts, messageContexts}
 use Rattle.contexts.specs.declared.StreamContext.{StreamContext}
 use Rattle.contexts.specs.declared.MessageContext.{MessageContext}
 
--- 3 + 16 · 5 + 8 · 8
-abbrev pub stateWords : ℕ
-stateWords = 147
+-- ---- the words of each part in their order, and back
 
--- a stream context of its words
-abbrev pub streamFrom : List ℕ → StreamContext
-streamFrom w = record { live = getD w 0 0; flow = record { source = getD w 1 0; cos = getD w 2 0 }; stream = getD w 3 0; held = getD w 4 0 }
+-- the head: what setup fixed
+abbrev pub wordsOfSetup : Setup → List ℕ
+wordsOfSetup s = s .device ∷ s .mtu ∷ s .room ∷ []
 
+abbrev pub setupFrom : List ℕ → Setup
+setupFrom w = fixed (getD w 0 0) (getD w 1 0) (getD w 2 0)
+
+-- a stream context
 abbrev pub wordsOfStream : StreamContext → List ℕ
 wordsOfStream c = c .live ∷ c .flow .source ∷ c .flow .cos ∷ c .stream ∷ c .held ∷ []
 
--- a message context of its words
+abbrev pub streamFrom : List ℕ → StreamContext
+streamFrom w = record {
+  live = getD w 0 0;
+  flow = record { source = getD w 1 0; cos = getD w 2 0 };
+  stream = getD w 3 0;
+  held = getD w 4 0;
+}
+
+-- a message context
+abbrev pub wordsOfMessage : MessageContext → List ℕ
+wordsOfMessage c = c .live ∷ c .source ∷ c .letter ∷ c .mbox ∷ c .msglen ∷ c .ssize ∷ c .marks ∷ c .last ∷ []
+
 abbrev pub messageFrom : List ℕ → MessageContext
 messageFrom w = record {
   live = getD w 0 0;
@@ -31,21 +45,33 @@ messageFrom w = record {
   last = getD w 7 0;
 }
 
-abbrev pub wordsOfMessage : MessageContext → List ℕ
-wordsOfMessage c = c .live ∷ c .source ∷ c .letter ∷ c .mbox ∷ c .msglen ∷ c .ssize ∷ c .marks ∷ c .last ∷ []
+-- ---- how many words each part has, and where it begins
+abbrev pub headWords : ℕ
+headWords = length (wordsOfSetup (fixed 0 0 0))
 
--- the state that the words are: every list of 147 words is one
+abbrev pub streamWords : ℕ
+streamWords = length (wordsOfStream closedStream)
+
+abbrev pub messageWords : ℕ
+messageWords = length (wordsOfMessage closedMessage)
+
+abbrev pub firstStream : ℕ
+firstStream = headWords
+
+abbrev pub firstMessage : ℕ
+firstMessage = firstStream + streamWords * streamContexts
+
+abbrev pub stateWords : ℕ
+stateWords = firstMessage + messageWords * messageContexts
+
+-- ---- the state that the words are: every list of stateWords words is one
 unfoldable pub stateOf : List ℕ → State
 stateOf w = record {
-  setup = fixed (getD w 0 0) (getD w 1 0) (getD w 2 0);
-  streams = map streamFrom (rows 5 16 (drop 3 w));
-  messages = map messageFrom (rows 8 8 (drop 83 w));
+  setup = setupFrom (take headWords w);
+  streams = recordsAt streamFrom streamWords streamContexts firstStream w;
+  messages = recordsAt messageFrom messageWords messageContexts firstMessage w;
 }
 
 -- and back
 unfoldable pub wordsOf : State → List ℕ
-wordsOf s =
-    s .setup .device
-    ∷ s .setup .mtu
-    ∷ s .setup .room
-    ∷ (joined (map wordsOfStream (s .streams)) ++ joined (map wordsOfMessage (s .messages)))
+wordsOf s = wordsOfSetup (s .setup) ++ (joined (map wordsOfStream (s .streams)) ++ joined (map wordsOfMessage (s .messages)))

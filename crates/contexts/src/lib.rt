@@ -1,22 +1,62 @@
 // The endpoint's state in words that the caller lends, one context at a time as a small struct by value.
-// Two functions for each kind of context know where its words lie. No packet is known here. Every caller has tested that the state is
-// 147 words long, and that a context's number is one of its kind's.
+// The constants say where its words lie. No packet is known here. Every caller has tested that the state is WORDS words long, and that a
+// context's number is one of its kind's.
 use wire::Flow;
 ghost use mathlib.Core.Path.{_≡_};
-ghost use mathlib.Core.List.{_∷_};
-ghost use Prim.Native.Nat.{_+_, _*_, _<_, _≤_, _^_};
+ghost use Prim.Native.Nat.{_<_};
 ghost use lib.ListN.{length, replicate};
+ghost use Rattle.contexts.specs.State.{streamContexts, messageContexts, fixed, fresh, closedStream, openStream, closedMessage, openMessage};
 ghost use Rattle.contexts.specs.State.{isOfFlow, isOfMessage, streamIn, messageIn, withStream, withMessage, flowContext, freeStream, messageContext, freeMessage};
-ghost use Rattle.contexts.specs.Words.{stateOf, stateWords};
-ghost use Rattle.contexts.specs.Marks.{marked as markedOf, allMarked};
+ghost use Rattle.contexts.specs.Words.{stateOf, wordsOf, stateWords};
 
-// The words of a state.
-pub const WORDS: usize = 147;
+// How many contexts of each kind there are.
+pub const STREAM_CONTEXTS: usize = 16;
 
-// The first word of the stream contexts and of the message contexts.
-const STREAMS: usize = 3;
+pub const MESSAGE_CONTEXTS: usize = 8;
 
-const MESSAGES: usize = 83;
+// The words of the head, in their order: what setup fixed.
+const OWN_ID: usize = 0;
+
+const OWN_MTU: usize = 1;
+
+const OWN_ROOM: usize = 2;
+
+const HEAD_WORDS: usize = 3;
+
+// The words of a stream context, in their order.
+const LIVE: usize = 0;
+
+const SOURCE: usize = 1;
+
+const COS: usize = 2;
+
+const STREAM: usize = 3;
+
+const HELD: usize = 4;
+
+const STREAM_WORDS: usize = 5;
+
+// The words of a message context, in their order: LIVE and SOURCE, then these.
+const LETTER: usize = 2;
+
+const MBOX: usize = 3;
+
+const MSGLEN: usize = 4;
+
+const SSIZE: usize = 5;
+
+const MARKS: usize = 6;
+
+const LAST: usize = 7;
+
+const MESSAGE_WORDS: usize = 8;
+
+// The first word of the stream contexts and of the message contexts, and the words of a state.
+const STREAMS: usize = HEAD_WORDS;
+
+const MESSAGES: usize = STREAMS + STREAM_WORDS * STREAM_CONTEXTS;
+
+pub const WORDS: usize = MESSAGES + MESSAGE_WORDS * MESSAGE_CONTEXTS;
 
 // Live is 0 where the context is free; `held` bytes of the PDU are in its room.
 pub struct StreamContext {
@@ -43,7 +83,7 @@ pub fn device(state: &[usize]) -> usize
     requires { ⌜ length (now state) ≡ stateWords ⌝ }
     ensures { λ r. ⌜ r ≡ stateOf (now (state .entry)) .setup .device ⌝ }
 {
-    state[0]
+    state[OWN_ID]
 }
 
 // The MTU.
@@ -51,7 +91,7 @@ pub fn mtu(state: &[usize]) -> usize
     requires { ⌜ length (now state) ≡ stateWords ⌝ }
     ensures { λ r. ⌜ r ≡ stateOf (now (state .entry)) .setup .mtu ⌝ }
 {
-    state[1]
+    state[OWN_MTU]
 }
 
 // R, the bytes of a stream context's room.
@@ -59,73 +99,160 @@ pub fn room(state: &[usize]) -> usize
     requires { ⌜ length (now state) ≡ stateWords ⌝ }
     ensures { λ r. ⌜ r ≡ stateOf (now (state .entry)) .setup .room ⌝ }
 {
-    state[2]
+    state[OWN_ROOM]
 }
 
 // Stream context n.
 pub fn stream_at(state: &[usize], n: usize) -> StreamContext
-    requires { ⌜ (n < 16) × (length (now state) ≡ stateWords) ⌝ }
+    requires { ⌜ (n < streamContexts) × (length (now state) ≡ stateWords) ⌝ }
     ensures { λ r. ⌜ r ≡ streamIn (stateOf (now (state .entry))) n ⌝ }
 {
-    let at = STREAMS + 5 * n;
+    let at = STREAMS + STREAM_WORDS * n;
     let flow = Flow {
-        source: state[at + 1],
-        cos: state[at + 2],
+        source: state[at + SOURCE],
+        cos: state[at + COS],
     };
     StreamContext {
-        live: state[at],
+        live: state[at + LIVE],
         flow,
-        stream: state[at + 3],
-        held: state[at + 4],
+        stream: state[at + STREAM],
+        held: state[at + HELD],
     }
 }
 
-// Puts c in the place of stream context n.
-pub fn put_stream(state: &mut [usize], n: usize, c: StreamContext)
-    requires { ⌜ (n < 16) × (length (now state) ≡ stateWords) ⌝ }
+// Puts c in the place of stream context n. Only the two functions below do: a context is opened, kept and closed nowhere else.
+fn put_stream(state: &mut [usize], n: usize, c: StreamContext)
+    requires { ⌜ (n < streamContexts) × (length (now state) ≡ stateWords) ⌝ }
     ensures { λ _. ⌜ stateOf (now (state .exit)) ≡ withStream (stateOf (now (state .entry))) n c ⌝ }
 {
-    let at = STREAMS + 5 * n;
+    let at = STREAMS + STREAM_WORDS * n;
     let flow = c.flow;
-    state[at] = c.live;
-    state[at + 1] = flow.source;
-    state[at + 2] = flow.cos;
-    state[at + 3] = c.stream;
-    state[at + 4] = c.held;
+    state[at + LIVE] = c.live;
+    state[at + SOURCE] = flow.source;
+    state[at + COS] = flow.cos;
+    state[at + STREAM] = c.stream;
+    state[at + HELD] = c.held;
+}
+
+// Stream context n is open: `held` bytes of that flow's PDU are in its room.
+pub fn keep_stream(state: &mut [usize], n: usize, flow: Flow, stream: usize, held: usize)
+    requires { ⌜ (n < streamContexts) × (length (now state) ≡ stateWords) ⌝ }
+    ensures { λ _. ⌜ stateOf (now (state .exit)) ≡ withStream (stateOf (now (state .entry))) n (openStream flow stream held) ⌝ }
+{
+    put_stream(
+        state,
+        n,
+        StreamContext {
+            live: 1,
+            flow,
+            stream,
+            held,
+        },
+    );
+}
+
+// Stream context n is closed: all its fields are 0.
+pub fn close_stream(state: &mut [usize], n: usize)
+    requires { ⌜ (n < streamContexts) × (length (now state) ≡ stateWords) ⌝ }
+    ensures { λ _. ⌜ stateOf (now (state .exit)) ≡ withStream (stateOf (now (state .entry))) n closedStream ⌝ }
+{
+    let flow = Flow { source: 0, cos: 0 };
+    put_stream(
+        state,
+        n,
+        StreamContext {
+            live: 0,
+            flow,
+            stream: 0,
+            held: 0,
+        },
+    );
 }
 
 // Message context n.
 pub fn message_at(state: &[usize], n: usize) -> MessageContext
-    requires { ⌜ (n < 8) × (length (now state) ≡ stateWords) ⌝ }
+    requires { ⌜ (n < messageContexts) × (length (now state) ≡ stateWords) ⌝ }
     ensures { λ r. ⌜ r ≡ messageIn (stateOf (now (state .entry))) n ⌝ }
 {
-    let at = MESSAGES + 8 * n;
+    let at = MESSAGES + MESSAGE_WORDS * n;
     MessageContext {
-        live: state[at],
-        source: state[at + 1],
-        letter: state[at + 2],
-        mbox: state[at + 3],
-        msglen: state[at + 4],
-        ssize: state[at + 5],
-        marks: state[at + 6],
-        last: state[at + 7],
+        live: state[at + LIVE],
+        source: state[at + SOURCE],
+        letter: state[at + LETTER],
+        mbox: state[at + MBOX],
+        msglen: state[at + MSGLEN],
+        ssize: state[at + SSIZE],
+        marks: state[at + MARKS],
+        last: state[at + LAST],
     }
 }
 
-// Puts c in the place of message context n.
-pub fn put_message(state: &mut [usize], n: usize, c: MessageContext)
-    requires { ⌜ (n < 8) × (length (now state) ≡ stateWords) ⌝ }
+// Puts c in the place of message context n. Only the two functions below do.
+fn put_message(state: &mut [usize], n: usize, c: MessageContext)
+    requires { ⌜ (n < messageContexts) × (length (now state) ≡ stateWords) ⌝ }
     ensures { λ _. ⌜ stateOf (now (state .exit)) ≡ withMessage (stateOf (now (state .entry))) n c ⌝ }
 {
-    let at = MESSAGES + 8 * n;
-    state[at] = c.live;
-    state[at + 1] = c.source;
-    state[at + 2] = c.letter;
-    state[at + 3] = c.mbox;
-    state[at + 4] = c.msglen;
-    state[at + 5] = c.ssize;
-    state[at + 6] = c.marks;
-    state[at + 7] = c.last;
+    let at = MESSAGES + MESSAGE_WORDS * n;
+    state[at + LIVE] = c.live;
+    state[at + SOURCE] = c.source;
+    state[at + LETTER] = c.letter;
+    state[at + MBOX] = c.mbox;
+    state[at + MSGLEN] = c.msglen;
+    state[at + SSIZE] = c.ssize;
+    state[at + MARKS] = c.marks;
+    state[at + LAST] = c.last;
+}
+
+// Message context n is open, with these marks and the length of its last segment once that has come.
+pub fn keep_message(
+    state: &mut [usize],
+    n: usize,
+    source: usize,
+    letter: usize,
+    mbox: usize,
+    msglen: usize,
+    ssize: usize,
+    marks: usize,
+    last: usize,
+)
+    requires { ⌜ (n < messageContexts) × (length (now state) ≡ stateWords) ⌝ }
+    ensures { λ _. ⌜ stateOf (now (state .exit)) ≡ withMessage (stateOf (now (state .entry))) n (openMessage source letter mbox msglen ssize marks last) ⌝ }
+{
+    put_message(
+        state,
+        n,
+        MessageContext {
+            live: 1,
+            source,
+            letter,
+            mbox,
+            msglen,
+            ssize,
+            marks,
+            last,
+        },
+    );
+}
+
+// Message context n is closed: all its fields are 0.
+pub fn close_message(state: &mut [usize], n: usize)
+    requires { ⌜ (n < messageContexts) × (length (now state) ≡ stateWords) ⌝ }
+    ensures { λ _. ⌜ stateOf (now (state .exit)) ≡ withMessage (stateOf (now (state .entry))) n closedMessage ⌝ }
+{
+    put_message(
+        state,
+        n,
+        MessageContext {
+            live: 0,
+            source: 0,
+            letter: 0,
+            mbox: 0,
+            msglen: 0,
+            ssize: 0,
+            marks: 0,
+            last: 0,
+        },
+    );
 }
 
 // The flow is asked first: it sets most contexts aside, open or not.
@@ -139,35 +266,35 @@ fn is_of_flow(c: StreamContext, flow: Flow) -> bool
     false
 }
 
-// The flow's open context; 16: none.
+// The flow's open context; STREAM_CONTEXTS: none.
 pub fn find_stream(state: &[usize], flow: Flow) -> usize
     requires { ⌜ length (now state) ≡ stateWords ⌝ }
     ensures { λ r. ⌜ r ≡ flowContext (stateOf (now (state .entry))) flow ⌝ }
 {
     let mut n = 0;
-    while n < 16 {
+    while n < STREAM_CONTEXTS {
         if is_of_flow(stream_at(state, n), flow) {
             return n;
         }
         n += 1;
     }
-    16
+    STREAM_CONTEXTS
 }
 
-// The lowest free stream context; 16: none.
+// The lowest free stream context; STREAM_CONTEXTS: none.
 pub fn free_stream(state: &[usize]) -> usize
     requires { ⌜ length (now state) ≡ stateWords ⌝ }
     ensures { λ r. ⌜ r ≡ freeStream (stateOf (now (state .entry))) ⌝ }
 {
     let mut i = 0;
-    while i < 16 {
+    while i < STREAM_CONTEXTS {
         let c = stream_at(state, i);
         if c.live == 0 {
             return i;
         }
         i += 1;
     }
-    16
+    STREAM_CONTEXTS
 }
 
 fn is_of_message(c: MessageContext, source: usize, letter: usize, mbox: usize) -> bool
@@ -185,60 +312,35 @@ fn is_of_message(c: MessageContext, source: usize, letter: usize, mbox: usize) -
     c.live != 0
 }
 
-// The open context of the message; 8: none.
+// The open context of the message; MESSAGE_CONTEXTS: none.
 pub fn find_message(state: &[usize], source: usize, letter: usize, mbox: usize) -> usize
     requires { ⌜ length (now state) ≡ stateWords ⌝ }
     ensures { λ r. ⌜ r ≡ messageContext (stateOf (now (state .entry))) source letter mbox ⌝ }
 {
     let mut i = 0;
-    while i < 8 {
+    while i < MESSAGE_CONTEXTS {
         if is_of_message(message_at(state, i), source, letter, mbox) {
             return i;
         }
         i += 1;
     }
-    8
+    MESSAGE_CONTEXTS
 }
 
-// The lowest free message context; 8: none.
+// The lowest free message context; MESSAGE_CONTEXTS: none.
 pub fn free_message(state: &[usize]) -> usize
     requires { ⌜ length (now state) ≡ stateWords ⌝ }
     ensures { λ r. ⌜ r ≡ freeMessage (stateOf (now (state .entry))) ⌝ }
 {
     let mut i = 0;
-    while i < 8 {
+    while i < MESSAGE_CONTEXTS {
         let c = message_at(state, i);
         if c.live == 0 {
             return i;
         }
         i += 1;
     }
-    8
-}
-
-// Two to the k: the weight of mark k.
-pub fn power(k: usize) -> usize
-    requires { ⌜ k ≤ 16 ⌝ }
-    ensures { λ r. ⌜ (r ≡ 2 ^ k) × (r ≤ 65536) ⌝ }
-{
-    1usize << k
-}
-
-// Whether segment k is marked.
-pub fn marked(marks: u16, k: usize) -> bool
-    requires { ⌜ k < 16 ⌝ }
-    ensures { λ r. ⌜ r ≡ markedOf marks k ⌝ }
-{
-    (marks >> k) % 2 == 1
-}
-
-// Whether segments 0 to count-1 are all marked: what the marks say of these is the greatest number of so many bits.
-pub fn all_marked(marks: u16, count: usize) -> bool
-    requires { ⌜ count ≤ 16 ⌝ }
-    ensures { λ r. ⌜ r ≡ allMarked marks count ⌝ }
-{
-    let weight = power(count);
-    marks as usize % weight == weight - 1
+    MESSAGE_CONTEXTS
 }
 
 // A state of zeros.
@@ -255,10 +357,10 @@ pub fn clear(state: &mut [usize])
 // A state as setup makes it.
 pub fn begin(state: &mut [usize], device: usize, mtu: usize, room: usize)
     requires { ⌜ length (now state) ≡ stateWords ⌝ }
-    ensures { λ _. ⌜ now (state .exit) ≡ device ∷ mtu ∷ room ∷ replicate 144 0 ⌝ }
+    ensures { λ _. ⌜ now (state .exit) ≡ wordsOf (fresh (fixed device mtu room)) ⌝ }
 {
     clear(state);
-    state[0] = device;
-    state[1] = mtu;
-    state[2] = room;
+    state[OWN_ID] = device;
+    state[OWN_MTU] = mtu;
+    state[OWN_ROOM] = room;
 }

@@ -1,7 +1,7 @@
 -- Laws of the public calls: what each way through the code leaves is what the definition says.
 use Prim.Native.Nat.{ℕ, _≤_, _<_, _+_, _-_, _*_}
 use mathlib.Core.Path.{_≡_, ap, sym}
-use mathlib.Core.List.{List, _∷_}
+use mathlib.Core.List.{List}
 use mathlib.Core.Bool.{Bool, true, false, not}
 use native.Mathlib.Omega.{arith}
 use native.Mathlib.Nat.{suc-mul, mul-le-mul-right}
@@ -9,11 +9,10 @@ use lib.Dec.{eqb}
 use lib.ListN.{length, take, drop, replicate}
 use borrow.Author.Tests.{eq-eqb, ne-eqb, lt-ltb, le-ltb, eqb-true, not-false}
 use denote.Ref.{RefT, now}
-use Rattle.lists.specs.Rows.{joined}
 use Rattle.answers.specs.Answers.{ready, free, closed, setupRefused, abandonRefused}
 use Rattle.tables.specs.Refusals.{verdict}
 use Rattle.sizes.specs.Sizes.{badMTU}
-use Rattle.contexts.specs.State.{State}
+use Rattle.contexts.specs.State.{State, fresh, fixed}
 use Rattle.contexts.specs.Words.{stateOf, wordsOf, stateWords}
 use Rattle.refusal19.specs.Refusal19.{badRoom, namedBy19}
 use Rattle.contexts.proofs.Words.{words-of}
@@ -35,8 +34,8 @@ module _ (words : List ℕ) (device mtu room : ℕ) where
     unfolding setup setupTable verdict
     setup-room after b d e = rw (e, l, b, d)
 
-    pub setup-ready : (after : List ℕ) → badMTU mtu ≡ false → badRoom mtu room ≡ false → after ≡ device ∷ mtu ∷ room ∷ replicate 144 0 → stands ready after ≡ setup words device mtu room
-    unfolding setup setupTable verdict wordsOf joined
+    pub setup-ready : (after : List ℕ) → badMTU mtu ≡ false → badRoom mtu room ≡ false → after ≡ wordsOf (fresh (fixed device mtu room)) → stands ready after ≡ setup words device mtu room
+    unfolding setup setupTable verdict
     setup-ready after b d e = rw (e, eq-eqb (length words) stateWords l, b, d)
 
 -- ---- abandoning, for contexts of either kind

@@ -11,9 +11,10 @@ use Rattle.answers.specs.declared.Begun.{Begun}
 use Rattle.answers.specs.declared.Abandoned.{Abandoned}
 use Rattle.tables.specs.Refusals.{RowOf, Row, row, all, VerdictOf, Verdict, refuse, accept, verdict}
 use Rattle.sizes.specs.Sizes.{badMTU}
-use Rattle.contexts.specs.State.{State, fresh, fixed, streamIn, messageIn, withStream, withMessage, closedStream, closedMessage, isFreeStream, isFreeMessage}
+use Rattle.contexts.specs.State.{State, fresh, fixed, streamIn, messageIn, withStream, withMessage, closedStream, closedMessage, isFreeStream, isFreeMessage, streamContexts, messageContexts}
 use Rattle.contexts.specs.Words.{stateOf, wordsOf, stateWords}
 use Rattle.refusal19.specs.Refusal19.{badRoom, namedBy19}
+use Rattle.message_rooms.specs.Placing.{messageRoomBytes}
 
 -- an answer and the words it leaves
 pub record Stands (S : Type 0) : Type 0 where
@@ -66,11 +67,11 @@ abandonBy words isFree after accept = cond isFree (stands free words) (stands cl
 
 unfoldable pub abandonStream : List ℕ → ℕ → Stands AbandonSaid
 abandonStream words n =
-    abandonBy words (isFreeStream (streamIn (stateOf words) n)) (withStream (stateOf words) n closedStream) (verdict (abandonTable words 16 n))
+    abandonBy words (isFreeStream (streamIn (stateOf words) n)) (withStream (stateOf words) n closedStream) (verdict (abandonTable words streamContexts n))
 
 unfoldable pub abandonMessage : List ℕ → ℕ → Stands AbandonSaid
 abandonMessage words n =
-    abandonBy words (isFreeMessage (messageIn (stateOf words) n)) (withMessage (stateOf words) n closedMessage) (verdict (abandonTable words 8 n))
+    abandonBy words (isFreeMessage (messageIn (stateOf words) n)) (withMessage (stateOf words) n closedMessage) (verdict (abandonTable words messageContexts n))
 
 abbrev pub AbandonStreamPromise : List ℕ → ℕ → Abandoned → List ℕ → Type 0
 AbandonStreamPromise words n r after = stands (saidOfAbandon r) after ≡ abandonStream words n
@@ -96,10 +97,10 @@ unfoldable pub roomPart : ℕ → ℕ → ℕ → ℕ → ℕ → Part
 roomPart rooms room size n l = cond (not (eqb size (rooms * room)) || not (ltb n rooms) || ltb room l) (part 0 0) (part (n * room) l)
 
 unfoldable pub streamRoom : List ℕ → ℕ → ℕ → ℕ → Part
-streamRoom words size n l = cond (noState words) (part 0 0) (roomPart 16 (stateOf words .setup .room) size n l)
+streamRoom words size n l = cond (noState words) (part 0 0) (roomPart streamContexts (stateOf words .setup .room) size n l)
 
 unfoldable pub messageRoom : List ℕ → ℕ → ℕ → ℕ → Part
-messageRoom words size n l = cond (noState words) (part 0 0) (roomPart 8 4096 size n l)
+messageRoom words size n l = cond (noState words) (part 0 0) (roomPart messageContexts messageRoomBytes size n l)
 
 -- what is handed back is that part of the memory: it lies there, and holds those bytes
 pub record IsPart (memory : RefT (List ℕ)) (p : Part) (r : RefT (List ℕ)) : Type 0 where

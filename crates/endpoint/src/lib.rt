@@ -5,6 +5,7 @@ use answers::Reading;
 ghost use mathlib.Core.Path.{_≡_};
 ghost use Prim.Native.Nat.{_≤_};
 ghost use lib.ListN.{length};
+ghost use Rattle.contexts.specs.State.{streamContexts};
 ghost use Rattle.reading.specs.Desk.{desk};
 ghost use Rattle.reading.specs.Table.{lent};
 ghost use Rattle.reading.specs.Read.{ReadPromise};
@@ -68,14 +69,14 @@ pub fn abandon_stream(state: &mut [usize], n: usize) -> Abandoned
     if refusal19::named_by_19(state) {
         return Abandoned::Refused(19);
     }
-    if 16 <= n {
+    if contexts::STREAM_CONTEXTS <= n {
         return Abandoned::Refused(13);
     }
     let c = contexts::stream_at(state, n);
     if c.live == 0 {
         return Abandoned::WasFree;
     }
-    contexts::put_stream(state, n, stream_rooms::closed());
+    contexts::close_stream(state, n);
     Abandoned::Closed
 }
 
@@ -89,14 +90,14 @@ pub fn abandon_message(state: &mut [usize], n: usize) -> Abandoned
     if refusal19::named_by_19(state) {
         return Abandoned::Refused(19);
     }
-    if 8 <= n {
+    if contexts::MESSAGE_CONTEXTS <= n {
         return Abandoned::Refused(13);
     }
     let c = contexts::message_at(state, n);
     if c.live == 0 {
         return Abandoned::WasFree;
     }
-    contexts::put_message(state, n, message_rooms::closed());
+    contexts::close_message(state, n);
     Abandoned::Closed
 }
 
@@ -112,7 +113,7 @@ fn no_state(state: &[usize]) -> bool
 
 // The first l bytes of room n of a memory of so many rooms, or an empty part. Every caller knows the sizes to be small.
 fn room_part<'a>(memory: &'a [u8], rooms: usize, room: usize, n: usize, l: usize) -> &'a [u8]
-    requires { ⌜ (rooms ≤ 16) × (room ≤ 65536) ⌝ }
+    requires { ⌜ (rooms ≤ streamContexts) × (room ≤ 65536) ⌝ }
     ensures { λ r. ⌜ IsPart (memory .entry) (roomPart rooms room (length (now (memory .entry))) n l) r ⌝ }
 {
     if memory.len() != rooms * room {
@@ -136,7 +137,13 @@ pub fn stream_room<'a>(state: &[usize], memory: &'a [u8], n: usize, l: usize) ->
     if no_state(state) {
         return &memory[0..0];
     }
-    room_part(memory, 16, contexts::room(state), n, l)
+    room_part(
+        memory,
+        contexts::STREAM_CONTEXTS,
+        contexts::room(state),
+        n,
+        l,
+    )
 }
 
 // The same of message context n.
@@ -146,5 +153,11 @@ pub fn message_room<'a>(state: &[usize], memory: &'a [u8], n: usize, l: usize) -
     if no_state(state) {
         return &memory[0..0];
     }
-    room_part(memory, 8, message_rooms::ROOM, n, l)
+    room_part(
+        memory,
+        contexts::MESSAGE_CONTEXTS,
+        message_rooms::ROOM,
+        n,
+        l,
+    )
 }

@@ -3,12 +3,12 @@ use Prim.Native.Nat.{ℕ, zero, suc, _≤_, _<_, _+_, _-_, _*_}
 use mathlib.Core.Path.{_≡_, refl, ap, ap₂, sym, _∙_}
 use mathlib.Core.List.{List, [], _∷_, _++_, map, append-assoc}
 use native.Mathlib.Omega.{arith}
-use native.Mathlib.Nat.{mul-suc, mul-zero, mul-le-mul-left, add-comm}
-use lib.ListN.{length, getD, take, drop, set, length-drop, take-append-drop, length-append}
-use lib.Seq.{drop-drop, take-at, drop-at, take-add, length-take-le}
+use native.Mathlib.Nat.{mul-suc, mul-zero, mul-le-mul-left, add-comm, add-zero, add-suc}
+use lib.ListN.{length, getD, take, drop, set, length-drop, length-map, take-append-drop, length-append, List·getD-map}
+use lib.Seq.{drop-drop, drop-cons, take-all, take-at, drop-at, take-add, length-take-le, sets}
 use Rattle.lists.specs.Bytes.{written}
-use Rattle.lists.specs.Rows.{rows, joined}
-use Rattle.lists.proofs.Written.{drop-written, take-before, part-written, drop-behind}
+use Rattle.lists.specs.Rows.{rows, joined, recordsAt}
+use Rattle.lists.proofs.Written.{stores, drop-written, take-before, part-written, drop-behind}
 
 step : (k i : ℕ) → k + k * i ≡ k * suc i
 step k i = add-comm k (k * i) ∙ sym (mul-suc k i)
@@ -61,13 +61,6 @@ rows-before k (suc n) at w values h fits =
     ∙ ap₂ (λ (x : List ℕ) (y : List (List ℕ)). x ∷ y) front (ap (λ (l : List ℕ). rows k n l) (drop-written k w values (at - k) room) ∙ rest)
 
 -- the rows are the words and no more
-pub joined-rows : (k n : ℕ) (w : List ℕ) → length w ≡ k * n → joined (rows k n w) ≡ w
-unfolding rows joined
-joined-rows k ℕ.zero [] z = refl
-joined-rows k ℕ.zero (_ ∷ w) z = absurd (omega (arith, mul-zero k))
-joined-rows k (suc n) w z =
-    ap (λ (l : List ℕ). take k w ++ l) (joined-rows k n (drop k w) (simp length-drop (omega (arith, mul-suc k n)))) ∙ take-append-drop k w
-
 pub joined-front : (k n : ℕ) (w : List ℕ) → k * n ≤ length w → joined (rows k n w) ≡ take (k * n) w
 unfolding rows joined
 joined-front k ℕ.zero w h = rw (mul-zero k)
@@ -81,28 +74,123 @@ map-set f [] i a = refl
 map-set f (x ∷ l) ℕ.zero a = refl
 map-set {A} {B} f (x ∷ l) (suc i) a = ap (λ (m : List B). f x ∷ m) (map-set f l i a)
 
--- Records kept as rows: `from` reads one out of its words, `to` gives its words.
-module _ {A : Type 0} (k : ℕ) (from : List ℕ → A) (to : A → List ℕ) where
-  -- the words of the records that stand in a table are the table's
-  pub rows-again : ((r : List ℕ) → length r ≡ k → to (from r) ≡ r) → (n : ℕ) (w : List ℕ) → k * n ≤ length w → map to (map from (rows k n w)) ≡ rows k n w
+-- ---- words read and written one by one, as code does
+
+-- the `count` words from place k of those at `at` on
+abbrev pub readAt : List ℕ → ℕ → ℕ → ℕ → List ℕ
+readAt w at k ℕ.zero = []
+readAt w at k (suc count) = getD w (at + k) 0 ∷ readAt w at (suc k) count
+
+pub read-is : (w : List ℕ) (at k count : ℕ) → at + k + count ≤ length w → readAt w at k count ≡ take count (drop (at + k) w)
+read-is w at k ℕ.zero h = refl
+read-is w at k (suc count) h =
+    ap (λ (l : List ℕ). getD w (at + k) 0 ∷ l) (read-is w at (suc k) count (omega arith) ∙ ap (λ (n : ℕ). take count (drop n w)) (add-suc at k))
+    ∙ sym (ap (take (suc count)) (drop-cons w (at + k) 0 (omega arith)))
+
+-- the words with these in the place of those from place k of those at `at` on
+abbrev pub writeAt : List ℕ → ℕ → ℕ → List ℕ → List ℕ
+writeAt w at k [] = w
+writeAt w at k (v ∷ vs) = writeAt (set w (at + k) v) at (suc k) vs
+
+write-sets : (w : List ℕ) (at k : ℕ) (vs : List ℕ) → writeAt w at k vs ≡ sets w (at + k) vs
+write-sets w at k [] = refl
+write-sets w at k (v ∷ vs) = write-sets (set w (at + k) v) at (suc k) vs ∙ ap (λ (n : ℕ). sets (set w (at + k) v) n vs) (add-suc at k)
+
+pub write-is : (w : List ℕ) (at : ℕ) (vs : List ℕ) → at + length vs ≤ length w → writeAt w at 0 vs ≡ written w at vs
+write-is w at vs h = write-sets w at 0 vs ∙ (ap (λ (n : ℕ). sets w n vs) (add-zero at) ∙ stores w vs at h)
+
+-- ---- records kept as rows: `from` reads one out of its words, `to` gives its words
+module _ {A : Type 0} (from : List ℕ → A) (width count first : ℕ) where
+  pub length-records : (w : List ℕ) → length (recordsAt from width count first w) ≡ count
+  length-records w = length-map (rows width count (drop first w)) from ∙ length-rows width count (drop first w)
+
+  module _ (w : List ℕ) (fits : first + width * count ≤ length w) where
+    place-fits : (i : ℕ) → i < count → first + width * i + width ≤ length w
+    place-fits i h = omega (arith, mul-suc width i, mul-le-mul-left width h)
+
+    -- record i is what its words say
+    pub record-read : (i : ℕ) → i < count → from (readAt w (first + width * i) 0 width) ≡ getD (recordsAt from width count first w) i (from [])
+    record-read i h =
+        let at : ℕ = first + width * i in
+        ap from
+        (read-is w at 0 width (omega (arith, place-fits i h))
+        ∙ ap (take width) (ap (λ (n : ℕ). drop n w) (add-zero at) ∙ sym (drop-drop (width * i) first w))
+        ∙ sym (row-at width count i (drop first w) h))
+        ∙ sym (List·getD-map from (rows width count (drop first w)) i [])
+
+    -- its words written are a `set` of that record
+    pub record-put : (i : ℕ) (row : List ℕ) → length row ≡ width → i < count
+        → recordsAt from width count first (written w (first + width * i) row) ≡ set (recordsAt from width count first w) i (from row)
+    record-put i row e h =
+        ap (map from)
+        (ap (rows width count) (drop-written first w row (width * i) (omega (arith, place-fits i h)))
+        ∙ row-written width count i (drop first w) row e h (simp length-drop (omega arith)))
+        ∙ map-set from (rows width count (drop first w)) i row
+
+    -- words written behind the records change none
+    pub records-before : (at : ℕ) (values : List ℕ) → first + width * count ≤ at → at + length values ≤ length w
+        → recordsAt from width count first (written w at values) ≡ recordsAt from width count first w
+    records-before at values h g =
+        let place : at ≡ first + (at - first) = omega arith in
+        let room : first + (at - first) + length values ≤ length w = omega arith in
+        ap (λ (n : ℕ). recordsAt from width count first (written w n values)) place
+        ∙ ap (map from)
+        (ap (rows width count) (drop-written first w values (at - first) room)
+        ∙ rows-before width count (at - first) (drop first w) values (omega arith) (simp length-drop (omega arith)))
+
+    -- nor do words written before them
+    pub records-behind : (at : ℕ) (values : List ℕ) → at + length values ≤ first
+        → recordsAt from width count first (written w at values) ≡ recordsAt from width count first w
+    records-behind at values h = ap (λ (l : List ℕ). map from (rows width count l)) (drop-behind w values at (omega arith) first h)
+
+-- ---- records are their words and no more
+
+-- `to` gives the words of a record and `from` reads them, each all that the other has
+pub record Rowed {A : Type 0} (width : ℕ) (from : List ℕ → A) (to : A → List ℕ) : Type 0 where
+  pub wide : (a : A) → length (to a) ≡ width
+  pub same : (a : A) → from (to a) ≡ a
+  pub again : (w : List ℕ) → to (from (readAt w 0 0 width)) ≡ readAt w 0 0 width
+
+module _ {A : Type 0} {width : ℕ} {from : List ℕ → A} {to : A → List ℕ} (both : Rowed width from to) where
+  -- a row is the words of its record
+  pub row-again : (row : List ℕ) → length row ≡ width → to (from row) ≡ row
+  row-again row e =
+      let whole : readAt row 0 0 width ≡ row = read-is row 0 0 width (omega arith) ∙ take-all width row (omega arith) in
+      ap (λ (l : List ℕ). to (from l)) (sym whole) ∙ (both .again row ∙ whole)
+
+  rows-again : (n : ℕ) (w : List ℕ) → width * n ≤ length w → map to (map from (rows width n w)) ≡ rows width n w
   unfolding rows
-  rows-again back ℕ.zero w h = refl
-  rows-again back (suc n) w h =
-      let m = mul-suc k n in
-      ap₂ (λ (x : List ℕ) (y : List (List ℕ)). x ∷ y) (back (take k w) (length-take-le k w (omega arith))) (rows-again back n (drop k w) (simp length-drop (omega arith)))
+  rows-again ℕ.zero w h = refl
+  rows-again (suc n) w h =
+      let m = mul-suc width n in
+      ap₂ (λ (x : List ℕ) (y : List (List ℕ)). x ∷ y)
+      (row-again (take width w) (length-take-le width w (omega arith))) (rows-again n (drop width w) (simp length-drop (omega arith)))
+
+  -- the words of the records that stand in a table are the table's
+  pub records-words : (count first : ℕ) (w : List ℕ) → first + width * count ≤ length w
+      → joined (map to (recordsAt from width count first w)) ≡ take (width * count) (drop first w)
+  records-words count first w h =
+      let fits : width * count ≤ length (drop first w) = simp length-drop (omega arith) in
+      ap joined (rows-again count (drop first w) fits) ∙ joined-front width count (drop first w) fits
 
   -- the records of a table made of records are those
-  pub records-again : ((a : A) → length (to a) ≡ k) → ((a : A) → from (to a) ≡ a) → (l : List A) (rest : List ℕ) → map from (rows k (length l) (joined (map to l) ++ rest)) ≡ l
+  records-made : (l : List A) (rest : List ℕ) → map from (rows width (length l) (joined (map to l) ++ rest)) ≡ l
   unfolding rows joined
-  records-again wide same [] rest = refl
-  records-again wide same (a ∷ l) rest =
+  records-made [] rest = refl
+  records-made (a ∷ l) rest =
       let front : to a ++ joined (map to l) ++ rest ≡ to a ++ (joined (map to l) ++ rest) = append-assoc (to a) (joined (map to l)) rest in
-      ap (λ (w : List ℕ). map from (take k w ∷ rows k (length l) (drop k w))) front
+      ap (λ (w : List ℕ). map from (take width w ∷ rows width (length l) (drop width w))) front
       ∙ ap₂ (λ (x : A) (y : List A). x ∷ y)
-      (ap from (take-at (to a) (joined (map to l) ++ rest) k (wide a)) ∙ same a)
-      (ap (λ (w : List ℕ). map from (rows k (length l) w)) (drop-at (to a) (joined (map to l) ++ rest) k (wide a)) ∙ records-again wide same l rest)
+      (ap from (take-at (to a) (joined (map to l) ++ rest) width (both .wide a)) ∙ both .same a)
+      (ap (λ (w : List ℕ). map from (rows width (length l) w)) (drop-at (to a) (joined (map to l) ++ rest) width (both .wide a)) ∙ records-made l rest)
 
-  pub length-joined : ((a : A) → length (to a) ≡ k) → (l : List A) → length (joined (map to l)) ≡ k * length l
+  pub words-records : (count first : ℕ) (front : List ℕ) (l : List A) (rest : List ℕ) → length front ≡ first → length l ≡ count
+      → recordsAt from width count first (front ++ (joined (map to l) ++ rest)) ≡ l
+  words-records count first front l rest f e =
+      ap (λ (w : List ℕ). map from (rows width count w)) (drop-at front (joined (map to l) ++ rest) first f)
+      ∙ (ap (λ (n : ℕ). map from (rows width n (joined (map to l) ++ rest))) (sym e) ∙ records-made l rest)
+
+  pub length-joined : (l : List A) → length (joined (map to l)) ≡ width * length l
   unfolding joined
-  length-joined wide [] = sym (mul-zero k)
-  length-joined wide (a ∷ l) = length-append (to a) (joined (map to l)) ∙ (omega (arith, wide a, length-joined wide l, mul-suc k (length l)))
+  length-joined [] = sym (mul-zero width)
+  length-joined (a ∷ l) = length-append (to a) (joined (map to l)) ∙ omega (arith, both .wide a, length-joined l, mul-suc width (length l))

@@ -12,9 +12,9 @@ use Rattle.answers.specs.Answers.{Said}
 use Rattle.wire.specs.declared.MessageSegment.{MessageSegment}
 use Rattle.sizes.specs.Sizes.{bytesOf}
 use Rattle.responses.specs.Type13.{DONE, answered}
-use Rattle.contexts.specs.State.{State}
+use Rattle.contexts.specs.State.{State, messageContexts}
 use Rattle.rules.specs.Messages.{lastWith}
-use Rattle.message_rooms.specs.Placing.{messageJoining, messageData, marksWith, messagePlaced}
+use Rattle.message_rooms.specs.Placing.{messageJoining, messageData, marksWith, messagePlaced, messageRoomBytes, messageMemoryBytes}
 use Rattle.message_rooms.specs.Inside.{MessageKept}
 
 -- ---- numbers that stay inside
@@ -26,7 +26,7 @@ product-le k size b h =
     omega arith
 
 -- segment k of room n ends inside the memory
-pub segment-ends : (n k size raw : ℕ) → n < 8 → k < 16 → size ≤ 256 → raw ≤ size → n * 4096 + k * size + raw ≤ 32768
+pub segment-ends : (n k size raw : ℕ) → n < messageContexts → k < 16 → size ≤ 256 → raw ≤ size → n * messageRoomBytes + k * size + raw ≤ messageMemoryBytes
 segment-ends n k size raw a b h r = omega (arith, product-le k size b h)
 
 pub marks-le : (marks msglen : ℕ) → msglen < 16 → marks < 2 ^ (msglen + 1) → marks < 65536
@@ -45,7 +45,7 @@ pub placing : (s : State) (memory response p : List ℕ) (m : MessageSegment) (n
     → marks′ ≡ marksWith m marks
     → last′ ≡ lastWith m last
     → MessageKept s m n marks′ last′ says state
-    → memory′ ≡ written memory (n * 4096 + m .msgseg * size) (take (length p - 7) (drop 7 p))
+    → memory′ ≡ written memory (n * messageRoomBytes + m .msgseg * size) (take (length p - 7) (drop 7 p))
     → response′ ≡ answered response p DONE
     → messageJoining says state memory′ response′ ≡ messagePlaced s memory response p m n marks last
 unfolding messagePlaced

@@ -8,17 +8,17 @@ use Rattle.answers.specs.Answers.{Said, refused}
 use Rattle.wire.specs.declared.MessageSegment.{MessageSegment}
 use Rattle.wire.specs.Type11.{isSingle}
 use Rattle.responses.specs.Type13.{answered}
-use Rattle.contexts.specs.State.{State, withMessage}
+use Rattle.contexts.specs.State.{State, withMessage, messageContexts}
 use Rattle.contexts.specs.Words.{stateOf, stateWords}
-use Rattle.contexts.specs.Marks.{marked}
+use Rattle.marks.specs.Marks.{marked}
 use Rattle.refusal19.specs.Refusal19.{namedBy19}
-use Rattle.message_rooms.specs.Placing.{answerWith, contextWith}
+use Rattle.message_rooms.specs.Placing.{answerWith, contextWith, messageMemoryBytes}
 
 -- words of a state that 19 does not name, buffers that 12 allows, a packet with its head
 pub record MessageReady (words memory response packet : List ℕ) (m : MessageSegment) : Type 0 where
   pub whole : length words ≡ stateWords
   pub good : namedBy19 (stateOf words) ≡ false
-  pub size : length memory ≡ 32768
+  pub size : length memory ≡ messageMemoryBytes
   pub reply : 7 ≤ length response
   pub inside : 7 + m .raw ≡ length packet
   pub segments : m .msglen < 16
@@ -27,7 +27,7 @@ pub record MessageReady (words memory response packet : List ℕ) (m : MessageSe
 
 -- the segment is one more of its message: context n, and marks that leave it out
 pub record MessageFits (m : MessageSegment) (n marks last : ℕ) : Type 0 where
-  pub context : n < 8
+  pub context : n < messageContexts
   pub several : isSingle m ≡ false
   pub inside : marks < 2 ^ (m .msglen + 1)
   pub unmarked : marked marks (m .msgseg) ≡ false

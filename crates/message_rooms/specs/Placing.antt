@@ -10,9 +10,16 @@ use Rattle.wire.specs.Type11.{mailbox, messageDataFrom}
 use Rattle.sizes.specs.Sizes.{bytesOf}
 use Rattle.responses.specs.Type13.{DONE, answered}
 use Rattle.contexts.specs.declared.MessageContext.{MessageContext}
-use Rattle.contexts.specs.State.{State, withMessage, closedMessage}
-use Rattle.contexts.specs.Marks.{withMark, allMarked}
+use Rattle.contexts.specs.State.{State, withMessage, closedMessage, openMessage, messageContexts}
+use Rattle.marks.specs.Marks.{withMark, allMarked}
 use Rattle.rules.specs.Messages.{lastWith}
+
+-- the bytes of a message context's room, and of the memory that has one for each
+abbrev pub messageRoomBytes : ℕ
+messageRoomBytes = 4096
+
+abbrev pub messageMemoryBytes : ℕ
+messageMemoryBytes = messageContexts * messageRoomBytes
 
 -- the answer, the state, the message memory and the response buffer
 pub record MessageJoined : Type 0 where
@@ -34,16 +41,7 @@ marksWith m marks = withMark marks (m .msgseg)
 
 -- the context as it is kept with `marks` and `last`
 abbrev pub kept : MessageSegment → ℕ → ℕ → MessageContext
-kept m marks last = record {
-  live = 1;
-  source = m .source;
-  letter = m .letter;
-  mbox = m .mbox;
-  msglen = m .msglen;
-  ssize = m .ssize;
-  marks = marks;
-  last = last;
-}
+kept m marks last = openMessage (m .source) (m .letter) (m .mbox) (m .msglen) (m .ssize) marks last
 
 -- all segments of the message are in
 abbrev pub complete : MessageSegment → ℕ → Bool
@@ -61,5 +59,5 @@ unfoldable pub messagePlaced : State → List ℕ → List ℕ → List ℕ → 
 messagePlaced s memory response p m n marks last =
     messageJoining (answerWith m n (marksWith m marks) (lastWith m last))
     (withMessage s n (contextWith m (marksWith m marks) (lastWith m last)))
-    (written memory (n * 4096 + m .msgseg * bytesOf (m .ssize)) (messageData p))
+    (written memory (n * messageRoomBytes + m .msgseg * bytesOf (m .ssize)) (messageData p))
     (answered response p DONE)

@@ -1,36 +1,21 @@
 // What a type 11 segment does to one context and its room: its data stored, the context kept or delivered, the response written.
 use answers::Answer;
-use contexts::MessageContext;
 use wire::MessageSegment;
 ghost use mathlib.Core.Path.{_≡_};
 ghost use Prim.Native.Nat.{_<_, _≤_};
 ghost use lib.ListN.{length};
 ghost use Rattle.answers.specs.Answers.{said};
 ghost use Rattle.responses.specs.Type13.{DONE, answered};
-ghost use Rattle.contexts.specs.State.{closedMessage};
+ghost use Rattle.contexts.specs.State.{messageContexts};
 ghost use Rattle.contexts.specs.Words.{stateOf, stateWords};
 ghost use Rattle.rules.specs.Inside.{Sound};
 ghost use Rattle.message_rooms.specs.Placing.{messageJoining, messagePlaced};
 ghost use Rattle.message_rooms.specs.Inside.{MessageReady, MessageFits, MessageKept, Replied};
 
-// The bytes of a message context's room.
+// The bytes of a message context's room, and of the memory that has one for each.
 pub const ROOM: usize = 4096;
 
-// A closed context: all its fields 0.
-pub fn closed() -> MessageContext
-    ensures { λ r. ⌜ r ≡ closedMessage ⌝ }
-{
-    MessageContext {
-        live: 0,
-        source: 0,
-        letter: 0,
-        mbox: 0,
-        msglen: 0,
-        ssize: 0,
-        marks: 0,
-        last: 0,
-    }
-}
+pub const MEMORY: usize = contexts::MESSAGE_CONTEXTS * ROOM;
 
 // A refusal: its response is written, and nothing else. Every caller has a buffer of 7 bytes, a packet of 7 and a status.
 pub fn refuse(response: &mut [u8], packet: &[u8], number: usize, status: u8) -> Answer
@@ -51,12 +36,12 @@ pub fn done(response: &mut [u8], packet: &[u8])
 
 // Context n with these marks: delivered where all segments are in, else kept.
 fn keep(state: &mut [usize], m: MessageSegment, n: usize, marks: usize, last: usize) -> Answer
-    requires { ⌜ (n < 8) × (length (now state) ≡ stateWords) ⌝ }
+    requires { ⌜ (n < messageContexts) × (length (now state) ≡ stateWords) ⌝ }
     requires { ⌜ (marks < 65536) × (last ≤ 256) × (m .msglen < 16) × (m .msgseg < 16) × (m .mbox < 4) ⌝ }
     ensures { λ r. ⌜ MessageKept (stateOf (now (state .entry))) m n marks last (said r) (stateOf (now (state .exit))) ⌝ }
 {
-    if contexts::all_marked(marks as u16, m.msglen + 1) {
-        contexts::put_message(state, n, closed());
+    if marks::all_marked(marks as u16, m.msglen + 1) {
+        contexts::close_message(state, n);
         return Answer::Message {
             context: n,
             source: m.source,
@@ -65,19 +50,16 @@ fn keep(state: &mut [usize], m: MessageSegment, n: usize, marks: usize, last: us
             length: m.msglen * sizes::bytes_of(m.ssize) + last,
         };
     }
-    contexts::put_message(
+    contexts::keep_message(
         state,
         n,
-        MessageContext {
-            live: 1,
-            source: m.source,
-            letter: m.letter,
-            mbox: m.mbox,
-            msglen: m.msglen,
-            ssize: m.ssize,
-            marks,
-            last,
-        },
+        m.source,
+        m.letter,
+        m.mbox,
+        m.msglen,
+        m.ssize,
+        marks,
+        last,
     );
     Answer::Held
 }
@@ -100,7 +82,7 @@ pub fn place(
     ensures { λ r. ⌜ messageJoining (said r) (stateOf (now (state .exit))) (now (memory .exit)) (now (response .exit)) ≡ messagePlaced (stateOf (now (state .entry))) (now (memory .entry)) (now (response .entry)) (now (packet .entry)) m n marks last ⌝ }
 {
     let size = sizes::bytes_of(m.ssize);
-    let with_this = marks + contexts::power(m.msgseg);
+    let with_this = marks + marks::power(m.msgseg);
     lists::store(
         memory,
         n * ROOM + m.msgseg * size,

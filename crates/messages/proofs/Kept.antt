@@ -13,13 +13,13 @@ use Rattle.wire.specs.declared.MessageSegment.{MessageSegment}
 use Rattle.wire.specs.Type11.{isSingle}
 use Rattle.sizes.specs.Sizes.{bytesOf, inEights}
 use Rattle.contexts.specs.declared.MessageContext.{MessageContext}
-use Rattle.contexts.specs.State.{State, messageIn, closedMessage, messageContext, freeMessage}
-use Rattle.contexts.specs.Marks.{marked}
+use Rattle.contexts.specs.State.{State, messageContexts, messageIn, closedMessage, messageContext, freeMessage}
+use Rattle.marks.specs.Marks.{marked}
 use Rattle.refusal19.specs.Refusal19.{badLast, namedBy19}
-use Rattle.contexts.proofs.Bits.{mark-set, mark-other}
+use Rattle.marks.proofs.Bits.{mark-set, mark-other}
 use Rattle.refusal19.proofs.Good.{Message, good, neither, message-found}
 use Rattle.refusal19.proofs.Kept.{closed-message, kept-message, message-kept}
-use Rattle.contexts.proofs.Marks.{room-for-mark, nothing-marked}
+use Rattle.marks.proofs.Marks.{room-for-mark, nothing-marked}
 use Rattle.message_rooms.specs.Placing.{messagePlaced, kept, complete, marksWith}
 use Rattle.messages.specs.Rows.{messageFound, messageOpen, otherMessage, alreadyMarked}
 use Rattle.messages.specs.Joining.{messageAccepted, deliveredAtOnce}
@@ -58,9 +58,10 @@ placed-kept s memory response p m n marks last fine several few size right past 
     (by-test (complete m (marksWith m marks)) (λ c. rw c closed-message)
     (λ c. rw c
     (kept-message (kept m (marksWith m marks) (lastWith m last)) (eqb-false (bytesOf (m .ssize)) 0 size) (eqb-false (m .msglen) 0 several) (omega arith)
-    (room-for-mark marks (m .msgseg) (m .msglen + 1) inside (omega (arith, seg-le m past several)) unset) (λ z. omega (arith, pow-pos (m .msgseg))) c (last-kept m marks last several unset right before))))
+    (room-for-mark marks (m .msgseg) (m .msglen + 1) inside (omega (arith, seg-le m past several)) unset)
+    (λ z. omega (arith, pow-pos (m .msgseg))) c (last-kept m marks last several unset right before))))
 
-module _ (s : State) (memory response p : List ℕ) (m : MessageSegment) (fine : namedBy19 s ≡ false) (eight : length (s .messages) ≡ 8) (few : m .msglen < 16)
+module _ (s : State) (memory response p : List ℕ) (m : MessageSegment) (fine : namedBy19 s ≡ false) (eight : length (s .messages) ≡ messageContexts) (few : m .msglen < 16)
     (size : reservedSize m ≡ false) (right : badLength m ≡ false) (past : pastLast m ≡ false) where
   alone-kept : (n : ℕ) → namedBy19 (deliveredAtOnce s memory response p m n .state) ≡ false
   unfolding deliveredAtOnce
@@ -82,7 +83,7 @@ module _ (s : State) (memory response p : List ℕ) (m : MessageSegment) (fine :
 
     own-good : Message own
     own-good =
-        let within : messageFound s m < 8 = ltb-true (messageFound s m) 8 o in
+        let within : messageFound s m < messageContexts = ltb-true (messageFound s m) messageContexts o in
         rw found-is (message-found s (m .source) (m .letter) (m .mbox) (good s fine) (omega (arith, found-is)))
 
     same-form : otherMessage s m ≡ false → (own .msglen ≡ m .msglen) × (own .ssize ≡ m .ssize)
@@ -103,7 +104,8 @@ module _ (s : State) (memory response p : List ℕ) (m : MessageSegment) (fine :
     more-kept : otherMessage s m ≡ false → alreadyMarked s m ≡ false → namedBy19 (messagePlaced s memory response p m (messageFound s m) (own .marks) (own .last) .state) ≡ false
     more-kept other unset =
         let same = same-form other in
-        placed-kept s memory response p m (messageFound s m) (own .marks) (own .last) fine several few size right past (subst (λ (l : ℕ). own .marks < 2 ^ (l + 1)) (same .0) (own-good .inside)) (unmarked unset) (kept-last (same .0) (same .1))
+        placed-kept s memory response p m (messageFound s m) (own .marks) (own .last) fine several few size right past
+        (subst (λ (l : ℕ). own .marks < 2 ^ (l + 1)) (same .0) (own-good .inside)) (unmarked unset) (kept-last (same .0) (same .1))
 
   pub accepted-kept : otherMessage s m ≡ false → alreadyMarked s m ≡ false → namedBy19 (messageAccepted s memory response p m .state) ≡ false
   unfolding messageAccepted

@@ -15,14 +15,14 @@ use Rattle.sizes.specs.Sizes.{bytesOf, inEights}
 use Rattle.responses.specs.Type13.{ERROR, RETRY, DONE, answered}
 use Rattle.sizes.proofs.Laws.{bytes-le, eights-le}
 use Rattle.contexts.specs.declared.MessageContext.{MessageContext}
-use Rattle.contexts.specs.State.{State, messageIn, withMessage, closedMessage, messageContext, freeMessage}
-use Rattle.contexts.specs.Marks.{marked}
+use Rattle.contexts.specs.State.{State, messageContexts, messageIn, withMessage, closedMessage, messageContext, freeMessage}
+use Rattle.marks.specs.Marks.{marked}
 use Rattle.refusal19.specs.Refusal19.{badLast, namedBy19}
 use Rattle.contexts.specs.Words.{stateOf}
 use Rattle.contexts.proofs.Words.{eight}
 use Rattle.refusal19.proofs.Good.{Message, good, message-found}
 use Rattle.rules.specs.Messages.{judged}
-use Rattle.message_rooms.specs.Placing.{messageJoining, messagePlaced}
+use Rattle.message_rooms.specs.Placing.{messageJoining, messagePlaced, messageRoomBytes}
 use Rattle.message_rooms.specs.Inside.{Replied}
 use Rattle.message_rooms.proofs.Laws.{data-whole}
 use Rattle.messages.specs.Rows.{messageFound, messageOpen, otherMessage, alreadyMarked, neededNoneFree}
@@ -47,7 +47,7 @@ replying s memory response p number status says after r = rw (r .answer, r .resp
 module _ (s : State) (memory response p : List ℕ) (m : MessageSegment) where
   -- a single-segment message
   module _ (t : isSingle m ≡ true) where
-    none-open : messageFound s m ≡ 8
+    none-open : messageFound s m ≡ messageContexts
     unfolding messageFound
     none-open = rw t
 
@@ -55,13 +55,13 @@ module _ (s : State) (memory response p : List ℕ) (m : MessageSegment) where
     unfolding otherMessage alreadyMarked
     never = (rw none-open, rw none-open)
 
-    pub alone-none : {says : Said} {after : List ℕ} → 8 ≤ freeMessage s → Replied response p 25 RETRY says after → messageJoining says s memory after ≡ matched s memory response p m
+    pub alone-none : {says : Said} {after : List ℕ} → messageContexts ≤ freeMessage s → Replied response p 25 RETRY says after → messageJoining says s memory after ≡ matched s memory response p m
     unfolding matched neededNoneFree
-    alone-none h r = replying s memory response p 25 RETRY _ _ r ∙ rw (never .0, never .1, none-open, le-ltb (freeMessage s) 8 h)
+    alone-none h r = replying s memory response p 25 RETRY _ _ r ∙ rw (never .0, never .1, none-open, le-ltb (freeMessage s) messageContexts h)
 
-    pub alone-taken : freeMessage s < 8 → deliveredAtOnce s memory response p m (freeMessage s) ≡ matched s memory response p m
+    pub alone-taken : freeMessage s < messageContexts → deliveredAtOnce s memory response p m (freeMessage s) ≡ matched s memory response p m
     unfolding matched neededNoneFree messageAccepted
-    alone-taken h = rw (never .0, never .1, none-open, lt-ltb (freeMessage s) 8 h, t)
+    alone-taken h = rw (never .0, never .1, none-open, lt-ltb (freeMessage s) messageContexts h, t)
 
   -- one of several
   module _ (t : isSingle m ≡ false) where
@@ -70,9 +70,9 @@ module _ (s : State) (memory response p : List ℕ) (m : MessageSegment) where
     found-is = rw t
 
     -- of an open message
-    module _ (c : MessageContext) (o : messageContext s (m .source) (m .letter) (m .mbox) < 8) (same : c ≡ messageIn s (messageContext s (m .source) (m .letter) (m .mbox))) where
+    module _ (c : MessageContext) (o : messageContext s (m .source) (m .letter) (m .mbox) < messageContexts) (same : c ≡ messageIn s (messageContext s (m .source) (m .letter) (m .mbox))) where
       opened : messageOpen s m ≡ true
-      opened = rw found-is (lt-ltb (messageContext s (m .source) (m .letter) (m .mbox)) 8 o)
+      opened = rw found-is (lt-ltb (messageContext s (m .source) (m .letter) (m .mbox)) messageContexts o)
 
       context : messageIn s (messageFound s m) ≡ c
       context = rw found-is (sym same)
@@ -101,7 +101,8 @@ module _ (s : State) (memory response p : List ℕ) (m : MessageSegment) where
         not-other : otherMessage s m ≡ false
         not-other = other-is ∙ rw (eq-eqb (c .msglen) (m .msglen) l, eq-eqb (c .ssize) (m .ssize) z)
 
-        pub join-marked : {says : Said} {after : List ℕ} → marked (c .marks) (m .msgseg) ≡ true → Replied response p 24 ERROR says after → messageJoining says s memory after ≡ matched s memory response p m
+        pub join-marked : {says : Said} {after : List ℕ} → marked (c .marks) (m .msgseg) ≡ true → Replied response p 24 ERROR says after
+            → messageJoining says s memory after ≡ matched s memory response p m
         unfolding matched
         join-marked d r = replying s memory response p 24 ERROR _ _ r ∙ rw (not-other, marked-is, d)
 
@@ -111,24 +112,25 @@ module _ (s : State) (memory response p : List ℕ) (m : MessageSegment) where
         join-placed d = rw (not-other, marked-is, d, free-is, t, opened, context, found-is)
 
     -- of a new message
-    module _ (o : 8 ≤ messageContext s (m .source) (m .letter) (m .mbox)) where
+    module _ (o : messageContexts ≤ messageContext s (m .source) (m .letter) (m .mbox)) where
       shut : messageOpen s m ≡ false
-      shut = rw found-is (le-ltb (messageContext s (m .source) (m .letter) (m .mbox)) 8 o)
+      shut = rw found-is (le-ltb (messageContext s (m .source) (m .letter) (m .mbox)) messageContexts o)
 
       new : (otherMessage s m ≡ false) × (alreadyMarked s m ≡ false)
       unfolding otherMessage alreadyMarked
       new = (rw shut, rw shut)
 
-      pub begin-none : {says : Said} {after : List ℕ} → 8 ≤ freeMessage s → Replied response p 25 RETRY says after → messageJoining says s memory after ≡ matched s memory response p m
+      pub begin-none : {says : Said} {after : List ℕ} → messageContexts ≤ freeMessage s → Replied response p 25 RETRY says after → messageJoining says s memory after ≡ matched s memory response p m
       unfolding matched neededNoneFree
-      begin-none h r = replying s memory response p 25 RETRY _ _ r ∙ rw (new .0, new .1, shut, le-ltb (freeMessage s) 8 h)
+      begin-none h r = replying s memory response p 25 RETRY _ _ r ∙ rw (new .0, new .1, shut, le-ltb (freeMessage s) messageContexts h)
 
-      pub begin-placed : freeMessage s < 8 → messagePlaced s memory response p m (freeMessage s) 0 0 ≡ matched s memory response p m
+      pub begin-placed : freeMessage s < messageContexts → messagePlaced s memory response p m (freeMessage s) 0 0 ≡ matched s memory response p m
       unfolding matched neededNoneFree messageAccepted
-      begin-placed h = rw (new .0, new .1, shut, lt-ltb (freeMessage s) 8 h, t)
+      begin-placed h = rw (new .0, new .1, shut, lt-ltb (freeMessage s) messageContexts h, t)
 
   -- ---- the whole step
-  pub step-refused : {says : Said} {after : List ℕ} (number : ℕ) → number ≡ judged m → (number ≡ 0 → ⊥) → Replied response p number ERROR says after → messageJoining says s memory after ≡ messageStepped s memory response p m
+  pub step-refused : {says : Said} {after : List ℕ} (number : ℕ) → number ≡ judged m → (number ≡ 0 → ⊥) → Replied response p number ERROR says after
+      → messageJoining says s memory after ≡ messageStepped s memory response p m
   unfolding messageStepped
   step-refused number j n r = replying s memory response p number ERROR _ _ r ∙ rw (← j, ne-eqb number 0 n)
 
@@ -140,15 +142,16 @@ module _ (s : State) (memory response p : List ℕ) (m : MessageSegment) where
 pub taking : (s : State) (memory response p : List ℕ) (m : MessageSegment) (n box : ℕ) (state : State) (memory′ response′ : List ℕ)
     → box ≡ mailbox m
     → state ≡ withMessage s n closedMessage
-    → memory′ ≡ written memory (n * 4096) (take (length p - 7) (drop 7 p))
+    → memory′ ≡ written memory (n * messageRoomBytes) (take (length p - 7) (drop 7 p))
     → response′ ≡ answered response p DONE
     → messageJoining (message n (m .source) (m .letter) box (m .raw)) state memory′ response′ ≡ deliveredAtOnce s memory response p m n
 unfolding deliveredAtOnce
 taking s memory response p m n box state memory′ response′ b a e r = rw (b, a, e, r, data-whole p)
 
 -- what 19 leaves of the message found
-pub found-message : (s : State) (m : MessageSegment) (w : List ℕ) (c : MessageContext) → s ≡ stateOf w → namedBy19 s ≡ false → messageContext s (m .source) (m .letter) (m .mbox) < 8
+pub found-message : (s : State) (m : MessageSegment) (w : List ℕ) (c : MessageContext) → s ≡ stateOf w → namedBy19 s ≡ false
+    → messageContext s (m .source) (m .letter) (m .mbox) < messageContexts
     → c ≡ messageIn s (messageContext s (m .source) (m .letter) (m .mbox)) → Message c
 found-message s m w c e g o same =
-    let eight-of : length (s .messages) ≡ 8 = rw e (eight w) in
+    let eight-of : length (s .messages) ≡ messageContexts = rw e (eight w) in
     rw same (message-found s (m .source) (m .letter) (m .mbox) (good s g) (omega arith))

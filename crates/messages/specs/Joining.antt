@@ -8,7 +8,7 @@ use Rattle.wire.specs.declared.MessageSegment.{MessageSegment}
 use Rattle.wire.specs.Type11.{isSingle, mailbox}
 use Rattle.responses.specs.Type13.{DONE, answered}
 use Rattle.contexts.specs.State.{State, messageIn, withMessage, closedMessage, freeMessage}
-use Rattle.message_rooms.specs.Placing.{MessageJoined, messageJoining, messageData, messagePlaced}
+use Rattle.message_rooms.specs.Placing.{MessageJoined, messageJoining, messageData, messagePlaced, messageRoomBytes}
 use Rattle.messages.specs.Rows.{messageFound, messageOpen}
 
 -- a single-segment message is delivered at once from context n, which it leaves closed
@@ -16,7 +16,7 @@ unfoldable pub deliveredAtOnce : State → List ℕ → List ℕ → List ℕ �
 deliveredAtOnce s memory response p m n =
     messageJoining (message n (m .source) (m .letter) (mailbox m) (m .raw))
     (withMessage s n closedMessage)
-    (written memory (n * 4096) (messageData p))
+    (written memory (n * messageRoomBytes) (messageData p))
     (answered response p DONE)
 
 -- accepted: a single-segment message takes the lowest free context, and so does the first-come segment of a new message

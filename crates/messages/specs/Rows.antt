@@ -8,15 +8,15 @@ use Rattle.tables.specs.Refusals.{Row, row, allERROR, allRETRY}
 use Rattle.wire.specs.declared.MessageSegment.{MessageSegment}
 use Rattle.wire.specs.Type11.{isSingle}
 use Rattle.rules.specs.Messages.{reservedSize, badLength, pastLast}
-use Rattle.contexts.specs.State.{State, messageIn, messageContext, freeMessage}
-use Rattle.contexts.specs.Marks.{marked}
+use Rattle.contexts.specs.State.{State, messageIn, messageContext, freeMessage, messageContexts}
+use Rattle.marks.specs.Marks.{marked}
 
--- the open context of a multi-segment message, 8 where it has none; a single-segment message is never compared with open ones
+-- the open context of a multi-segment message, messageContexts where it has none; a single-segment message is never compared with open ones
 unfoldable pub messageFound : State → MessageSegment → ℕ
-messageFound s m = cond (isSingle m) 8 (messageContext s (m .source) (m .letter) (m .mbox))
+messageFound s m = cond (isSingle m) messageContexts (messageContext s (m .source) (m .letter) (m .mbox))
 
 abbrev pub messageOpen : State → MessageSegment → Bool
-messageOpen s m = ltb (messageFound s m) 8
+messageOpen s m = ltb (messageFound s m) messageContexts
 
 -- 23: open message has another msglen or ssize
 unfoldable pub otherMessage : State → MessageSegment → Bool
@@ -28,7 +28,7 @@ alreadyMarked s m = messageOpen s m && marked (messageIn s (messageFound s m) .m
 
 -- 25: context needed, none free
 unfoldable pub neededNoneFree : State → MessageSegment → Bool
-neededNoneFree s m = not (messageOpen s m) && not (ltb (freeMessage s) 8)
+neededNoneFree s m = not (messageOpen s m) && not (ltb (freeMessage s) messageContexts)
 
 -- in the paper's order and words
 unfoldable pub messageRows : State → MessageSegment → List Row

@@ -6,7 +6,7 @@ ghost use mathlib.Core.Bool.{true, false};
 ghost use Prim.Native.Nat.{_<_, _≤_};
 ghost use Rattle.answers.specs.Answers.{said};
 ghost use Rattle.wire.specs.Type11.{isSingle};
-ghost use Rattle.contexts.specs.State.{messageContext};
+ghost use Rattle.contexts.specs.State.{messageContext, messageContexts};
 ghost use Rattle.contexts.specs.Words.{stateOf};
 ghost use Rattle.rules.specs.Inside.{Sound};
 ghost use Rattle.message_rooms.specs.Placing.{messageJoining};
@@ -26,11 +26,11 @@ fn take_alone(
     ensures { λ r. ⌜ messageJoining (said r) (stateOf (now (state .exit))) (now (memory .exit)) (now (response .exit)) ≡ matched (stateOf (now (state .entry))) (now (memory .entry)) (now (response .entry)) (now (packet .entry)) m ⌝ }
 {
     let n = contexts::free_message(state);
-    if 8 <= n {
+    if contexts::MESSAGE_CONTEXTS <= n {
         return message_rooms::refuse(response, packet, 25, responses::RETRY);
     }
     lists::store(memory, n * message_rooms::ROOM, &packet[wire::HEADER + 2..]);
-    contexts::put_message(state, n, message_rooms::closed());
+    contexts::close_message(state, n);
     message_rooms::done(response, packet);
     Answer::Message {
         context: n,
@@ -51,7 +51,7 @@ fn join(
     found: usize,
 ) -> Answer
     requires { ⌜ MessageReady (now state) (now memory) (now response) (now packet) m ⌝ }
-    requires { ⌜ (Sound m) × (isSingle m ≡ false) × (found < 8) × (found ≡ messageContext (stateOf (now state)) (m .source) (m .letter) (m .mbox)) ⌝ }
+    requires { ⌜ (Sound m) × (isSingle m ≡ false) × (found < messageContexts) × (found ≡ messageContext (stateOf (now state)) (m .source) (m .letter) (m .mbox)) ⌝ }
     ensures { λ r. ⌜ messageJoining (said r) (stateOf (now (state .exit))) (now (memory .exit)) (now (response .exit)) ≡ matched (stateOf (now (state .entry))) (now (memory .entry)) (now (response .entry)) (now (packet .entry)) m ⌝ }
 {
     let c = contexts::message_at(state, found);
@@ -61,7 +61,7 @@ fn join(
     if c.ssize != m.ssize {
         return message_rooms::refuse(response, packet, 23, responses::ERROR);
     }
-    if contexts::marked(c.marks as u16, m.msgseg) {
+    if marks::marked(c.marks as u16, m.msgseg) {
         return message_rooms::refuse(response, packet, 24, responses::ERROR);
     }
     message_rooms::place(state, memory, response, packet, m, found, c.marks, c.last)
@@ -76,11 +76,11 @@ fn begin(
     m: MessageSegment,
 ) -> Answer
     requires { ⌜ MessageReady (now state) (now memory) (now response) (now packet) m ⌝ }
-    requires { ⌜ (Sound m) × (isSingle m ≡ false) × (8 ≤ messageContext (stateOf (now state)) (m .source) (m .letter) (m .mbox)) ⌝ }
+    requires { ⌜ (Sound m) × (isSingle m ≡ false) × (messageContexts ≤ messageContext (stateOf (now state)) (m .source) (m .letter) (m .mbox)) ⌝ }
     ensures { λ r. ⌜ messageJoining (said r) (stateOf (now (state .exit))) (now (memory .exit)) (now (response .exit)) ≡ matched (stateOf (now (state .entry))) (now (memory .entry)) (now (response .entry)) (now (packet .entry)) m ⌝ }
 {
     let n = contexts::free_message(state);
-    if 8 <= n {
+    if contexts::MESSAGE_CONTEXTS <= n {
         return message_rooms::refuse(response, packet, 25, responses::RETRY);
     }
     message_rooms::place(state, memory, response, packet, m, n, 0, 0)
@@ -105,7 +105,7 @@ pub fn step(
         return take_alone(state, memory, response, packet, m);
     }
     let found = contexts::find_message(state, m.source, m.letter, m.mbox);
-    if found < 8 {
+    if found < contexts::MESSAGE_CONTEXTS {
         return join(state, memory, response, packet, m, found);
     }
     begin(state, memory, response, packet, m)

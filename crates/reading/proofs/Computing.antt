@@ -11,7 +11,7 @@ use Rattle.sizes.specs.Sizes.{badMTU, pduLength, dataLength, bytesOf, inEights}
 use Rattle.responses.specs.Type13.{responseTo, answered}
 use Rattle.rules.specs.Segments.{malformed}
 use Rattle.rules.specs.Messages.{reservedSize, badLength, pastLast}
-use Rattle.contexts.specs.Marks.{marked, allMarked}
+use Rattle.marks.specs.Marks.{marked, allMarked}
 use Rattle.contexts.specs.State.{isFreeStream, isFreeMessage, isOfFlow, isOfMessage, flowContext, freeStream, messageContext, freeMessage}
 use Rattle.contexts.specs.Words.{stateOf, wordsOf}
 use Rattle.refusal19.specs.Refusal19.{badRoom, badStream, badLast, badMarks, badMessage, namedBy19}

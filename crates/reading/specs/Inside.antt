@@ -5,8 +5,10 @@ use mathlib.Core.Bool.{false}
 use lib.ListN.{length}
 use Rattle.answers.specs.Answers.{said, refused}
 use Rattle.answers.specs.declared.Reading.{Reading}
+use Rattle.contexts.specs.State.{streamContexts}
 use Rattle.contexts.specs.Words.{stateWords}
 use Rattle.refusal19.specs.Refusal19.{namedBy19}
+use Rattle.message_rooms.specs.Placing.{messageMemoryBytes}
 use Rattle.reading.specs.Desk.{Desk, stateOn}
 
 -- an answer that refuses, drops nothing and writes no response
@@ -19,8 +21,8 @@ pub record Refusal (number : ℕ) (r : Reading) : Type 0 where
 pub record Fit (d : Desk) : Type 0 where
   pub whole : length (d .words) ≡ stateWords
   pub good : namedBy19 (stateOn d) ≡ false
-  pub rooms : length (d .streamMemory) ≡ 16 * stateOn d .setup .room
-  pub boxes : length (d .messageMemory) ≡ 32768
+  pub rooms : length (d .streamMemory) ≡ streamContexts * stateOn d .setup .room
+  pub boxes : length (d .messageMemory) ≡ messageMemoryBytes
 
 -- and a response buffer that 12 allows: what reading one packet may rely on
 pub record ReadyToRead (d : Desk) : Type 0 where

@@ -12,9 +12,10 @@ use Rattle.wire.specs.Type9.{segmentOf}
 use Rattle.wire.specs.Type11.{messageOf}
 use Rattle.wire.specs.Head.{is9, is11, headRows}
 use Rattle.responses.specs.Type13.{responseSize}
-use Rattle.contexts.specs.State.{State}
+use Rattle.contexts.specs.State.{State, streamContexts}
 use Rattle.contexts.specs.Words.{stateWords}
 use Rattle.refusal19.specs.Refusal19.{namedBy19}
+use Rattle.message_rooms.specs.Placing.{messageMemoryBytes}
 use Rattle.streams.specs.Rows.{streamRows}
 use Rattle.messages.specs.Rows.{messageRows}
 use Rattle.reading.specs.Desk.{Desk, stateOn}
@@ -43,8 +44,8 @@ isState d = eqb (length (d .words)) stateWords
 -- 12: a stream memory that is not 16 R bytes long, a message memory that is not 32,768, or a response buffer under 7
 unfoldable pub wrongSizes : Desk → Bool
 wrongSizes d =
-    not (eqb (length (d .streamMemory)) (16 * stateOn d .setup .room))
-    || not (eqb (length (d .messageMemory)) 32768)
+    not (eqb (length (d .streamMemory)) (streamContexts * stateOn d .setup .room))
+    || not (eqb (length (d .messageMemory)) messageMemoryBytes)
     || ltb (length (d .response)) responseSize
 
 -- the rows of what is lent

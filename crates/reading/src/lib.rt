@@ -12,9 +12,6 @@ ghost use Rattle.reading.specs.Table.{lent, wrongSizes};
 ghost use Rattle.reading.specs.Read.{ReadPromise};
 ghost use Rattle.reading.specs.Inside.{ReadyToRead, Refusal};
 
-// The bytes of the message memory: 8 rooms of 4,096.
-pub const MESSAGE_MEMORY: usize = 32768;
-
 // A refusal that changes nothing.
 pub fn refused(number: usize) -> Reading
     ensures { λ r. ⌜ Refusal number r ⌝ }
@@ -36,10 +33,10 @@ pub fn wrong_memory(
     requires { ⌜ (length (now state) ≡ stateWords) × (namedBy19 (stateOf (now state)) ≡ false) ⌝ }
     ensures { λ r. ⌜ r ≡ wrongSizes (desk (now (state .entry)) (now («stream_memory» .entry)) (now («message_memory» .entry)) (now (response .entry))) ⌝ }
 {
-    if stream_memory.len() != 16 * contexts::room(state) {
+    if stream_memory.len() != contexts::STREAM_CONTEXTS * contexts::room(state) {
         return true;
     }
-    if message_memory.len() != MESSAGE_MEMORY {
+    if message_memory.len() != message_rooms::MEMORY {
         return true;
     }
     response.len() < 7

@@ -13,7 +13,7 @@ use Rattle.sizes.specs.Sizes.{badMTU, bytesOf}
 use Rattle.contexts.specs.declared.StreamContext.{StreamContext}
 use Rattle.contexts.specs.declared.MessageContext.{MessageContext}
 use Rattle.contexts.specs.State.{State, streamIn, messageIn, closedStream, closedMessage, isFreeStream, isFreeMessage, isOfFlow, isOfMessage, flowContext, messageContext}
-use Rattle.contexts.specs.Marks.{allMarked}
+use Rattle.marks.specs.Marks.{allMarked}
 use Rattle.refusal19.specs.Refusal19.{badRoom, badStream, badLast, badMarks, badMessage, namedBy19}
 
 -- ---- tests that failed

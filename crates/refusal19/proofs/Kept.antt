@@ -14,7 +14,7 @@ use Rattle.sizes.specs.Sizes.{badMTU, bytesOf}
 use Rattle.contexts.specs.declared.StreamContext.{StreamContext}
 use Rattle.contexts.specs.declared.MessageContext.{MessageContext}
 use Rattle.contexts.specs.State.{Setup, State, fresh, withStream, withMessage, closedStream, closedMessage, isFreeStream, isFreeMessage}
-use Rattle.contexts.specs.Marks.{allMarked}
+use Rattle.marks.specs.Marks.{allMarked}
 use Rattle.refusal19.specs.Refusal19.{badRoom, badStream, badLast, badMarks, badMessage, namedBy19}
 use Rattle.refusal19.proofs.Good.{neither}
 

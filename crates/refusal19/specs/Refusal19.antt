@@ -5,7 +5,7 @@ use lib.Dec.{eqb, ltb, leb}
 use Rattle.lists.specs.First.{any}
 use Rattle.sizes.specs.Sizes.{badMTU, bytesOf, inEights}
 use Rattle.contexts.specs.State.{State, isFreeStream, isFreeMessage}
-use Rattle.contexts.specs.Marks.{marked, allMarked}
+use Rattle.marks.specs.Marks.{marked, allMarked}
 use Rattle.contexts.specs.declared.StreamContext.{StreamContext}
 use Rattle.contexts.specs.declared.MessageContext.{MessageContext}
 

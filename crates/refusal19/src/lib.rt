@@ -35,7 +35,7 @@ fn bad_last(c: MessageContext) -> bool
     ensures { λ r. ⌜ r ≡ badLast c ⌝ }
 {
     let size = sizes::bytes_of(c.ssize);
-    if contexts::marked(c.marks as u16, c.msglen) {
+    if marks::marked(c.marks as u16, c.msglen) {
         if sizes::in_eights(c.last, size) {
             return false;
         }
@@ -49,13 +49,13 @@ fn bad_marks(c: MessageContext) -> bool
     ensures { λ r. ⌜ r ≡ badMarks c ⌝ }
 {
     let count = c.msglen + 1;
-    if contexts::power(count) <= c.marks {
+    if marks::power(count) <= c.marks {
         return true;
     }
     if c.marks == 0 {
         return true;
     }
-    if contexts::all_marked(c.marks as u16, count) {
+    if marks::all_marked(c.marks as u16, count) {
         return true;
     }
     bad_last(c)
@@ -85,7 +85,7 @@ fn any_bad_stream(state: &[usize], room: usize) -> bool
     ensures { λ r. ⌜ r ≡ any (badStream room) (stateOf (now (state .entry)) .streams) ⌝ }
 {
     let mut i = 0;
-    while i < 16 {
+    while i < contexts::STREAM_CONTEXTS {
         if bad_stream(contexts::stream_at(state, i), room) {
             return true;
         }
@@ -100,7 +100,7 @@ fn any_bad_message(state: &[usize]) -> bool
     ensures { λ r. ⌜ r ≡ any badMessage (stateOf (now (state .entry)) .messages) ⌝ }
 {
     let mut i = 0;
-    while i < 8 {
+    while i < contexts::MESSAGE_CONTEXTS {
         if bad_message(contexts::message_at(state, i)) {
             return true;
         }

@@ -11,16 +11,16 @@ use Rattle.lists.specs.Bytes.{written}
 use Rattle.answers.specs.Answers.{Said}
 use Rattle.wire.specs.declared.Segment.{Segment}
 use Rattle.contexts.specs.declared.StreamContext.{StreamContext}
-use Rattle.contexts.specs.State.{State, withStream, closedStream}
+use Rattle.contexts.specs.State.{State, withStream, closedStream, streamContexts}
 use Rattle.stream_rooms.specs.Placing.{joining, placed}
 use Rattle.stream_rooms.specs.Inside.{Kept, Fits}
 
 -- room n ends inside the memory
-pub room-ends : (n base count room : ℕ) → n < 16 → base + count ≤ room → n * room + base + count ≤ 16 * room
+pub room-ends : (n base count room : ℕ) → n < streamContexts → base + count ≤ room → n * room + base + count ≤ streamContexts * room
 room-ends n base count room a b = omega (arith, suc-mul n room, mul-le-mul-right room a)
 
 -- past the last context nothing is put
-pub put-nowhere : (s : State) (n : ℕ) → length (s .streams) ≡ 16 → 16 ≤ n → s ≡ withStream s n closedStream
+pub put-nowhere : (s : State) (n : ℕ) → length (s .streams) ≡ streamContexts → streamContexts ≤ n → s ≡ withStream s n closedStream
 put-nowhere s n z h =
     ap (λ (l : List StreamContext). record { setup = s .setup; streams = l; messages = s .messages })
     (sym (set-out (s .streams) n closedStream (omega arith)))

@@ -8,7 +8,7 @@ use lib.Dec.{ltb}
 use Rattle.answers.specs.Answers.{Said, refused}
 use Rattle.wire.specs.declared.Segment.{Segment}
 use Rattle.sizes.specs.Sizes.{dataLength}
-use Rattle.contexts.specs.State.{State, withStream, closedStream}
+use Rattle.contexts.specs.State.{State, withStream, closedStream, streamContexts}
 use Rattle.contexts.specs.Words.{stateOf, stateWords}
 use Rattle.refusal19.specs.Refusal19.{namedBy19}
 use Rattle.stream_rooms.specs.Placing.{answerAt, contextAt}
@@ -17,13 +17,13 @@ use Rattle.stream_rooms.specs.Placing.{answerAt, contextAt}
 pub record Ready (words memory packet : List ℕ) (g : Segment) : Type 0 where
   pub whole : length words ≡ stateWords
   pub good : namedBy19 (stateOf words) ≡ false
-  pub size : length memory ≡ 16 * stateOf words .setup .room
+  pub size : length memory ≡ streamContexts * stateOf words .setup .room
   pub inside : g .from + g .raw ≡ length packet
 
 -- a refusal that closed context `found`, where that is one
 pub record Closing (s : State) (found number : ℕ) (says : Said) (dropped : Bool) (after : State) : Type 0 where
   pub answer : says ≡ refused number
-  pub drop : dropped ≡ ltb found 16
+  pub drop : dropped ≡ ltb found streamContexts
   pub state : after ≡ withStream s found closedStream
 
 -- context n delivered or kept with `count` bytes
@@ -34,7 +34,7 @@ pub record Kept (s : State) (n : ℕ) (g : Segment) (stream count : ℕ) (gave :
 
 -- the segment's data fit behind `base` bytes of room n
 pub record Fits (s : State) (g : Segment) (n base count : ℕ) : Type 0 where
-  pub context : n < 16
+  pub context : n < streamContexts
   pub size : count ≡ dataLength g
   pub within : count ≤ g .raw
   pub behind : base + count ≤ s .setup .room

@@ -8,7 +8,7 @@ use Rattle.answers.specs.Answers.{Said, held, delivered}
 use Rattle.wire.specs.declared.Segment.{Segment}
 use Rattle.sizes.specs.Sizes.{dataLength}
 use Rattle.contexts.specs.declared.StreamContext.{StreamContext}
-use Rattle.contexts.specs.State.{State, withStream, closedStream}
+use Rattle.contexts.specs.State.{State, withStream, closedStream, openStream}
 
 -- the answer, whether an open context was closed undelivered, the state and the stream memory
 pub record Joined : Type 0 where
@@ -29,7 +29,7 @@ abbrev pub answerAt : Segment → ℕ → ℕ → ℕ → Said
 answerAt g n stream total = cond (g .ends) (delivered n (g .flow) stream total) held
 
 abbrev pub contextAt : Segment → ℕ → ℕ → StreamContext
-contextAt g stream total = cond (g .ends) closedStream (record { live = 1; flow = g .flow; stream = stream; held = total })
+contextAt g stream total = cond (g .ends) closedStream (openStream (g .flow) stream total)
 
 -- a segment's data are stored in room n behind `base` bytes
 unfoldable pub placed : State → List ℕ → List ℕ → Segment → ℕ → ℕ → ℕ → Bool → Joined

@@ -1,38 +1,23 @@
 // What a type 9 segment does to one context and its room: its data stored, the context kept, delivered or closed.
 use answers::Answer;
 use answers::StreamAnswer;
-use contexts::StreamContext;
-use wire::Flow;
 use wire::Segment;
 ghost use mathlib.Core.Path.{_≡_};
 ghost use Prim.Native.Nat.{_<_, _≤_};
 ghost use lib.ListN.{length};
 ghost use Rattle.answers.specs.Answers.{said};
 ghost use Rattle.contexts.specs.Words.{stateOf, stateWords};
-ghost use Rattle.contexts.specs.State.{closedStream};
+ghost use Rattle.contexts.specs.State.{streamContexts};
 ghost use Rattle.stream_rooms.specs.Placing.{joining, placed};
 ghost use Rattle.stream_rooms.specs.Inside.{Ready, Closing, Kept, Fits};
 
-// A closed context: all its fields 0.
-pub fn closed() -> StreamContext
-    ensures { λ r. ⌜ r ≡ closedStream ⌝ }
-{
-    let flow = Flow { source: 0, cos: 0 };
-    StreamContext {
-        live: 0,
-        flow,
-        stream: 0,
-        held: 0,
-    }
-}
-
 // A refusal that closes the flow's context, where it has one. Every caller has tested the state, and `found` is what was found.
 pub fn refused_closing(state: &mut [usize], found: usize, number: usize) -> StreamAnswer
-    requires { ⌜ (length (now state) ≡ stateWords) × (found ≤ 16) ⌝ }
+    requires { ⌜ (length (now state) ≡ stateWords) × (found ≤ streamContexts) ⌝ }
     ensures { λ r. ⌜ Closing (stateOf (now (state .entry))) found number (said (r .answer)) (r .dropped) (stateOf (now (state .exit))) ⌝ }
 {
-    if found < 16 {
-        contexts::put_stream(state, found, closed());
+    if found < contexts::STREAM_CONTEXTS {
+        contexts::close_stream(state, found);
         return StreamAnswer {
             answer: Answer::Refused(number),
             dropped: true,
@@ -53,12 +38,12 @@ fn keep(
     total: usize,
     dropped: bool,
 ) -> StreamAnswer
-    requires { ⌜ (n < 16) × (length (now state) ≡ stateWords) ⌝ }
+    requires { ⌜ (n < streamContexts) × (length (now state) ≡ stateWords) ⌝ }
     ensures { λ r. ⌜ Kept (stateOf (now (state .entry))) n g stream total dropped (said (r .answer)) (r .dropped) (stateOf (now (state .exit))) ⌝ }
 {
     let flow = g.flow;
     if g.ends {
-        contexts::put_stream(state, n, closed());
+        contexts::close_stream(state, n);
         return StreamAnswer {
             answer: Answer::Delivered {
                 context: n,
@@ -69,16 +54,7 @@ fn keep(
             dropped,
         };
     }
-    contexts::put_stream(
-        state,
-        n,
-        StreamContext {
-            live: 1,
-            flow,
-            stream,
-            held: total,
-        },
-    );
+    contexts::keep_stream(state, n, flow, stream, total);
     StreamAnswer {
         answer: Answer::Held,
         dropped,

@@ -9,7 +9,7 @@ use borrow.Author.Tests.{eqb-false, ltb-false}
 use Rattle.wire.specs.declared.Segment.{Segment}
 use Rattle.sizes.specs.Sizes.{dataLength}
 use Rattle.contexts.specs.declared.StreamContext.{StreamContext}
-use Rattle.contexts.specs.State.{State, closedStream}
+use Rattle.contexts.specs.State.{State, closedStream, openStream}
 use Rattle.refusal19.specs.Refusal19.{badStream, namedBy19}
 use Rattle.refusal19.proofs.Good.{neither}
 use Rattle.refusal19.proofs.Kept.{closed-stream, held-stream, stream-kept}
@@ -34,9 +34,8 @@ module _ (s : State) (memory p : List ℕ) (g : Segment) (fine : namedBy19 s ≡
   pub accepted-kept : malformed g ≡ false → passesRoom s g ≡ false → namedBy19 (accepted s memory p g .state) ≡ false
   unfolding accepted placed passesRoom
   accepted-kept a b =
-      stream-kept s (contextFor s g) _ fine
-      (go (g .ends) (record { live = 1; flow = g .flow; stream = streamID s g; held = total s g })
-      (held-stream (s .setup .room) (record { live = 1; flow = g .flow; stream = streamID s g; held = total s g }) (omega (arith, data-there g a)) (ltb-false (s .setup .room) (total s g) b)))
+      let kept : StreamContext = openStream (g .flow) (streamID s g) (total s g) in
+      stream-kept s (contextFor s g) _ fine (go (g .ends) kept (held-stream (s .setup .room) kept (omega (arith, data-there g a)) (ltb-false (s .setup .room) (total s g) b)))
     where
       go : (b : Bool) (c : StreamContext) → badStream (s .setup .room) c ≡ false → badStream (s .setup .room) (cond b closedStream c) ≡ false
       go true c h = closed-stream (s .setup .room)

@@ -12,9 +12,9 @@ use Rattle.answers.specs.Answers.{Said, refused}
 use Rattle.wire.specs.declared.Segment.{Segment}
 use Rattle.sizes.specs.Sizes.{dataLength}
 use Rattle.contexts.specs.declared.StreamContext.{StreamContext}
-use Rattle.contexts.specs.State.{State, streamIn, flowContext, freeStream}
+use Rattle.contexts.specs.State.{State, streamContexts, streamIn, flowContext, freeStream}
 use Rattle.refusal19.specs.Refusal19.{namedBy19}
-use Rattle.refusal19.proofs.Good.{neither, good}
+use Rattle.refusal19.proofs.Good.{neither, good, found-holds}
 use Rattle.stream_rooms.specs.Placing.{Joined, joining, placed}
 use Rattle.stream_rooms.specs.Inside.{Closing, Fits}
 use Rattle.streams.specs.Rows.{foundFor, total, missized, notOpen, passesRoom, noneFree, lengthDiffers}
@@ -23,8 +23,8 @@ use Rattle.streams.specs.Step.{begun, continued, stepped, refusedStaying
 use Rattle.streams.specs.Inside.{Passed}
 use Rattle.rules.specs.Segments.{malformed, wrongO, wrongLength, wrongSize}
 
--- the context found is one of the sixteen, or 16
-pub found-le : (s : State) (g : Segment) → length (s .streams) ≡ 16 → foundFor s g ≤ 16
+-- the context found is one, or streamContexts
+pub found-le : (s : State) (g : Segment) → length (s .streams) ≡ streamContexts → foundFor s g ≤ streamContexts
 unfolding flowContext
 found-le s g z = rw (← z) (first-le _ (s .streams))
 
@@ -51,8 +51,16 @@ size-le true n mtu e = ltb-false mtu n e
 size-le false n mtu e = omega (arith, eqb-true n mtu (not-false (eqb n mtu) e))
 
 -- a start or single fits any room
-pub start-fits : (s : State) (g : Segment) {found count n : ℕ} → namedBy19 s ≡ false → Passed s g found count → n < 16 → Fits s g n 0 count
+pub start-fits : (s : State) (g : Segment) {found count n : ℕ} → namedBy19 s ≡ false → Passed s g found count → n < streamContexts → Fits s g n 0 count
 start-fits s g e q h = record { context = h; size = q .size; within = q .within; behind = omega (arith, q .small, good s e .holds) }
+
+-- what the flow's context holds is at most R, and the data at most the MTU
+pub total-le : (s : State) (g : Segment) {found count : ℕ} {c : StreamContext} → namedBy19 s ≡ false → Passed s g found count → length (s .streams) ≡ streamContexts
+    → found < streamContexts → c ≡ streamIn s found → c .held + count ≤ 65792
+total-le s g e q z o own =
+    let k = good s e in
+    let inside : foundFor s g < length (s .streams) = rw (← q .flow, z) o in
+    omega (arith, ap (λ (c : StreamContext). c .held) own, ap (λ (n : ℕ). streamIn s n .held) (q .flow), found-holds s (g .flow) k inside .1, k .room, q .small, k .most)
 
 -- a closing refusal
 closing : (s : State) (memory : List ℕ) (g : Segment) {found number : ℕ} {says : Said} {dropped : Bool} {state : State}
@@ -62,9 +70,9 @@ closing s memory g f c = rw (c .answer, c .drop, c .state, f)
 
 -- ---- the tests of a continuation or end by what the code has: the flow's context and R
 module _ (s : State) (g : Segment) (t : g .begins ≡ false) {found count : ℕ} (q : Passed s g found count) where
-  open-flow : found < 16 → notOpen s g ≡ false
+  open-flow : found < streamContexts → notOpen s g ≡ false
   unfolding notOpen
-  open-flow o = rw (t, ← q .flow, lt-ltb found 16 o)
+  open-flow o = rw (t, ← q .flow, lt-ltb found streamContexts o)
 
   module _ {c : StreamContext} (e : c ≡ streamIn s found) where
     total-is : total s g ≡ c .held + count
@@ -90,39 +98,40 @@ module _ (s : State) (g : Segment) {count mtu : ℕ} (z : count ≡ dataLength g
 module _ (s : State) (memory p : List ℕ) (g : Segment) where
   -- ---- a start or single
   module _ (t : g .begins ≡ true) {found count : ℕ} (q : Passed s g found count) where
-    pub begin-own : {j : Joined} → found < 16 → j ≡ placed s memory p g found 0 (g .field) true → j ≡ begun s memory p g
+    pub begin-own : {j : Joined} → found < streamContexts → j ≡ placed s memory p g found 0 (g .field) true → j ≡ begun s memory p g
     unfolding begun noneFree accepted
-    begin-own o e = e ∙ rw (t, ← q .flow, lt-ltb found 16 o)
+    begin-own o e = e ∙ rw (t, ← q .flow, lt-ltb found streamContexts o)
 
-    module _ (o : 16 ≤ found) {free : ℕ} (f : free ≡ freeStream s) where
-      pub begin-free : {j : Joined} → free < 16 → j ≡ placed s memory p g free 0 (g .field) false → j ≡ begun s memory p g
+    module _ (o : streamContexts ≤ found) {free : ℕ} (f : free ≡ freeStream s) where
+      pub begin-free : {j : Joined} → free < streamContexts → j ≡ placed s memory p g free 0 (g .field) false → j ≡ begun s memory p g
       unfolding begun noneFree accepted
-      begin-free h e = e ∙ rw (t, ← q .flow, le-ltb found 16 o, ← f, lt-ltb free 16 h)
+      begin-free h e = e ∙ rw (t, ← q .flow, le-ltb found streamContexts o, ← f, lt-ltb free streamContexts h)
 
-      pub begin-none : 16 ≤ free → joining (refused 10) false s memory ≡ begun s memory p g
+      pub begin-none : streamContexts ≤ free → joining (refused 10) false s memory ≡ begun s memory p g
       unfolding begun noneFree refusedStaying
-      begin-none h = rw (t, ← q .flow, le-ltb found 16 o, ← f, le-ltb free 16 h)
+      begin-none h = rw (t, ← q .flow, le-ltb found streamContexts o, ← f, le-ltb free streamContexts h)
 
   -- ---- a continuation or end
   module _ (t : g .begins ≡ false) {found count : ℕ} (q : Passed s g found count) where
-    pub go-closed : 16 ≤ found → joining (refused 8) false s memory ≡ continued s memory p g
+    pub go-closed : streamContexts ≤ found → joining (refused 8) false s memory ≡ continued s memory p g
     unfolding continued notOpen refusedStaying
-    go-closed o = rw (t, ← q .flow, le-ltb found 16 o)
+    go-closed o = rw (t, ← q .flow, le-ltb found streamContexts o)
 
-    module _ (o : found < 16) {c : StreamContext} {room : ℕ} (e : c ≡ streamIn s found) (r : room ≡ s .setup .room) where
+    module _ (o : found < streamContexts) {c : StreamContext} {room : ℕ} (e : c ≡ streamIn s found) (r : room ≡ s .setup .room) where
       pub go-passes : {says : Said} {dropped : Bool} {state : State} → room < c .held + count → Closing s found 9 says dropped state → joining says dropped state memory ≡ continued s memory p g
       unfolding continued
       go-passes h k = closing s memory g (q .flow) k ∙ rw (open-flow s g t q o, passes s g t q e r, lt-ltb room (c .held + count) h)
 
       module _ (h : c .held + count ≤ room) where
-        pub go-differs : {says : Said} {dropped : Bool} {state : State} → wrongLength g (c .held + count) ≡ true → Closing s found 11 says dropped state → joining says dropped state memory ≡ continued s memory p g
+        pub go-differs : {says : Said} {dropped : Bool} {state : State} → wrongLength g (c .held + count) ≡ true → Closing s found 11 says dropped state
+            → joining says dropped state memory ≡ continued s memory p g
         unfolding continued
         go-differs d k = closing s memory g (q .flow) k ∙ rw (open-flow s g t q o, passes s g t q e r, le-ltb room (c .held + count) h, differs s g t q e, d)
 
         pub go-placed : {j : Joined} → wrongLength g (c .held + count) ≡ false → j ≡ placed s memory p g found (c .held) (c .stream) false → j ≡ continued s memory p g
         unfolding continued accepted
         go-placed d k =
-            k ∙ rw (open-flow s g t q o, passes s g t q e r, le-ltb room (c .held + count) h, differs s g t q e, d) (rw (t, ← q .flow, lt-ltb found 16 o, ← e))
+            k ∙ rw (open-flow s g t q o, passes s g t q e r, le-ltb room (c .held + count) h, differs s g t q e, d) (rw (t, ← q .flow, lt-ltb found streamContexts o, ← e))
 
   -- ---- rows 6 and 7
   module _ {found : ℕ} (f : found ≡ foundFor s g) where

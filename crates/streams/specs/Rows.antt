@@ -7,14 +7,14 @@ use Rattle.tables.specs.Refusals.{Row, row, all, flowClosed}
 use Rattle.wire.specs.declared.Segment.{Segment}
 use Rattle.sizes.specs.Sizes.{dataLength}
 use Rattle.rules.specs.Segments.{malformed, wrongSize, wrongLength}
-use Rattle.contexts.specs.State.{State, streamIn, flowContext, freeStream}
+use Rattle.contexts.specs.State.{State, streamIn, flowContext, freeStream, streamContexts}
 
--- the flow's open context, 16 where it has none, and whether it has one
+-- the flow's open context, streamContexts where it has none, and whether it has one
 abbrev pub foundFor : State → Segment → ℕ
 foundFor s g = flowContext s (g .flow)
 
 abbrev pub flowOpen : State → Segment → Bool
-flowOpen s g = ltb (foundFor s g) 16
+flowOpen s g = ltb (foundFor s g) streamContexts
 
 -- what the flow's context already holds; a start or single begins anew
 abbrev pub heldBefore : State → Segment → ℕ
@@ -37,7 +37,7 @@ passesRoom s g = ltb (s .setup .room) (total s g)
 
 -- 10: start or single, flow not open, no context free
 unfoldable pub noneFree : State → Segment → Bool
-noneFree s g = g .begins && (not (flowOpen s g) && not (ltb (freeStream s) 16))
+noneFree s g = g .begins && (not (flowOpen s g) && not (ltb (freeStream s) streamContexts))
 
 -- 11: end, total differs from PDU length
 unfoldable pub lengthDiffers : State → Segment → Bool

@@ -24,11 +24,11 @@ fn begin(
     ensures { λ r. ⌜ joining (said (r .answer)) (r .dropped) (stateOf (now (state .exit))) (now (memory .exit)) ≡ begun (stateOf (now (state .entry))) (now (memory .entry)) (now (packet .entry)) g ⌝ }
 {
     let stream = g.field;
-    if found < 16 {
+    if found < contexts::STREAM_CONTEXTS {
         return stream_rooms::place(state, memory, packet, g, found, 0, stream, count, true);
     }
     let free = contexts::free_stream(state);
-    if free < 16 {
+    if free < contexts::STREAM_CONTEXTS {
         return stream_rooms::place(state, memory, packet, g, free, 0, stream, count, false);
     }
     StreamAnswer {
@@ -50,7 +50,7 @@ fn go_on(
     requires { ⌜ ContinuesPDU (stateOf (now state)) g found count ⌝ }
     ensures { λ r. ⌜ joining (said (r .answer)) (r .dropped) (stateOf (now (state .exit))) (now (memory .exit)) ≡ continued (stateOf (now (state .entry))) (now (memory .entry)) (now (packet .entry)) g ⌝ }
 {
-    if 16 <= found {
+    if contexts::STREAM_CONTEXTS <= found {
         return StreamAnswer {
             answer: Answer::Refused(8),
             dropped: false,

@@ -1,37 +1,18 @@
--- `contexts::begin` meets its contract: a state of zeros with the first three words set.
-use lib.ListN.{replicate}
-use mathlib.Core.Path.{ap, _∙_}
+-- `contexts::begin` meets its contract: a state of zeros with the head written.
 use Prim.Native.Nat.{ℕ}
+use mathlib.Core.Path.{ap, _∙_}
+use lib.ListN.{replicate}
+use Rattle.contexts.specs.State.{fixed}
 use Rattle.contexts.proofs.Words.{begun}
 use borrow.Author.Needs.{needs}
 use Rattle.contexts.proofs.begin.Statement.{statement}
 use Rattle.contexts.proofs.begin.Tie as tie
 
-clear-requires : tie.Need-clear-requires
-clear-requires c κs = search needs
-
-slice-write-state : tie.Need-slice-write-state
-slice-write-state c = search needs
-
-slice-write-state-2 : tie.Need-slice-write-state-2
-slice-write-state-2 c = search needs
-
-slice-write-state-3 : tie.Need-slice-write-state-3
-slice-write-state-3 c = search needs
-
-same-length : tie.Need-same-length
-same-length c = search needs
-
 returns : tie.Need-returns
-returns c = begun (c .before .before .clear .last .0) _ _ _ (c .before .before .clear .ensures ∙ ap (λ (n : ℕ). replicate n 0) (c .before .before .before .before .before .pre))
+returns c =
+    let cleared = c .before .before .clear in
+    let s = c .before .before .before .before .before in
+    begun (cleared .last .0) (fixed (s .args .device) (s .args .mtu) (s .args .room)) (cleared .ensures ∙ ap (λ (n : ℕ). replicate n 0) (s .pre))
 
 pub begin-spec : {M : Type 1} → statement M
-begin-spec =
-    tie.close
-    (tie.spec
-    clear-requires
-    slice-write-state
-    slice-write-state-2
-    slice-write-state-3
-    same-length
-    returns)
+begin-spec = tie.close (tie.spec (λ c κs. search needs) (λ c. search needs) (λ c. search needs) (λ c. search needs) (λ c. search needs) returns)

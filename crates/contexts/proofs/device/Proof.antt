@@ -1,16 +1,13 @@
--- `contexts::device` meets its contract: word 0 is the device ID.
-use Rattle.contexts.specs.Words.{stateOf}
-use mathlib.Core.Path.{refl}
+-- `contexts::device` meets its contract: a word of the head is our device ID.
+use mathlib.Core.Path.{ap}
+use Rattle.contexts.specs.State.{Setup}
+use Rattle.contexts.proofs.Words.{setup-read}
 use borrow.Author.Needs.{needs}
 use Rattle.contexts.proofs.device.Statement.{statement}
 use Rattle.contexts.proofs.device.Tie as tie
 
-shared-slice-read-result : tie.Need-shared-slice-read-result
-shared-slice-read-result c = search needs
-
 returns : tie.Need-returns
-unfolding stateOf
-returns c = refl
+returns c = ap (λ (s : Setup). s .device) (setup-read _ (c .before .pre))
 
 pub device-spec : {M : Type 1} → statement M
-device-spec = tie.close (tie.spec shared-slice-read-result returns)
+device-spec = tie.close (tie.spec (λ c. search needs) returns)

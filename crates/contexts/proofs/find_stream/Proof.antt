@@ -3,17 +3,17 @@ use Prim.Native.Nat.{_≤_, _-_}
 use mathlib.Core.Path.{sym, _∙_}
 use borrow.Author.Needs.{needs}
 use Rattle.lists.proofs.First.{Passed, first-next, first-found, first-none}
-use Rattle.contexts.specs.State.{closedStream, flowContext, isOfFlow}
+use Rattle.contexts.specs.State.{closedStream, flowContext, isOfFlow, streamContexts}
 use Rattle.contexts.specs.Words.{stateOf}
 use Rattle.contexts.proofs.Words.{sixteen}
 use Rattle.contexts.proofs.find_stream.Statement.{statement}
 use Rattle.contexts.proofs.find_stream.Tie as tie
 
 abbrev Inv-loop : tie.InvT-loop
-Inv-loop state flow i₀ i = (i ≤ 16) × Passed (isOfFlow flow) (stateOf state .streams) i
+Inv-loop state flow i₀ i = (i ≤ streamContexts) × Passed (isOfFlow flow) (stateOf state .streams) i
 
 abbrev μ-loop : tie.MeasureT-loop
-μ-loop state flow i₀ i = 16 - i
+μ-loop state flow i₀ i = streamContexts - i
 
 loop-holds : tie.Need-loop-holds Inv-loop μ-loop
 loop-holds c = search needs

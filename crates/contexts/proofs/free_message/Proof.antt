@@ -3,17 +3,17 @@ use Prim.Native.Nat.{_≤_, _-_}
 use borrow.Author.Needs.{needs}
 use borrow.Author.Tests.{eq-eqb, ne-eqb}
 use Rattle.lists.proofs.First.{Passed, first-next, first-found, first-none}
-use Rattle.contexts.specs.State.{closedMessage, isFreeMessage, freeMessage}
+use Rattle.contexts.specs.State.{closedMessage, isFreeMessage, freeMessage, messageContexts}
 use Rattle.contexts.specs.Words.{stateOf}
 use Rattle.contexts.proofs.Words.{eight}
 use Rattle.contexts.proofs.free_message.Statement.{statement}
 use Rattle.contexts.proofs.free_message.Tie as tie
 
 abbrev Inv-loop : tie.InvT-loop
-Inv-loop state i₀ i = (i ≤ 8) × Passed (isFreeMessage) (stateOf state .messages) i
+Inv-loop state i₀ i = (i ≤ messageContexts) × Passed (isFreeMessage) (stateOf state .messages) i
 
 abbrev μ-loop : tie.MeasureT-loop
-μ-loop state i₀ i = 8 - i
+μ-loop state i₀ i = messageContexts - i
 
 loop-holds : tie.Need-loop-holds Inv-loop μ-loop
 loop-holds c = search needs

@@ -3,17 +3,17 @@ use Prim.Native.Nat.{_≤_, _-_}
 use borrow.Author.Needs.{needs}
 use borrow.Author.Tests.{eq-eqb, ne-eqb}
 use Rattle.lists.proofs.First.{Passed, first-next, first-found, first-none}
-use Rattle.contexts.specs.State.{closedStream, isFreeStream, freeStream}
+use Rattle.contexts.specs.State.{closedStream, isFreeStream, freeStream, streamContexts}
 use Rattle.contexts.specs.Words.{stateOf}
 use Rattle.contexts.proofs.Words.{sixteen}
 use Rattle.contexts.proofs.free_stream.Statement.{statement}
 use Rattle.contexts.proofs.free_stream.Tie as tie
 
 abbrev Inv-loop : tie.InvT-loop
-Inv-loop state i₀ i = (i ≤ 16) × Passed (isFreeStream) (stateOf state .streams) i
+Inv-loop state i₀ i = (i ≤ streamContexts) × Passed (isFreeStream) (stateOf state .streams) i
 
 abbrev μ-loop : tie.MeasureT-loop
-μ-loop state i₀ i = 16 - i
+μ-loop state i₀ i = streamContexts - i
 
 loop-holds : tie.Need-loop-holds Inv-loop μ-loop
 loop-holds c = search needs

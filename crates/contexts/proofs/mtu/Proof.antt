@@ -1,16 +1,13 @@
--- `contexts::mtu` meets its contract: word 1 is the MTU.
-use Rattle.contexts.specs.Words.{stateOf}
-use mathlib.Core.Path.{refl}
+-- `contexts::mtu` meets its contract: a word of the head is the MTU.
+use mathlib.Core.Path.{ap}
+use Rattle.contexts.specs.State.{Setup}
+use Rattle.contexts.proofs.Words.{setup-read}
 use borrow.Author.Needs.{needs}
 use Rattle.contexts.proofs.mtu.Statement.{statement}
 use Rattle.contexts.proofs.mtu.Tie as tie
 
-shared-slice-read-result : tie.Need-shared-slice-read-result
-shared-slice-read-result c = search needs
-
 returns : tie.Need-returns
-unfolding stateOf
-returns c = refl
+returns c = ap (λ (s : Setup). s .mtu) (setup-read _ (c .before .pre))
 
 pub mtu-spec : {M : Type 1} → statement M
-mtu-spec = tie.close (tie.spec shared-slice-read-result returns)
+mtu-spec = tie.close (tie.spec (λ c. search needs) returns)

@@ -1,16 +1,13 @@
--- `contexts::room` meets its contract: word 2 is R.
-use Rattle.contexts.specs.Words.{stateOf}
-use mathlib.Core.Path.{refl}
+-- `contexts::room` meets its contract: a word of the head is R.
+use mathlib.Core.Path.{ap}
+use Rattle.contexts.specs.State.{Setup}
+use Rattle.contexts.proofs.Words.{setup-read}
 use borrow.Author.Needs.{needs}
 use Rattle.contexts.proofs.room.Statement.{statement}
 use Rattle.contexts.proofs.room.Tie as tie
 
-shared-slice-read-result : tie.Need-shared-slice-read-result
-shared-slice-read-result c = search needs
-
 returns : tie.Need-returns
-unfolding stateOf
-returns c = refl
+returns c = ap (λ (s : Setup). s .room) (setup-read _ (c .before .pre))
 
 pub room-spec : {M : Type 1} → statement M
-room-spec = tie.close (tie.spec shared-slice-read-result returns)
+room-spec = tie.close (tie.spec (λ c. search needs) returns)

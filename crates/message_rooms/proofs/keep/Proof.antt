@@ -1,87 +1,58 @@
 -- `message_rooms::keep` meets its contract: delivered where all are marked, else kept.
 use Prim.Native.Nat.{_≤_}
-use Rattle.sizes.proofs.Laws.{bytes-le}
-use Rattle.message_rooms.proofs.Laws.{product-le}
-use Rattle.contexts.specs.declared.MessageContext.{MessageContext}
-use Rattle.contexts.specs.State.{withMessage}
-use Rattle.contexts.specs.Words.{stateOf}
-use mathlib.Core.Path.{ap, sym, _∙_}
+use mathlib.Core.Path.{sym, _∙_}
 use native.Mathlib.Omega.{arith}
 use borrow.Author.Needs.{needs}
+use Rattle.sizes.proofs.Laws.{bytes-le}
+use Rattle.message_rooms.proofs.Laws.{product-le}
 use Rattle.message_rooms.proofs.keep.Statement.{statement}
 use Rattle.message_rooms.proofs.keep.Tie as tie
 
-cast-all-marked : tie.Need-cast-all-marked
-cast-all-marked c = search needs
+-- behind the test, from where the length is made; and the call's beginning
+abbrev at-test : tie.After-bytes-of → tie.Then1
+at-test c = c .before .before .before .before .before .before
 
-add-all-marked : tie.Need-add-all-marked
-add-all-marked c = search needs
+abbrev entry : tie.After-all-marked → tie.Start
+entry c = c .before .before .before
 
-all-marked-requires : tie.Need-all-marked-requires
-all-marked-requires c κs = search needs
+-- the length is small
+length-le : tie.Need-mul-t14
+length-le c =
+    let size = c .before .bytes-of in
+    let z : size .result ≤ 256 = rw (size .ensures) (bytes-le _) in
+    omega (arith, product-le _ _ (entry (at-test (c .before) .before) .pre .1 .2) z)
 
-closed-requires : tie.Need-closed-requires
-closed-requires c κs = search needs
-
-put-message-requires : tie.Need-put-message-requires
-put-message-requires c κs = search needs
-
-mailbox-of-requires : tie.Need-mailbox-of-requires
-mailbox-of-requires c κs = search needs
-
-bytes-of-requires : tie.Need-bytes-of-requires
-bytes-of-requires c κs = search needs
-
-mul-t15 : tie.Need-mul-t15
-mul-t15 c =
-    let s = c .before .before .before .before .before .before .before .before .before .before .before .before in
-    let z : c .before .bytes-of .result ≤ 256 = rw (c .before .bytes-of .ensures) (bytes-le _) in
-    omega (arith, product-le _ _ (s .pre .1 .2) z)
-
-add-t16 : tie.Need-add-t16
-add-t16 c =
-    let s = c .before .before .before .before .before .before .before .before .before .before .before .before in
-    let z : c .before .bytes-of .result ≤ 256 = rw (c .before .bytes-of .ensures) (bytes-le _) in
+length-fits : tie.Need-add-t15
+length-fits c =
+    let s = entry (at-test (c .before) .before) in
+    let size = c .before .bytes-of in
+    let z : size .result ≤ 256 = rw (size .ensures) (bytes-le _) in
     omega (arith, product-le _ _ (s .pre .1 .2) z, s .pre .1 .1)
 
-same-length : tie.Need-same-length
-same-length c = search needs
-
+-- delivered, and closed
 returns : tie.Need-returns
 returns c =
-    let s = c .before .before .before .before .before .before .before .before .before .before .before .before in
-    let e = sym (c .before .before .before .before .before .before .before .before .before .all-marked .ensures) ∙ c .before .before .before .before .before .before .before .before .if1 .taken in
+    let at-bytes = c .before in
+    let test = at-test at-bytes in
+    let all = sym (test .before .all-marked .ensures) ∙ test .if1 .taken in
+    let at-close = at-bytes .before .before .before .before in
     record {
-      answer = rw (c .before .before .mailbox-of .ensures, c .before .bytes-of .ensures, e);
-      state = c .before .before .before .before .before .put-message .ensures ∙ rw e (ap (λ (x : MessageContext). withMessage (stateOf (s .args .state .now)) (s .args .n) x) (c .before .before .before .before .before .before .closed .ensures));
+      answer = rw (at-bytes .before .mailbox-of .ensures, at-bytes .bytes-of .ensures, all);
+      state = rw all (at-close .close-message .ensures);
     }
 
-put-message-requires-2 : tie.Need-put-message-requires-2
-put-message-requires-2 c κs = search needs
-
-same-length-2 : tie.Need-same-length-2
-same-length-2 c = search needs
-
+-- kept
 returns-2 : tie.Need-returns-2
 returns-2 c =
-    let e = sym (c .before .before .before .before .before .all-marked .ensures) ∙ c .before .before .before .before .if1 .left in
-    record { answer = rw e; state = rw e (c .before .before .put-message2 .ensures) }
+    let at-keep = c .before .before in
+    let test = at-keep .before .before in
+    let some = sym (test .before .all-marked .ensures) ∙ test .if1 .left in
+    record { answer = rw some; state = rw some (at-keep .keep-message .ensures) }
 
 pub keep-spec : {M : Type 1} → statement M
 keep-spec =
     tie.close
     (tie.spec
-    cast-all-marked
-    add-all-marked
-    all-marked-requires
-    closed-requires
-    put-message-requires
-    mailbox-of-requires
-    bytes-of-requires
-    mul-t15
-    add-t16
-    same-length
-    returns
-    put-message-requires-2
-    same-length-2
-    returns-2)
+    (λ c. search needs) (λ c. search needs) (λ c κs. search needs)
+    (λ c κs. search needs) (λ c κs. search needs) (λ c κs. search needs) length-le length-fits (λ c. search needs) returns
+    (λ c κs. search needs) (λ c. search needs) returns-2)

@@ -1,120 +1,88 @@
 -- `message_rooms::place` meets its contract: the store ends inside the room, and a mark that was not set leaves room for it.
-use Rattle.message_rooms.proofs.Laws.{placing, product-le, segment-ends, marks-le}
-use Rattle.contexts.proofs.Marks.{room-for-mark}
-use Rattle.sizes.proofs.Laws.{bytes-le}
-use lib.ListN.{length-take, length-drop}
-use Prim.Native.Nat.{ℕ, _+_, _≤_}
-use Rattle.contexts.specs.Words.{stateOf}
+use Prim.Native.Nat.{ℕ, _+_, _<_, _≤_, _^_}
 use mathlib.Core.Path.{ap}
 use native.Mathlib.Omega.{arith}
+use lib.ListN.{length-take, length-drop}
 use borrow.Author.Needs.{needs}
+use Rattle.sizes.proofs.Laws.{bytes-le}
+use Rattle.marks.proofs.Marks.{room-for-mark}
+use Rattle.contexts.specs.Words.{stateOf}
+use Rattle.rules.proofs.Laws.{last-with-le}
+use Rattle.message_rooms.proofs.Laws.{placing, product-le, segment-ends, marks-le}
 use Rattle.message_rooms.proofs.place.Statement.{statement}
 use Rattle.message_rooms.proofs.place.Tie as tie
-use Rattle.rules.proofs.Laws.{last-with-le}
 
-bytes-of-requires : tie.Need-bytes-of-requires
-bytes-of-requires c κs = search needs
+-- the call's beginning
+abbrev entry : tie.After-bytes-of → tie.Start
+entry c = c .before .before .before .before .before
 
-power-requires : tie.Need-power-requires
-power-requires c κs = search needs
+-- the marks with this segment's
+small : (s : tie.Start) → s .args .marks + 2 ^ (s .args .m .msgseg) < 65536
+small s =
+    let m = s .args .m in
+    let fits = s .pre .1 .1 in
+    let inside : m .msgseg < m .msglen + 1 = omega (arith, s .pre .1 .0 .past (fits .several)) in
+    marks-le _ _ (s .pre .0 .segments) (room-for-mark _ (m .msgseg) (m .msglen + 1) (fits .inside) inside (fits .unmarked))
+
+-- the segment's place in its room
+place-le : (c : tie.After-bytes-of) → c .bytes-of .result ≤ 256
+place-le c = rw (c .bytes-of .ensures) (bytes-le _)
 
 add-with-this : tie.Need-add-with-this
-add-with-this c =
-    let s = c .before .before .before .before .before .before in
-    let m = s .args .m in
-    let f = s .pre .1 .1 in
-    let k = marks-le _ _ (s .pre .0 .segments) (room-for-mark _ (m .msgseg) (m .msglen + 1) (f .inside) (omega (arith, s .pre .1 .0 .past (f .several))) (f .unmarked)) in
-    omega (arith, k, c .power .ensures .0)
-
-mul-store : tie.Need-mul-store
-mul-store c = search needs
+add-with-this c = omega (arith, small (entry (c .before)), c .power .ensures .0)
 
 mul-store-2 : tie.Need-mul-store-2
 mul-store-2 c =
-    let s = c .before .before .before .before .before .before .before .before in
-    let z : c .before .before .before .bytes-of .result ≤ 256 = rw (c .before .before .before .bytes-of .ensures) (bytes-le _) in
-    omega (arith, product-le _ _ (s .pre .0 .number) z)
+    let at-bytes = c .before .before .before in
+    omega (arith, product-le _ _ (entry at-bytes .pre .0 .number) (place-le at-bytes))
 
 add-store : tie.Need-add-store
 add-store c =
-    let s = c .before .before .before .before .before .before .before .before in
-    let z : c .before .before .before .bytes-of .result ≤ 256 = rw (c .before .before .before .bytes-of .ensures) (bytes-le _) in
-    omega (arith, product-le _ _ (s .pre .0 .number) z, s .pre .1 .1 .context)
+    let at-bytes = c .before .before .before in
+    let s = entry at-bytes in
+    omega (arith, product-le _ _ (s .pre .0 .number) (place-le at-bytes), s .pre .1 .1 .context)
 
-add-store-2 : tie.Need-add-store-2
-add-store-2 c = search needs
-
-sub-store : tie.Need-sub-store
-sub-store c = search needs
-
-part-store-start : tie.Need-part-store-start
-part-store-start c = search needs
-
-part-store-end : tie.Need-part-store-end
-part-store-end c = search needs
-
+-- the store ends inside the memory
 store-requires : tie.Need-store-requires
 store-requires c κs =
-    let s = c .before .before .before .before .before .before .before .before .before in
-    let z = c .before .before .before .before .bytes-of .ensures in
-    let e = segment-ends _ _ _ _ (s .pre .1 .1 .context) (s .pre .0 .number) (bytes-le (s .args .m .ssize)) (s .pre .1 .0 .fits) in
-    simp (z, length-take, length-drop) (omega (arith, e, s .pre .0 .size, s .pre .0 .inside))
-
-done-requires : tie.Need-done-requires
-done-requires c κs = search needs
-
-last-with-requires : tie.Need-last-with-requires
-last-with-requires c κs = search needs
+    let at-bytes = c .before .before .before .before in
+    let s = entry at-bytes in
+    let ends = segment-ends _ _ _ _ (s .pre .1 .1 .context) (s .pre .0 .number) (bytes-le (s .args .m .ssize)) (s .pre .1 .0 .fits) in
+    simp (at-bytes .bytes-of .ensures, length-take, length-drop) (omega (arith, ends, s .pre .0 .size, s .pre .0 .inside))
 
 keep-requires : tie.Need-keep-requires
 keep-requires c κs =
-    let s = c .before .before .before .before .before .before .before .before .before .before .before .before .before .before .before .before .before .before in
+    let at-store = c .before .before .before .before .before .before .before .before in
+    let at-power = at-store .before .before .before .before in
+    let s = entry (at-power .before) in
     let m = s .args .m in
-    let f = s .pre .1 .1 in
-    let k = marks-le _ _ (s .pre .0 .segments) (room-for-mark _ (m .msgseg) (m .msglen + 1) (f .inside) (omega (arith, s .pre .1 .0 .past (f .several))) (f .unmarked)) in
-    let l : c .last-with .result ≤ 256 = rw (c .last-with .ensures) (last-with-le m _ (f .short) (omega (arith, s .pre .1 .0 .fits, bytes-le (m .ssize)))) in
-    ((f .context, s .pre .0 .whole), (rw (c .before .before .before .before .before .before .before .before .before .before .before .before .power .ensures .0) k, l, s .pre .0 .segments, s .pre .0 .number, s .pre .0 .boxes))
-
-same-length : tie.Need-same-length
-same-length c = search needs
-
-same-length-2 : tie.Need-same-length-2
-same-length-2 c = search needs
-
-same-length-3 : tie.Need-same-length-3
-same-length-3 c = search needs
+    let fits = s .pre .1 .1 in
+    let ready = s .pre .0 in
+    let last : c .last-with .result ≤ 256 = rw (c .last-with .ensures) (last-with-le m _ (fits .short) (omega (arith, s .pre .1 .0 .fits, bytes-le (m .ssize)))) in
+    ((fits .context, ready .whole), (rw (at-power .power .ensures .0) (small s), last, ready .segments, ready .number, ready .boxes))
 
 returns : tie.Need-returns
 returns c =
-    let s = c .before .before .before .before .before .before .before .before .before .before .before .before .before .before .before .before .before .before .before .before .before in
-    placing (stateOf (s .args .state .now)) (s .args .memory .now) (s .args .response .now) (s .args .packet .now) (s .args .m) (s .args .n) (s .args .marks) (s .args .last)
-    (c .before .before .before .before .before .before .before .before .before .before .before .before .before .before .before .before .bytes-of .result) _ _ _ _ _ _
-    (c .before .before .before .before .before .before .before .before .before .before .before .before .before .before .before .before .bytes-of .ensures)
-    (ap (λ (x : ℕ). s .args .marks + x) (c .before .before .before .before .before .before .before .before .before .before .before .before .before .before .before .power .ensures .0))
-    (c .before .before .before .last-with .ensures)
-    (c .before .before .keep .ensures)
-    (c .before .before .before .before .before .before .before .before .before .before .before .store .ensures)
-    (c .before .before .before .before .before .before .before .done .ensures)
+    let at-keep = c .before .before in
+    let at-last = at-keep .before in
+    let at-done = at-last .before .before .before .before in
+    let at-store = at-done .before .before .before .before in
+    let at-power = at-store .before .before .before .before in
+    let at-bytes = at-power .before in
+    let s = entry at-bytes in
+    placing (stateOf (s .args .state .now)) _ _ _ (s .args .m) _ (s .args .marks) (s .args .last) (at-bytes .bytes-of .result) _ _ _ _ _ _
+    (at-bytes .bytes-of .ensures)
+    (ap (λ (x : ℕ). s .args .marks + x) (at-power .power .ensures .0))
+    (at-last .last-with .ensures)
+    (at-keep .keep .ensures)
+    (at-store .store .ensures)
+    (at-done .done .ensures)
 
 pub place-spec : {M : Type 1} → statement M
 place-spec =
     tie.close
     (tie.spec
-    bytes-of-requires
-    power-requires
-    add-with-this
-    mul-store
-    mul-store-2
-    add-store
-    add-store-2
-    sub-store
-    part-store-start
-    part-store-end
-    store-requires
-    done-requires
-    last-with-requires
-    keep-requires
-    same-length
-    same-length-2
-    same-length-3
-    returns)
+    (λ c κs. search needs) (λ c κs. search needs) add-with-this
+    (λ c. search needs) mul-store-2 add-store (λ c. search needs) (λ c. search needs) (λ c. search needs) (λ c. search needs) store-requires
+    (λ c κs. search needs) (λ c κs. search needs) keep-requires
+    (λ c. search needs) (λ c. search needs) (λ c. search needs) returns)

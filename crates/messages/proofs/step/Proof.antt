@@ -1,131 +1,75 @@
 -- `messages::step` meets its contract: rows 20 to 22, then by the kind of message.
-use Rattle.messages.proofs.Laws.{step-refused, step-matched}
+use mathlib.Core.Path.{_≡_, sym, _∙_}
 use borrow.Author.Tests.{eq-eqb, ne-eqb}
-use Rattle.contexts.specs.Words.{stateOf}
-use mathlib.Core.Path.{sym, _∙_}
 use borrow.Author.Needs.{needs}
+use Rattle.rules.specs.Messages.{judged}
+use Rattle.rules.proofs.Laws.{sound}
+use Rattle.messages.proofs.Laws.{step-refused, step-matched}
 use Rattle.messages.proofs.step.Statement.{statement}
 use Rattle.messages.proofs.step.Tie as tie
-use Rattle.rules.proofs.Laws.{sound}
 
-judge-requires : tie.Need-judge-requires
-judge-requires c κs = search needs
+-- the call's beginning
+abbrev entry : tie.After-judge → tie.Start
+entry c = c .before .before .before .before .before
 
-refuse-requires : tie.Need-refuse-requires
-refuse-requires c κs = search needs
+-- rows 20 to 22 passed
+judged-fine : (c : tie.Else1) → judged (entry (c .before) .args .m) ≡ 0
+judged-fine c = sym (c .before .judge .ensures) ∙ c .if1 .left
 
-same-length : tie.Need-same-length
-same-length c = search needs
-
+-- rows 20 to 22
 returns : tie.Need-returns
 returns c =
-    let s = c .before .before .before .before .before .before .before .before .before .before in
-    let st = stateOf (s .args .state .now) in
-    let mem = s .args .memory .now in
-    let rep = s .args .response .now in
-    let p = s .args .packet .now in
-    let m = s .args .m in
-    step-refused st mem rep p m _ (c .before .before .before .before .before .judge .ensures) (c .before .before .before .before .if1 .taken) (c .before .before .refuse .ensures)
+    let at-refuse = c .before .before in
+    let test = at-refuse .before .before in
+    step-refused _ _ _ _ _ _ (test .before .judge .ensures) (test .if1 .taken) (at-refuse .refuse .ensures)
 
+-- a single-segment message
 take-alone-requires : tie.Need-take-alone-requires
 take-alone-requires c κs =
-    let s = c .before .before .before .before .before .before .before .before .before .before .before in
-    let m = s .args .m in
-    (s .pre, (sound m (sym (c .before .before .before .before .before .before .judge .ensures) ∙ c .before .before .before .before .before .if1 .left), eq-eqb _ _ (c .before .before .before .if2 .taken)))
-
-same-length-2 : tie.Need-same-length-2
-same-length-2 c = search needs
-
-same-length-3 : tie.Need-same-length-3
-same-length-3 c = search needs
-
-same-length-4 : tie.Need-same-length-4
-same-length-4 c = search needs
+    let test = c .before .before .before in
+    let passed = test .before .before in
+    (entry (passed .before) .pre, (sound _ (judged-fine passed), eq-eqb _ _ (test .if2 .taken)))
 
 returns-2 : tie.Need-returns-2
 returns-2 c =
-    let s = c .before .before .before .before .before .before .before .before .before .before .before .before .before .before .before .before .before .before in
-    let st = stateOf (s .args .state .now) in
-    let mem = s .args .memory .now in
-    let rep = s .args .response .now in
-    let p = s .args .packet .now in
-    let m = s .args .m in
-    c .before .before .before .before .before .before .take-alone .ensures ∙ step-matched st mem rep p m (sym (c .before .before .before .before .before .before .before .before .before .before .before .before .before .judge .ensures) ∙ c .before .before .before .before .before .before .before .before .before .before .before .before .if1 .left)
+    let at-alone = c .before .before .before .before .before .before in
+    let passed = at-alone .before .before .before .before .before .before in
+    at-alone .take-alone .ensures ∙ step-matched _ _ _ _ _ (judged-fine passed)
 
-find-message-requires : tie.Need-find-message-requires
-find-message-requires c κs = search needs
-
+-- of an open message
 join-requires : tie.Need-join-requires
 join-requires c κs =
-    let s = c .before .before .before .before .before .before .before .before .before .before .before .before .before .before in
-    let m = s .args .m in
-    (s .pre, (sound m (sym (c .before .before .before .before .before .before .before .before .before .judge .ensures) ∙ c .before .before .before .before .before .before .before .before .if1 .left), ne-eqb _ _ (c .before .before .before .before .before .before .if2 .left), c .before .before .before .if3 .taken, c .before .before .before .before .find-message .ensures))
-
-same-length-5 : tie.Need-same-length-5
-same-length-5 c = search needs
-
-same-length-6 : tie.Need-same-length-6
-same-length-6 c = search needs
-
-same-length-7 : tie.Need-same-length-7
-same-length-7 c = search needs
+    let test = c .before .before .before in
+    let several = test .before .before .before in
+    let passed = several .before .before in
+    (entry (passed .before) .pre, (sound _ (judged-fine passed), ne-eqb _ _ (several .if2 .left), test .if3 .taken, test .before .find-message .ensures))
 
 returns-3 : tie.Need-returns-3
 returns-3 c =
-    let s = c .before .before .before .before .before .before .before .before .before .before .before .before .before .before .before .before .before .before .before .before .before in
-    let st = stateOf (s .args .state .now) in
-    let mem = s .args .memory .now in
-    let rep = s .args .response .now in
-    let p = s .args .packet .now in
-    let m = s .args .m in
-    c .before .before .before .before .before .before .join .ensures ∙ step-matched st mem rep p m (sym (c .before .before .before .before .before .before .before .before .before .before .before .before .before .before .before .before .judge .ensures) ∙ c .before .before .before .before .before .before .before .before .before .before .before .before .before .before .before .if1 .left)
+    let at-join = c .before .before .before .before .before .before in
+    let several = at-join .before .before .before .before .before .before .before in
+    at-join .join .ensures ∙ step-matched _ _ _ _ _ (judged-fine (several .before .before))
 
+-- of a new one
 begin-requires : tie.Need-begin-requires
 begin-requires c κs =
-    let s = c .before .before .before .before .before .before .before .before .before .before .before .before .before .before in
-    let m = s .args .m in
-    (s .pre, (sound m (sym (c .before .before .before .before .before .before .before .before .before .judge .ensures) ∙ c .before .before .before .before .before .before .before .before .if1 .left), ne-eqb _ _ (c .before .before .before .before .before .before .if2 .left), rw (← c .before .before .before .before .find-message .ensures) (c .before .before .before .if3 .left)))
-
-same-length-8 : tie.Need-same-length-8
-same-length-8 c = search needs
-
-same-length-9 : tie.Need-same-length-9
-same-length-9 c = search needs
-
-same-length-10 : tie.Need-same-length-10
-same-length-10 c = search needs
+    let test = c .before .before .before in
+    let several = test .before .before .before in
+    let passed = several .before .before in
+    (entry (passed .before) .pre, (sound _ (judged-fine passed), ne-eqb _ _ (several .if2 .left), rw (← test .before .find-message .ensures) (test .if3 .left)))
 
 returns-4 : tie.Need-returns-4
 returns-4 c =
-    let s = c .before .before .before .before .before .before .before .before .before .before .before .before .before .before .before .before .before .before .before .before .before in
-    let st = stateOf (s .args .state .now) in
-    let mem = s .args .memory .now in
-    let rep = s .args .response .now in
-    let p = s .args .packet .now in
-    let m = s .args .m in
-    c .before .before .before .before .before .before .begin .ensures ∙ step-matched st mem rep p m (sym (c .before .before .before .before .before .before .before .before .before .before .before .before .before .before .before .before .judge .ensures) ∙ c .before .before .before .before .before .before .before .before .before .before .before .before .before .before .before .if1 .left)
+    let at-begin = c .before .before .before .before .before .before in
+    let several = at-begin .before .before .before .before .before .before .before in
+    at-begin .begin .ensures ∙ step-matched _ _ _ _ _ (judged-fine (several .before .before))
 
 pub step-spec : {M : Type 1} → statement M
 step-spec =
     tie.close
     (tie.spec
-    judge-requires
-    refuse-requires
-    same-length
-    returns
-    take-alone-requires
-    same-length-2
-    same-length-3
-    same-length-4
-    returns-2
-    find-message-requires
-    join-requires
-    same-length-5
-    same-length-6
-    same-length-7
-    returns-3
-    begin-requires
-    same-length-8
-    same-length-9
-    same-length-10
-    returns-4)
+    (λ c κs. search needs) (λ c κs. search needs) (λ c. search needs) returns
+    take-alone-requires (λ c. search needs) (λ c. search needs) (λ c. search needs) returns-2
+    (λ c κs. search needs)
+    join-requires (λ c. search needs) (λ c. search needs) (λ c. search needs) returns-3
+    begin-requires (λ c. search needs) (λ c. search needs) (λ c. search needs) returns-4)

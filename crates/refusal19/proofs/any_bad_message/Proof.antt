@@ -3,7 +3,7 @@ use Prim.Native.Nat.{_≤_, _-_}
 use mathlib.Core.Path.{sym, _∙_}
 use borrow.Author.Needs.{needs}
 use Rattle.lists.proofs.First.{Passed, first-next, any-found, any-none}
-use Rattle.contexts.specs.State.{closedMessage}
+use Rattle.contexts.specs.State.{closedMessage, messageContexts}
 use Rattle.refusal19.specs.Refusal19.{badMessage}
 use Rattle.contexts.specs.Words.{stateOf}
 use Rattle.contexts.proofs.Words.{eight}
@@ -11,10 +11,10 @@ use Rattle.refusal19.proofs.any_bad_message.Statement.{statement}
 use Rattle.refusal19.proofs.any_bad_message.Tie as tie
 
 abbrev Inv-loop : tie.InvT-loop
-Inv-loop state i₀ i = (i ≤ 8) × Passed (badMessage) (stateOf state .messages) i
+Inv-loop state i₀ i = (i ≤ messageContexts) × Passed (badMessage) (stateOf state .messages) i
 
 abbrev μ-loop : tie.MeasureT-loop
-μ-loop state i₀ i = 8 - i
+μ-loop state i₀ i = messageContexts - i
 
 loop-holds : tie.Need-loop-holds Inv-loop μ-loop
 loop-holds c = search needs

@@ -3,7 +3,7 @@ use Prim.Native.Nat.{_≤_, _-_}
 use mathlib.Core.Path.{sym, _∙_}
 use borrow.Author.Needs.{needs}
 use Rattle.lists.proofs.First.{Passed, first-next, any-found, any-none}
-use Rattle.contexts.specs.State.{closedStream}
+use Rattle.contexts.specs.State.{closedStream, streamContexts}
 use Rattle.refusal19.specs.Refusal19.{badStream}
 use Rattle.contexts.specs.Words.{stateOf}
 use Rattle.contexts.proofs.Words.{sixteen}
@@ -11,10 +11,10 @@ use Rattle.refusal19.proofs.any_bad_stream.Statement.{statement}
 use Rattle.refusal19.proofs.any_bad_stream.Tie as tie
 
 abbrev Inv-loop : tie.InvT-loop
-Inv-loop state room i₀ i = (i ≤ 16) × Passed (badStream room) (stateOf state .streams) i
+Inv-loop state room i₀ i = (i ≤ streamContexts) × Passed (badStream room) (stateOf state .streams) i
 
 abbrev μ-loop : tie.MeasureT-loop
-μ-loop state room i₀ i = 16 - i
+μ-loop state room i₀ i = streamContexts - i
 
 loop-holds : tie.Need-loop-holds Inv-loop μ-loop
 loop-holds c = search needs

@@ -1,82 +1,54 @@
 -- `stream_rooms::place` meets its contract: the store ends inside the room, and the context is kept or delivered.
-use lib.ListN.{length-take, length-drop}
 use native.Mathlib.Nat.{mul-le-mul-right, le-of-lt}
+use native.Mathlib.Omega.{arith}
+use lib.ListN.{length-take, length-drop}
+use borrow.Author.Needs.{needs}
+use Rattle.contexts.specs.Words.{stateOf}
 use Rattle.refusal19.proofs.Good.{good}
 use Rattle.stream_rooms.proofs.Laws.{room-ends, placing}
-use Rattle.contexts.specs.Words.{stateOf}
-use native.Mathlib.Omega.{arith}
-use borrow.Author.Needs.{needs}
 use Rattle.stream_rooms.proofs.place.Statement.{statement}
 use Rattle.stream_rooms.proofs.place.Tie as tie
 
-room-requires : tie.Need-room-requires
-room-requires c κs = search needs
+-- the call's beginning
+abbrev entry : tie.After-room → tie.Start
+entry c = c .before .before .before .before .before
 
-add-to : tie.Need-add-to
-add-to c = search needs
-
+-- n R is small, since R is and n is one of the contexts
 mul-store : tie.Need-mul-store
 mul-store c =
-    let s = c .before .before .before .before .before .before in
+    let s = entry (c .before) in
+    let r = c .before .room in
     let g = good (stateOf (s .args .state .now)) (s .pre .0 .good) in
-    omega (arith, mul-le-mul-right (c .before .room .result) (le-of-lt (s .pre .1 .context)), g .room, c .before .room .ensures)
+    omega (arith, mul-le-mul-right (r .result) (le-of-lt (s .pre .1 .context)), g .room, r .ensures)
 
 add-store : tie.Need-add-store
 add-store c =
-    let s = c .before .before .before .before .before .before in
+    let s = entry (c .before) in
+    let r = c .before .room in
     let g = good (stateOf (s .args .state .now)) (s .pre .0 .good) in
-    omega (arith, mul-le-mul-right (c .before .room .result) (le-of-lt (s .pre .1 .context)), g .room, s .pre .1 .behind, c .before .room .ensures)
+    omega (arith, mul-le-mul-right (r .result) (le-of-lt (s .pre .1 .context)), g .room, s .pre .1 .behind, r .ensures)
 
-sub-store : tie.Need-sub-store
-sub-store c = search needs
-
-part-store-start : tie.Need-part-store-start
-part-store-start c = search needs
-
-part-store-end : tie.Need-part-store-end
-part-store-end c = search needs
-
+-- the store ends inside the room
 store-requires : tie.Need-store-requires
 store-requires c κs =
-    let s = c .before .before .before .before .before .before .before in
-    let f = room-ends _ _ _ _ (s .pre .1 .context) (s .pre .1 .behind) in
-    let z = s .pre .0 .size in
-    rw (c .before .before .room .ensures) (simp (length-take, length-drop) (omega (arith, f, z, s .pre .1 .within, s .pre .0 .inside)))
-
-add-keep : tie.Need-add-keep
-add-keep c = search needs
-
-keep-requires : tie.Need-keep-requires
-keep-requires c κs = search needs
-
-same-length : tie.Need-same-length
-same-length c = search needs
-
-same-length-2 : tie.Need-same-length-2
-same-length-2 c = search needs
+    let at-room = c .before .before in
+    let s = entry at-room in
+    let ends = room-ends _ _ _ _ (s .pre .1 .context) (s .pre .1 .behind) in
+    rw (at-room .room .ensures) (simp (length-take, length-drop) (omega (arith, ends, s .pre .0 .size, s .pre .1 .within, s .pre .0 .inside)))
 
 returns : tie.Need-returns
 returns c =
-    let s = c .before .before .before .before .before .before .before .before .before .before .before .before .before .before in
-    placing (stateOf (s .args .state .now)) (s .args .memory .now) _ (s .args .packet .now) (s .args .g) (s .args .n) (s .args .base) (s .args .stream) (s .args .count) (s .args .dropped) _ _ _
-    (s .pre .1)
-    (c .before .before .keep .ensures)
-    (rw (← c .before .before .before .before .before .before .before .before .before .room .ensures) (c .before .before .before .before .before .before .store .ensures))
+    let at-keep = c .before .before in
+    let at-store = at-keep .before .before .before .before in
+    let at-room = at-store .before .before .before in
+    let s = entry at-room in
+    placing (stateOf (s .args .state .now)) _ _ _ _ _ _ _ _ _ _ _ _ (s .pre .1) (at-keep .keep .ensures) (rw (← at-room .room .ensures) (at-store .store .ensures))
 
 pub place-spec : {M : Type 1} → statement M
 place-spec =
     tie.close
     (tie.spec
-    room-requires
-    add-to
-    mul-store
-    add-store
-    sub-store
-    part-store-start
-    part-store-end
-    store-requires
-    add-keep
-    keep-requires
-    same-length
-    same-length-2
-    returns)
+    (λ c κs. search needs) (λ c. search needs) mul-store add-store
+    (λ c. search needs) (λ c. search needs) (λ c. search needs) store-requires
+    (λ c. search needs) (λ c κs. search needs)
+    (λ c. search needs) (λ c. search needs) returns)

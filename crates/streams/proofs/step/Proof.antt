@@ -1,107 +1,111 @@
 -- `streams::step` meets its contract: rows 6 and 7, then by kind.
-use Rattle.contexts.proofs.Words.{sixteen}
-use Rattle.streams.proofs.Laws.{some-data, found-le, passed, step-malformed, step-missized, step-begins, step-continues}
-use Rattle.contexts.specs.Words.{stateOf}
-use mathlib.Core.Path.{sym, _∙_}
+use Prim.Native.Nat.{_≤_}
+use mathlib.Core.Path.{_≡_, sym, _∙_}
+use mathlib.Core.Bool.{false}
 use borrow.Author.Needs.{needs}
+use Rattle.rules.specs.Segments.{malformed, wrongSize}
+use Rattle.contexts.specs.State.{streamContexts}
+use Rattle.contexts.specs.Words.{stateOf}
+use Rattle.contexts.proofs.Words.{sixteen}
+use Rattle.streams.specs.Inside.{Passed}
+use Rattle.streams.proofs.Laws.{some-data, found-le, passed, step-malformed, step-missized, step-begins, step-continues}
 use Rattle.streams.proofs.step.Statement.{statement}
 use Rattle.streams.proofs.step.Tie as tie
 
-find-stream-requires : tie.Need-find-stream-requires
-find-stream-requires c κs = search needs
+-- ---- places: the call's beginning, from where the flow's context is found; behind row 6, from where row 7 is asked
+abbrev entry : tie.After-find-stream → tie.Start
+entry c = c .before .before .before .before .before .before
 
-is-malformed-requires : tie.Need-is-malformed-requires
-is-malformed-requires c κs = search needs
+abbrev past-6 : tie.After-is-missized → tie.Else1
+past-6 c = c .before .before .before .before
 
+abbrev found-at : tie.After-is-missized → tie.After-find-stream
+found-at c = past-6 c .before .before
+
+-- ---- what is known there
+found-small : (c : tie.After-find-stream) → c .find-stream .result ≤ streamContexts
+found-small c =
+    let s = entry c in
+    rw (c .find-stream .ensures) (found-le (stateOf (s .args .state .now)) (s .args .g) (sixteen (s .args .state .now)))
+
+well-formed : (c : tie.Else1) → malformed (entry (c .before .before) .args .g) ≡ false
+well-formed c = sym (c .before .is-malformed .ensures) ∙ c .if1 .left
+
+right-size : (c : tie.Else2) → wrongSize (entry (found-at (c .before)) .args .g .ends) (c .before .before .before .before .data-length .result) (c .before .before .mtu .result) ≡ false
+right-size c = sym (c .before .is-missized .ensures) ∙ c .if2 .left
+
+has-passed : (c : tie.Else2) → let s = entry (found-at (c .before)) in
+    Passed (stateOf (s .args .state .now)) (s .args .g) (found-at (c .before) .find-stream .result) (c .before .before .before .before .data-length .result)
+has-passed c =
+    let at-mtu = c .before .before in
+    passed _ _ (at-mtu .before .before .data-length .ensures) (at-mtu .mtu .ensures) (found-at (c .before) .find-stream .ensures) (right-size c)
+
+-- ---- the ways out
+
+-- 6: no data, odd bytes of data, or O wrong
 refused-closing-requires : tie.Need-refused-closing-requires
 refused-closing-requires c κs =
-    let s = c .before .before .before .before .before .before .before .before .before in
-    (s .pre .whole, rw (c .before .before .before .find-stream .ensures) (found-le (stateOf (s .args .state .now)) (s .args .g) (sixteen (s .args .state .now))))
-
-same-length : tie.Need-same-length
-same-length c = search needs
+    let at-found = c .before .before .before in
+    (entry at-found .pre .whole, found-small at-found)
 
 returns : tie.Need-returns
 returns c =
-    step-malformed _ _ _ _ (c .before .before .before .before .before .before .find-stream .ensures) (sym (c .before .before .before .before .before .is-malformed .ensures) ∙ c .before .before .before .before .if1 .taken) (c .before .before .refused-closing .ensures)
+    let at-close = c .before .before in
+    let test = at-close .before .before in
+    step-malformed _ _ _ _ (test .before .before .find-stream .ensures) (sym (test .before .is-malformed .ensures) ∙ test .if1 .taken) (at-close .refused-closing .ensures)
 
 data-length-requires : tie.Need-data-length-requires
-data-length-requires c κs = some-data (c .before .before .before .before .before .before .before .before .args .g) (sym (c .before .is-malformed .ensures) ∙ c .if1 .left)
+data-length-requires c κs = some-data _ (well-formed c)
 
-mtu-requires : tie.Need-mtu-requires
-mtu-requires c κs = search needs
-
-is-missized-requires : tie.Need-is-missized-requires
-is-missized-requires c κs = search needs
-
+-- 7: not MTU bytes, or over MTU
 refused-closing-requires-2 : tie.Need-refused-closing-requires-2
 refused-closing-requires-2 c κs =
-    let s = c .before .before .before .before .before .before .before .before .before .before .before .before .before .before in
-    (s .pre .whole, rw (c .before .before .before .before .before .before .before .before .find-stream .ensures) (found-le (stateOf (s .args .state .now)) (s .args .g) (sixteen (s .args .state .now))))
-
-same-length-2 : tie.Need-same-length-2
-same-length-2 c = search needs
+    let at-found = found-at (c .before .before) in
+    (entry at-found .pre .whole, found-small at-found)
 
 returns-2 : tie.Need-returns-2
 returns-2 c =
-    let a = c .before .before .before .before .before .before .before .before .before in
-    step-missized _ _ _ _ (sym (a .before .is-malformed .ensures) ∙ a .if1 .left) (c .before .before .before .before .before .before .before .before .data-length .ensures) (c .before .before .before .before .before .before .mtu .ensures) (a .before .before .find-stream .ensures)
-    (sym (c .before .before .before .before .before .is-missized .ensures) ∙ c .before .before .before .before .if2 .taken) (c .before .before .refused-closing2 .ensures)
+    let at-close = c .before .before in
+    let test = at-close .before .before in
+    let at-mtu = test .before .before in
+    step-missized _ _ _ _ (well-formed (past-6 (test .before))) (at-mtu .before .before .data-length .ensures) (at-mtu .mtu .ensures) (found-at (test .before) .find-stream .ensures)
+    (sym (test .before .is-missized .ensures) ∙ test .if2 .taken) (at-close .refused-closing2 .ensures)
 
+-- a start or single
 begin-requires : tie.Need-begin-requires
 begin-requires c κs =
-    let a = c .before .before .before in
-    (c .before .before .before .before .before .before .before .before .before .before .before .before .before .before .before .before .pre, record { passed = passed _ _ (a .before .before .before .before .data-length .ensures) (a .before .before .mtu .ensures) (a .before .before .before .before .before .before .before .find-stream .ensures) (sym (a .before .is-missized .ensures) ∙ a .if2 .left); start = c .before .before .if3 .taken })
-
-same-length-3 : tie.Need-same-length-3
-same-length-3 c = search needs
-
-same-length-4 : tie.Need-same-length-4
-same-length-4 c = search needs
+    let kind = c .before .before in
+    (entry (found-at (kind .before .before)) .pre, record { passed = has-passed (kind .before); start = kind .if3 .taken })
 
 returns-3 : tie.Need-returns-3
 returns-3 c =
-    let a = c .before .before .before .before .before .before .before .before in
-    step-begins _ _ _ _ (sym (a .before .before .before .before .before .before .is-malformed .ensures) ∙ a .before .before .before .before .before .if1 .left) (a .before .before .before .before .data-length .ensures) (a .before .before .mtu .ensures)
-    (sym (a .before .is-missized .ensures) ∙ a .if2 .left) (c .before .before .before .before .before .before .before .if3 .taken) (c .before .before .before .before .begin .ensures)
+    let at-begin = c .before .before .before .before in
+    let kind = at-begin .before .before .before in
+    let sized = kind .before in
+    let at-mtu = sized .before .before in
+    step-begins _ _ _ _ (well-formed (past-6 (sized .before))) (at-mtu .before .before .data-length .ensures) (at-mtu .mtu .ensures) (right-size sized) (kind .if3 .taken) (at-begin .begin .ensures)
 
+-- a continuation or end
 go-on-requires : tie.Need-go-on-requires
 go-on-requires c κs =
-    let a = c .before .before .before in
-    (c .before .before .before .before .before .before .before .before .before .before .before .before .before .before .before .before .pre, record { passed = passed _ _ (a .before .before .before .before .data-length .ensures) (a .before .before .mtu .ensures) (a .before .before .before .before .before .before .before .find-stream .ensures) (sym (a .before .is-missized .ensures) ∙ a .if2 .left); start = c .before .before .if3 .left })
-
-same-length-5 : tie.Need-same-length-5
-same-length-5 c = search needs
-
-same-length-6 : tie.Need-same-length-6
-same-length-6 c = search needs
+    let kind = c .before .before in
+    (entry (found-at (kind .before .before)) .pre, record { passed = has-passed (kind .before); start = kind .if3 .left })
 
 returns-4 : tie.Need-returns-4
 returns-4 c =
-    let a = c .before .before .before .before .before .before .before .before in
-    step-continues _ _ _ _ (sym (a .before .before .before .before .before .before .is-malformed .ensures) ∙ a .before .before .before .before .before .if1 .left) (a .before .before .before .before .data-length .ensures) (a .before .before .mtu .ensures)
-    (sym (a .before .is-missized .ensures) ∙ a .if2 .left) (c .before .before .before .before .before .before .before .if3 .left) (c .before .before .before .before .go-on .ensures)
+    let at-go-on = c .before .before .before .before in
+    let kind = at-go-on .before .before .before in
+    let sized = kind .before in
+    let at-mtu = sized .before .before in
+    step-continues _ _ _ _ (well-formed (past-6 (sized .before))) (at-mtu .before .before .data-length .ensures) (at-mtu .mtu .ensures) (right-size sized) (kind .if3 .left) (at-go-on .go-on .ensures)
 
 pub step-spec : {M : Type 1} → statement M
 step-spec =
     tie.close
     (tie.spec
-    find-stream-requires
-    is-malformed-requires
-    refused-closing-requires
-    same-length
-    returns
-    data-length-requires
-    mtu-requires
-    is-missized-requires
-    refused-closing-requires-2
-    same-length-2
-    returns-2
-    begin-requires
-    same-length-3
-    same-length-4
-    returns-3
-    go-on-requires
-    same-length-5
-    same-length-6
-    returns-4)
+    (λ c κs. search needs) (λ c κs. search needs)
+    refused-closing-requires (λ c. search needs) returns
+    data-length-requires (λ c κs. search needs) (λ c κs. search needs)
+    refused-closing-requires-2 (λ c. search needs) returns-2
+    begin-requires (λ c. search needs) (λ c. search needs) returns-3
+    go-on-requires (λ c. search needs) (λ c. search needs) returns-4)

@@ -9,7 +9,7 @@ use lib.Dec.{eqb}
 use borrow.Author.Tests.{eqb-false, eq-eqb, ne-eqb}
 use lib.Pow.{pow-mono, pow-pos, pow-add}
 use lib.Arith.{mod-mul}
-use Rattle.contexts.specs.Marks.{marked, allMarked}
+use Rattle.marks.specs.Marks.{marked, allMarked}
 
 -- one digit more: both digits and rest are greatest where the sum is
 one-more : (rest p digit : ℕ) → rest < p → digit < 2 → (eqb rest (p - 1) && eqb digit 1) ≡ eqb (digit * p + rest) (2 * p - 1)

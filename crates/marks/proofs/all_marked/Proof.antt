@@ -1,10 +1,10 @@
--- `contexts::all_marked` meets its contract: the marks of so many segments are one number, and the greatest is that of all.
+-- `marks::all_marked` meets its contract: the marks of so many segments are one number, and the greatest is that of all.
 use mathlib.Core.Path.{sym}
 use lib.Pow.{pow-pos}
 use borrow.Author.Needs.{needs}
-use Rattle.contexts.proofs.Marks.{all-greatest}
-use Rattle.contexts.proofs.all_marked.Statement.{statement}
-use Rattle.contexts.proofs.all_marked.Tie as tie
+use Rattle.marks.proofs.Marks.{all-greatest}
+use Rattle.marks.proofs.all_marked.Statement.{statement}
+use Rattle.marks.proofs.all_marked.Tie as tie
 
 power-requires : tie.Need-power-requires
 power-requires c κs = search needs

@@ -1,8 +1,8 @@
--- `contexts::power` meets its contract: a shift by at most 16 loses no bit.
-use Rattle.contexts.proofs.Marks.{power-fits}
+-- `marks::power` meets its contract: a shift by at most 16 loses no bit.
+use Rattle.marks.proofs.Marks.{power-fits}
 use borrow.Author.Needs.{needs}
-use Rattle.contexts.proofs.power.Statement.{statement}
-use Rattle.contexts.proofs.power.Tie as tie
+use Rattle.marks.proofs.power.Statement.{statement}
+use Rattle.marks.proofs.power.Tie as tie
 
 shl-result : tie.Need-shl-result
 shl-result c = search needs

@@ -1,9 +1,9 @@
--- `contexts::marked` meets its contract: a shift by k is a division by 2 to the k.
+-- `marks::marked` meets its contract: a shift by k is a division by 2 to the k.
 use mathlib.Core.Path.{refl}
-use Rattle.contexts.specs.Marks.{marked}
+use Rattle.marks.specs.Marks.{marked}
 use borrow.Author.Needs.{needs}
-use Rattle.contexts.proofs.marked.Statement.{statement}
-use Rattle.contexts.proofs.marked.Tie as tie
+use Rattle.marks.proofs.marked.Statement.{statement}
+use Rattle.marks.proofs.marked.Tie as tie
 
 cast-result : tie.Need-cast-result
 cast-result c = search needs

@@ -8,7 +8,7 @@ use native.Mathlib.Nat.{add-div-right, add-mul-div-right, div-div-eq-div-mul, po
 use lib.Dec.{eqb}
 use lib.Pow.{pow-pos, pow-add}
 use borrow.Author.Tests.{eqb-false, eq-eqb}
-use Rattle.contexts.specs.Marks.{marked}
+use Rattle.marks.specs.Marks.{marked}
 
 module _ (marks k : ℕ) where
   -- the digit at k, and those above it, with the mark
