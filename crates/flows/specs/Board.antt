@@ -8,6 +8,7 @@ use lib.ListN.{length, take, drop, replicate}
 use lib.Dec.{ltb}
 use Rattle.answers.specs.Answers as answers
 use Rattle.wire.specs.declared.Flow.{Flow}
+use Rattle.responses.specs.Type13.{responseSize}
 use Rattle.contexts.specs.State.{State, fresh, streamIn, flowContext}
 use Rattle.contexts.specs.Words.{stateOf, wordsOf}
 use Rattle.reading.specs.Read.{Left, lent, reading}
@@ -62,7 +63,7 @@ deliveredBy room memory (answers.wrote size) = []
 pub record Lends (room : ℕ) (streamMemory messageMemory response : List ℕ) : Type 0 where
   pub rooms : length streamMemory ≡ 16 * room
   pub boxes : length messageMemory ≡ 32768
-  pub reply : 7 ≤ length response
+  pub reply : responseSize ≤ length response
 
 -- a board that was just set up
 abbrev pub freshBoard : ℕ → ℕ → ℕ → List ℕ → List ℕ → List ℕ → Board
@@ -75,7 +76,7 @@ freshBoard device mtu room streamMemory messageMemory response = record {
 
 -- the board of document 01's examples and of its log program: device 1, MTU 32, R 2,048, memories of zeros and a response buffer of 7
 abbrev pub paperBoard : Board
-paperBoard = freshBoard 1 32 2048 (replicate 32768 0) (replicate 32768 0) (replicate 7 0)
+paperBoard = freshBoard 1 32 2048 (replicate 32768 0) (replicate 32768 0) (replicate responseSize 0)
 
 -- what a flow has on the board: closed (none), or the streamID and the bytes so far
 abbrev pub viewOf : State → List ℕ → Flow → Option PDU

@@ -6,6 +6,7 @@ use mathlib.Core.Bool.{Bool, true, false, cond, _&&_}
 use lib.ListN.{length}
 use lib.Dec.{eqb}
 use Rattle.lists.specs.Bytes.{byte, word}
+use Rattle.wire.specs.Packet.{header}
 use Rattle.answers.specs.Answers.{Said, held, delivered, message, refused, ready, closed, free, wrote}
 use Rattle.cutting.specs.declared.Heading.{Heading}
 use Rattle.cutting.specs.Cutting.{segmentCount, packetOf}
@@ -86,8 +87,8 @@ sameBytes (x ∷ xs) (y ∷ ys) = eqb x y && sameBytes xs ys
 -- a fact of the same kind, as it is for this packet at this board
 abbrev pub found : Board → List ℕ → Fact → Fact
 found b p (hasBytes n) = hasBytes (length p)
-found b p (byte6 n) = byte6 (byte p 6)
-found b p (lengthField n) = lengthField (word p 7)
+found b p (byte6 n) = byte6 (byte p (header + 1))
+found b p (lengthField n) = lengthField (word p (header + 2))
 found b p (delivers bytes) = delivers (deliveredBytes (after b p) (read b p .says))
 found b p (deliversNot bytes) = cond (sameBytes (deliveredBytes (after b p) (read b p .says)) bytes) (delivers bytes) (deliversNot bytes)
 found b p (response bytes) = response (after b p .response)

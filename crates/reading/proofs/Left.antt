@@ -9,6 +9,7 @@ use borrow.Author.Tests.{eq-eqb, le-ltb, eqb-true, ltb-false, not-false}
 use Rattle.answers.specs.Answers.{Said}
 use Rattle.answers.specs.declared.Reading.{Reading}
 use Rattle.tables.specs.Refusals.{all}
+use Rattle.responses.specs.Type13.{responseSize}
 use Rattle.contexts.specs.State.{State}
 use Rattle.contexts.specs.Words.{stateOf, stateWords}
 use Rattle.contexts.proofs.Words.{words-of}
@@ -35,14 +36,15 @@ message-left x says words memory response j z e =
     ap (λ (w : List ℕ). left says false w (x .streamMemory) memory response) (sym (words-of words z)) ∙ ap (ofMessage x) e
 
 -- row 12 passed
-pub sizes-right : (s : State) (streams messages response : List ℕ) → length streams ≡ 16 * s .room → length messages ≡ 32768 → 7 ≤ length response → wrongSizes s streams messages response ≡ false
+pub sizes-right : (s : State) (streams messages response : List ℕ) → length streams ≡ 16 * s .room → length messages ≡ 32768 → responseSize ≤ length response
+    → wrongSizes s streams messages response ≡ false
 unfolding wrongSizes
-sizes-right s streams messages response a b d = rw (eq-eqb (length streams) (16 * s .room) a, eq-eqb (length messages) 32768 b, le-ltb (length response) 7 d)
+sizes-right s streams messages response a b d = rw (eq-eqb (length streams) (16 * s .room) a, eq-eqb (length messages) 32768 b, le-ltb (length response) responseSize d)
 
 pub sizes-fit : (s : State) (streams messages response : List ℕ) → wrongSizes s streams messages response ≡ false
-    → (length streams ≡ 16 * s .room) × (length messages ≡ 32768) × (7 ≤ length response)
+    → (length streams ≡ 16 * s .room) × (length messages ≡ 32768) × (responseSize ≤ length response)
 unfolding wrongSizes
 sizes-fit s streams messages response e =
-    let a = neither (not (eqb (length streams) (16 * s .room)) || not (eqb (length messages) 32768)) (ltb (length response) 7) e in
+    let a = neither (not (eqb (length streams) (16 * s .room)) || not (eqb (length messages) 32768)) (ltb (length response) responseSize) e in
     let b = neither (not (eqb (length streams) (16 * s .room))) (not (eqb (length messages) 32768)) (a .0) in
-    (eqb-true (length streams) (16 * s .room) (not-false _ (b .0)), eqb-true (length messages) 32768 (not-false _ (b .1)), ltb-false (length response) 7 (a .1))
+    (eqb-true (length streams) (16 * s .room) (not-false _ (b .0)), eqb-true (length messages) 32768 (not-false _ (b .1)), ltb-false (length response) responseSize (a .1))

@@ -6,7 +6,7 @@ use mathlib.Core.Bool.{true, false, cond, not, _||_, _&&_}
 use lib.ListN.{length, drop}
 use borrow.Author.Tests.{eqb-true, eq-eqb, ne-eqb}
 use Rattle.lists.specs.Each.{Each}
-use Rattle.lists.proofs.Tests.{by-test}
+use Rattle.lists.proofs.Tests.{by-test, _and_}
 use Rattle.tables.specs.Refusals.{Row, Leaves, all, Verdict, refuse, accept, verdict}
 use Rattle.tables.proofs.Exactly.{every-row, none-held}
 use Rattle.tables.proofs.Joined.{orElse, verdict-joined}
@@ -36,7 +36,7 @@ flat x = by-row x 19 _ all _ ∙ rw (by-row x 12 (not (isState x) || wrongMemory
 -- every row of the head leaves all
 head-leaves : (device : ℕ) (p : List ℕ) → Each (λ (r : Row). r .leaves ≡ all) (headRows device p)
 unfolding headRows
-head-leaves device p = (refl, (refl, (refl, (refl, (refl, (refl, (refl, tt)))))))
+head-leaves device p = refl and refl and refl and refl and refl and refl and refl and tt
 
 module _ (x : Lent) (whole : length (x .words) ≡ stateWords) (fine : namedBy19 (stateIn x) ≡ false) where
   stream-typed : is9 (x .packet) ≡ true → outcome x (verdict (typedRows x)) ≡ byParsed x (Stream (segmentIn x))

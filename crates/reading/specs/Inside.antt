@@ -6,6 +6,7 @@ use mathlib.Core.Bool.{false}
 use lib.ListN.{length}
 use Rattle.answers.specs.Answers.{said, refused}
 use Rattle.answers.specs.declared.Reading.{Reading}
+use Rattle.responses.specs.Type13.{responseSize}
 use Rattle.contexts.specs.Words.{stateOf, stateWords}
 use Rattle.refusal19.specs.Refusal19.{namedBy19}
 
@@ -24,4 +25,4 @@ pub record Fit (words streams messages : List ℕ) : Type 0 where
 -- and a response buffer that 12 allows: what reading one packet may rely on
 pub record ReadyToRead (words streams messages response : List ℕ) : Type 0 where
   pub fit : Fit words streams messages
-  pub reply : 7 ≤ length response
+  pub reply : responseSize ≤ length response

@@ -10,6 +10,7 @@ use Rattle.wire.specs.declared.MessageSegment.{MessageSegment}
 use Rattle.wire.specs.Type9.{segmentOf}
 use Rattle.wire.specs.Type11.{messageOf}
 use Rattle.wire.specs.Head.{is9, is11, headRows}
+use Rattle.responses.specs.Type13.{responseSize}
 use Rattle.contexts.specs.State.{State}
 use Rattle.contexts.specs.Words.{stateOf, stateWords}
 use Rattle.refusal19.specs.Refusal19.{namedBy19}
@@ -40,9 +41,9 @@ messageSegmentIn x = messageOf (x .packet)
 abbrev pub isState : Lent → Bool
 isState x = eqb (length (x .words)) stateWords
 
--- 12: a stream memory that is not 16 R bytes long, a message memory that is not 32,768, or a response buffer under 7
+-- 12: a stream memory that is not 16 R bytes long, a message memory that is not 32,768, or a response buffer under 7, a response's size
 unfoldable pub wrongSizes : State → List ℕ → List ℕ → List ℕ → Bool
-wrongSizes s streamMemory messageMemory response = not (eqb (length streamMemory) (16 * s .room)) || not (eqb (length messageMemory) 32768) || ltb (length response) 7
+wrongSizes s streamMemory messageMemory response = not (eqb (length streamMemory) (16 * s .room)) || not (eqb (length messageMemory) 32768) || ltb (length response) responseSize
 
 abbrev pub wrongMemory : Lent → Bool
 wrongMemory x = wrongSizes (stateIn x) (x .streamMemory) (x .messageMemory) (x .response)

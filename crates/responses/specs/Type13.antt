@@ -6,6 +6,10 @@ use lib.Dec.{ltb}
 use Rattle.lists.specs.Bytes.{byte, written}
 use Rattle.wire.specs.Packet.{header, priority}
 
+-- its length: behind the IDs come two bytes
+abbrev pub responseSize : ℕ
+responseSize = header + 2
+
 -- status
 abbrev pub DONE : ℕ
 DONE = 0b0000
@@ -33,6 +37,6 @@ responseTo p status =
     ∷ byte p (header + 1)
     ∷ []
 
--- the response buffer after it: its first 7 bytes
+-- the response buffer after it: its first bytes are the response
 unfoldable pub answered : List ℕ → List ℕ → ℕ → List ℕ
 answered response p status = written response 0 (responseTo p status)

@@ -4,6 +4,7 @@ use mathlib.Core.Path.{_≡_}
 use mathlib.Core.List.{List, [], _∷_}
 use lib.ListN.{replicate}
 use Rattle.wire.specs.declared.Flow.{Flow}
+use Rattle.responses.specs.Type13.{responseSize}
 use Rattle.flows.specs.OneFlow.{pdu}
 use Rattle.flows.specs.Board.{delivery, freshBoard}
 use Rattle.sending.specs.Sending.{Sent, next, message, Sending, losses, packets, whole, deliveries, Fair}
@@ -58,4 +59,4 @@ pub record MixtureIsFair : Type 0 where
 
 -- and the endpoint, read packet by packet from a board that was just set up, delivers them
 abbrev pub MixtureDelivered : Type 0
-MixtureDelivered = deliveries (freshBoard 1 32 64 (replicate 1024 0) (replicate 32768 0) (replicate 7 0)) (packets 1 32 mixture) ≡ whole 1 32 mixture
+MixtureDelivered = deliveries (freshBoard 1 32 64 (replicate 1024 0) (replicate 32768 0) (replicate responseSize 0)) (packets 1 32 mixture) ≡ whole 1 32 mixture
