@@ -30,7 +30,7 @@ use Rattle.c_bursts.specs.declared.Burst.{Burst}
 use Rattle.log_records.specs.Records.{records, recordsOf}
 use Rattle.log_records.specs.Written.{writtenLog, AllShort}
 use Rattle.c_bursts.specs.Bursts.{Run, run, behind, turned, atEnd, isFull, atDelivery, answering, stopped, lentTable, roomFor, readBurst, BurstPromise}
-use Rattle.kaiverohm.specs.declared.Heading.{Heading}
+use Rattle.cutting.specs.declared.Heading.{Heading}
 use Rattle.kaiverohm.specs.Exports.{SetupFromCPromise, ReadFromCPromise, AbandonStreamFromCPromise, AbandonMessageFromCPromise, WriteFromCPromise}
 
 -- ---- What a report says of the response is what reading wrote there.

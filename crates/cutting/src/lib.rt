@@ -8,12 +8,14 @@ ghost use Rattle.lists.specs.Bytes.{high, low, written};
 ghost use Rattle.wire.specs.Packet.{header};
 ghost use Rattle.cutting.specs.Cutting.{badSize, segmentCount, flagsOf, padOf};
 
-// Who sends to whom, under which class of service, stream and priority.
+// Who sends to whom, under which stream, class of service and priority. Callers in C lend it too: its fields stand in the order of
+// include/kaiverohm.h.
+#[repr(C)]
 pub struct Heading {
     pub destination: u16,
     pub source: u16,
-    pub cos: u8,
     pub stream: u16,
+    pub cos: u8,
     pub priority: u8,
 }
 
