@@ -12,7 +12,7 @@ use Rattle.tables.proofs.Exactly.{none-held}
 use Rattle.wire.specs.Packet.{packetType}
 use Rattle.wire.specs.Type11.{isSingle}
 use Rattle.wire.specs.Head.{is9, is11, headRows}
-use Rattle.responses.specs.Type13.{DONE, ERROR, RETRY, answered}
+use Rattle.responses.specs.Type13.{responseSize, DONE, ERROR, RETRY, answered}
 use Rattle.contexts.specs.State.{freeMessage}
 use Rattle.stream_rooms.specs.Placing as streamRoom
 use Rattle.streams.specs.Joining as stream
@@ -61,15 +61,15 @@ module _ (x : Lent) where
   quiet : (n : ℕ) → n ≡ 0 → Reply x n (x .response)
   quiet n e = rw e silent
 
-  spoke : (n status : ℕ) → n ≡ 7 → Reply x n (answered (x .response) (x .packet) status)
+  spoke : (n status : ℕ) → n ≡ responseSize → Reply x n (answered (x .response) (x .packet) status)
   spoke n status e = rw e (answers status)
 
   by-leaves : (number : ℕ) (leaves : Leaves) → not (ltb number 20) ≡ answersBy leaves → Reply x (responseOf (leaving x number leaves .says) (x .packet)) (leaving x number leaves .response)
   unfolding stream.refusedClosing
-  by-leaves number all f = quiet _ (ap (λ (b : Bool). cond b 0 7) (not-false (ltb number 20) f))
-  by-leaves number flowClosed f = quiet _ (ap (λ (b : Bool). cond b 0 7) (not-false (ltb number 20) f))
-  by-leaves number allERROR f = spoke _ ERROR (ap (λ (b : Bool). cond b 0 7) (not-so (ltb number 20) f))
-  by-leaves number allRETRY f = spoke _ RETRY (ap (λ (b : Bool). cond b 0 7) (not-so (ltb number 20) f))
+  by-leaves number all f = quiet _ (ap (λ (b : Bool). cond b 0 responseSize) (not-false (ltb number 20) f))
+  by-leaves number flowClosed f = quiet _ (ap (λ (b : Bool). cond b 0 responseSize) (not-false (ltb number 20) f))
+  by-leaves number allERROR f = spoke _ ERROR (ap (λ (b : Bool). cond b 0 responseSize) (not-so (ltb number 20) f))
+  by-leaves number allRETRY f = spoke _ RETRY (ap (λ (b : Bool). cond b 0 responseSize) (not-so (ltb number 20) f))
 
   -- a type 9 packet is no message
   no-message : is9 (x .packet) ≡ true → isMessage (x .packet) ≡ false
@@ -82,7 +82,7 @@ module _ (x : Lent) where
   stream-quiet t =
       by-test (segmentIn x .ends)
       (λ e. rw e silent)
-      (λ e. rw e (quiet _ (ap (λ (b : Bool). cond b 7 0) (no-message t))))
+      (λ e. rw e (quiet _ (ap (λ (b : Bool). cond b responseSize 0) (no-message t))))
 
   module _ (m : isMessage (x .packet) ≡ true) where
     placed-answers : (n marks last : ℕ)
@@ -91,7 +91,7 @@ module _ (x : Lent) where
     placed-answers n marks last =
         by-test (messageRoom.complete (messageSegmentIn x) (messageRoom.marksWith (messageSegmentIn x) marks))
         (λ e. rw e (answers DONE))
-        (λ e. rw e (spoke _ DONE (ap (λ (b : Bool). cond b 7 0) m)))
+        (λ e. rw e (spoke _ DONE (ap (λ (b : Bool). cond b responseSize 0) m)))
 
     message-answers : Reply x (responseOf (joined.messageAccepted (stateIn x) (x .messageMemory) (x .response) (x .packet) (messageSegmentIn x) .says) (x .packet)) (joined.messageAccepted (stateIn x) (x .messageMemory) (x .response) (x .packet) (messageSegmentIn x) .response)
     unfolding joined.messageAccepted joined.deliveredAtOnce

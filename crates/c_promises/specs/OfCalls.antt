@@ -30,7 +30,7 @@ use Rattle.c_bursts.specs.declared.Burst.{Burst}
 use Rattle.log_records.specs.Records.{records, recordsOf}
 use Rattle.log_records.specs.Written.{writtenLog, AllShort}
 use Rattle.c_bursts.specs.Bursts.{Run, run, behind, turned, atEnd, isFull, atDelivery, answering, stopped, lentTable, roomFor, readBurst, BurstPromise}
-use Rattle.kaiverohm.specs.declared.Heading.{Heading}
+use Rattle.cutting.specs.declared.Heading.{Heading}
 use Rattle.kaiverohm.specs.Exports.{SetupFromCPromise, ReadFromCPromise, AbandonStreamFromCPromise, AbandonMessageFromCPromise, WriteFromCPromise}
 
 -- ---- What a report says of the response is what reading wrote there.
@@ -38,7 +38,7 @@ use Rattle.kaiverohm.specs.Exports.{SetupFromCPromise, ReadFromCPromise, Abando
 -- the bytes of response that a report names, and the response buffer as it is left: none and as it was, or seven and a response to the packet
 pub data Reply (x : Lent) : ℕ → List ℕ → Type 0 where
   silent : Reply x 0 (x .response)
-  answers : (status : ℕ) → Reply x 7 (answered (x .response) (x .packet) status)
+  answers : (status : ℕ) → Reply x responseSize (answered (x .response) (x .packet) status)
 
 abbrev pub ReportsReply : Type 0
 ReportsReply = (x : Lent) → Reply x (responseOf (reading x .says) (x .packet)) (reading x .response)
@@ -82,7 +82,7 @@ reportDelivers R streamMemory report =
 pub data ReadsFromC : Board → List (List ℕ) → List Delivery → Type 0 where
   no-more : {b : Board} → ReadsFromC b [] []
   one-more : {b : Board} {p : List ℕ} {ps : List (List ℕ)} {ds : List Delivery} (r : Report) (given words streamMemory messageMemory response : List ℕ)
-      → 7 ≤ length given
+      → responseSize ≤ length given
       → ReadFromCPromise (lent (b .words) (b .streamMemory) (b .messageMemory) given p) r words streamMemory messageMemory response
       → ReadsFromC (record { words = words; streamMemory = streamMemory; messageMemory = messageMemory; response = response }) ps ds
       → ReadsFromC b (p ∷ ps) (reportDelivers (stateOf words .setup .room) streamMemory (wordsOfReport r) ++ ds)
@@ -163,7 +163,7 @@ pub data Bursts : Board → List ℕ → List Delivery → Type 0 where
 
 -- such calls can be made, over the packets of that sending; and these deliver what is whole of it
 abbrev pub PausedBurstsNotEmpty : Type 0
-PausedBurstsNotEmpty = Bursts (freshBoard 1 32 64 (replicate 1024 0) (replicate 32768 0) (replicate 7 0)) (writtenLog (packets 1 32 mixture)) (whole 1 32 mixture)
+PausedBurstsNotEmpty = Bursts (freshBoard 1 32 64 (replicate 1024 0) (replicate 32768 0) (replicate responseSize 0)) (writtenLog (packets 1 32 mixture)) (whole 1 32 mixture)
 
 -- over a burst of written records these are calls for each packet
 abbrev pub PausedBurstsAreReads : Type 0

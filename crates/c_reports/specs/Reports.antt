@@ -5,6 +5,7 @@ use mathlib.Core.Bool.{Bool, cond}
 use lib.Dec.{eqb, ltb}
 use Rattle.answers.specs.Answers.{Said, held, delivered, message, refused, ready, closed, free, wrote}
 use Rattle.wire.specs.Packet.{packetType}
+use Rattle.responses.specs.Type13.{responseSize}
 use Rattle.c_reports.specs.declared.Report.{Report}
 use Rattle.c_reports.specs.declared.Numbers.{Numbers}
 
@@ -40,10 +41,10 @@ isMessage packet = eqb (packetType packet) 11
 
 -- the bytes of response that reading the packet wrote: every message segment that is accepted, or refused by 20 to 25, has one
 abbrev pub responseOf : Said → List ℕ → ℕ
-responseOf held packet = cond (isMessage packet) 7 0
+responseOf held packet = cond (isMessage packet) responseSize 0
 responseOf (delivered context source cos stream size) packet = 0
-responseOf (message context source letter mailbox size) packet = 7
-responseOf (refused number) packet = cond (ltb number 20) 0 7
+responseOf (message context source letter mailbox size) packet = responseSize
+responseOf (refused number) packet = cond (ltb number 20) 0 responseSize
 -- reading says none of these
 responseOf ready packet = 0
 responseOf closed packet = 0

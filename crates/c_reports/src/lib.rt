@@ -14,9 +14,6 @@ ghost use Rattle.c_reports.specs.Reports.{isMessage, responseOf, flagOf,
 // The words of a report.
 pub const WORDS: usize = 9;
 
-// The bytes of a response.
-pub const RESPONSE: usize = 7;
-
 // Kind, refusal number, 1 where an open PDU was dropped, bytes of response written, context, source, cos or letter, streamID or mailbox, length.
 #[repr(C)]
 pub struct Report {
@@ -48,7 +45,7 @@ fn response_of(answer: Answer, packet: &[u8]) -> usize
     match answer {
         Answer::Held => {
             if is_message(packet) {
-                return RESPONSE;
+                return responses::SIZE;
             }
             0
         }
@@ -65,12 +62,12 @@ fn response_of(answer: Answer, packet: &[u8]) -> usize
             letter: _,
             mailbox: _,
             length: _,
-        } => RESPONSE,
+        } => responses::SIZE,
         Answer::Refused(number) => {
             if number < 20 {
                 return 0;
             }
-            RESPONSE
+            responses::SIZE
         }
     }
 }

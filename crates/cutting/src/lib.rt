@@ -5,14 +5,17 @@ ghost use mathlib.Core.List.{[], _∷_, _++_};
 ghost use Prim.Native.Nat.{_+_, _-_, _*_, _%_, min, _<_, _≤_};
 ghost use lib.ListN.{length};
 ghost use Rattle.lists.specs.Bytes.{high, low, written};
+ghost use Rattle.wire.specs.Packet.{header};
 ghost use Rattle.cutting.specs.Cutting.{badSize, segmentCount, flagsOf, padOf};
 
-// Who sends to whom, under which class of service, stream and priority.
+// Who sends to whom, under which stream, class of service and priority. Callers in C lend it too: its fields stand in the order of
+// include/kaiverohm.h.
+#[repr(C)]
 pub struct Heading {
     pub destination: u16,
     pub source: u16,
-    pub cos: u8,
     pub stream: u16,
+    pub cos: u8,
     pub priority: u8,
 }
 
@@ -46,17 +49,22 @@ pub fn data_length(mtu: usize, size: usize, from: usize) -> usize
     size - from
 }
 
-// How many bytes stand before the data. With S or E two of them are a field.
+// The head of a continuation ends with byte 6; with S or E a field of two bytes follows.
+const PLAIN: usize = wire::HEADER + 2;
+
+const FIELDED: usize = wire::HEADER + 4;
+
+// How many bytes stand before the data.
 pub fn head_length(first: bool, last: bool) -> usize
-    ensures { λ r. ⌜ (r ≡ cond first 9 (cond last 9 7)) × (r ≤ 9) ⌝ }
+    ensures { λ r. ⌜ (r ≡ cond first (header + 4) (cond last (header + 4) (header + 2))) × (r ≤ header + 4) ⌝ }
 {
     if first {
-        return 9;
+        return FIELDED;
     }
     if last {
-        return 9;
+        return FIELDED;
     }
-    7
+    PLAIN
 }
 
 // What bytes 7-8 say: the streamID with S, else the PDU length.
@@ -90,7 +98,7 @@ pub fn flags(first: bool, last: bool, n: usize) -> u8
 }
 
 // Bytes 0 to 8. A continuation has the first seven. Every caller has tested the priority.
-pub fn head_of(heading: Heading, flags: u8, field: usize) -> [u8; 9]
+pub fn head_of(heading: Heading, flags: u8, field: usize) -> [u8; FIELDED]
     requires { ⌜ heading .priority ≤ 3 ⌝ }
     ensures { λ r. ⌜
         r

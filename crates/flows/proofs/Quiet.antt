@@ -11,8 +11,8 @@ use Rattle.lists.proofs.Written.{length-written}
 use Rattle.answers.specs.Answers as answers
 use Rattle.wire.specs.declared.MessageSegment.{MessageSegment}
 use Rattle.sizes.specs.Sizes.{bytesOf}
-use Rattle.wire.specs.Type11.{isSingle, mailbox}
-use Rattle.responses.specs.Type13.{ERROR, RETRY}
+use Rattle.wire.specs.Type11.{messageDataFrom, isSingle, mailbox}
+use Rattle.responses.specs.Type13.{responseSize, ERROR, RETRY}
 use Rattle.sizes.proofs.Laws.{bytes-le}
 use Rattle.rules.specs.Messages.{judged, lastWith}
 use Rattle.rules.proofs.Laws.{sound}
@@ -35,7 +35,8 @@ pub record Quiet (s : State) (memory response : List ℕ) (j : MessageJoined) : 
   pub reply : length (j .response) ≡ length response
   pub tells : (room : ℕ) (streams : List ℕ) → deliveredBy room streams (j .says) ≡ []
 
-module _ (s : State) (memory response p : List ℕ) (m : MessageSegment) (size : length memory ≡ 32768) (reply : 7 ≤ length response) (whole : 7 + m .raw ≡ length p) (number : m .msgseg < 16) where
+module _ (s : State) (memory response p : List ℕ) (m : MessageSegment)
+    (size : length memory ≡ 32768) (reply : responseSize ≤ length response) (whole : messageDataFrom + m .raw ≡ length p) (number : m .msgseg < 16) where
   quiet-refused : (code status : ℕ) → Quiet s memory response (refusedWith s memory response p code status)
   unfolding refusedWith
   quiet-refused code status = record {
@@ -49,7 +50,7 @@ module _ (s : State) (memory response p : List ℕ) (m : MessageSegment) (size :
 
   -- the data end with the packet
   data-length : length (messageData p) ≡ m .raw
-  data-length = length-drop 7 p ∙ omega arith
+  data-length = length-drop messageDataFrom p ∙ omega arith
 
   module _ (fits : m .raw ≤ bytesOf (m .ssize)) (n : ℕ) (lt : n < 8) where
     quiet-alone : Quiet s memory response (deliveredAtOnce s memory response p m n)

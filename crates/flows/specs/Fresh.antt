@@ -6,9 +6,11 @@ use mathlib.Core.Bool.{false}
 use Prim.Native.Nat.{ℕ}
 use lib.ListN.{length, replicate}
 use Rattle.sizes.specs.Sizes.{badMTU}
-use Rattle.contexts.specs.State.{Setup, fixed, fresh}
+use Rattle.responses.specs.Type13.{responseSize}
+use Rattle.contexts.specs.State.{Setup, fixed, fresh, streamContexts}
 use Rattle.contexts.specs.Words.{wordsOf}
 use Rattle.refusal19.specs.Refusal19.{badRoom}
+use Rattle.message_rooms.specs.Placing.{messageMemoryBytes}
 use Rattle.reading.specs.Desk.{Desk, desk}
 
 -- numbers that setup takes: a device ID of 16 bits, an MTU that 18 allows, an R that 19 allows
@@ -19,9 +21,9 @@ pub record Allowed (setup : Setup) : Type 0 where
 
 -- memories that 12 allows, whatever is in them
 pub record Lends (setup : Setup) (d : Desk) : Type 0 where
-  pub rooms : length (d .streamMemory) ≡ 16 * setup .room
-  pub boxes : length (d .messageMemory) ≡ 32768
-  pub reply : 7 ≤ length (d .response)
+  pub rooms : length (d .streamMemory) ≡ streamContexts * setup .room
+  pub boxes : length (d .messageMemory) ≡ messageMemoryBytes
+  pub reply : responseSize ≤ length (d .response)
 
 -- setup was ready, and the memories fit
 pub record Fresh (setup : Setup) (d : Desk) : Type 0 where
@@ -34,7 +36,7 @@ freshDesk setup streamMemory messageMemory response = desk (wordsOf (fresh setup
 
 -- a fresh desk with memories of zeros and a response buffer of 7
 abbrev pub zeroDesk : Setup → Desk
-zeroDesk setup = freshDesk setup (replicate (16 * setup .room) 0) (replicate 32768 0) (replicate 7 0)
+zeroDesk setup = freshDesk setup (replicate (streamContexts * setup .room) 0) (replicate messageMemoryBytes 0) (replicate responseSize 0)
 
 -- the setup of document 01's examples and of its log program: device 1, MTU 32, R 2,048
 abbrev pub paperSetup : Setup

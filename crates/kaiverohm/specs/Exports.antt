@@ -6,12 +6,11 @@ use mathlib.Core.List.{List}
 use Rattle.reading.specs.Table.{Lent}
 use Rattle.reading.specs.Read.{reading}
 use Rattle.endpoint.specs.Calls.{setup, abandonStream, abandonMessage}
-use Rattle.cutting.specs.declared.Heading as cut
+use Rattle.cutting.specs.declared.Heading.{Heading}
 use Rattle.segments.specs.Writer.{writing}
 use Rattle.c_reports.specs.declared.Numbers.{Numbers}
 use Rattle.c_reports.specs.declared.Report.{Report}
 use Rattle.c_reports.specs.Reports.{numbersOf, reportOf}
-use Rattle.kaiverohm.specs.declared.Heading.{Heading}
 
 -- the promise of `kaiverohm_setup`
 pub record SetupFromCPromise (words : List ℕ) (device mtu room : ℕ) (r : Numbers) (after : List ℕ) : Type 0 where
@@ -35,14 +34,10 @@ pub record AbandonMessageFromCPromise (words : List ℕ) (n : ℕ) (r : Numbers)
   pub answer : r ≡ numbersOf (abandonMessage words n .says)
   pub state : after ≡ abandonMessage words n .words
 
--- the head of a segment, from C's fields
-abbrev pub headingOf : Heading → cut.Heading
-headingOf h = record { destination = h .destination; source = h .source; cos = h .cos; stream = h .stream; priority = h .priority }
-
 -- the promise of `kaiverohm_write_segment`
 pub record WriteFromCPromise (out : List ℕ) (h : Heading) (mtu : ℕ) (pdu : List ℕ) (k : ℕ) (r : Numbers) (after : List ℕ) : Type 0 where
-  pub answer : r ≡ numbersOf (writing out (headingOf h) mtu pdu k .says)
-  pub packet : after ≡ writing out (headingOf h) mtu pdu k .out
+  pub answer : r ≡ numbersOf (writing out h mtu pdu k .says)
+  pub packet : after ≡ writing out h mtu pdu k .out
 
 -- The others hand on what their callees promise: `LengthPromise` (endpoint/specs/Calls.antt), `CountPromise` (segments/specs/Writer.antt),
 -- `StreamPlacePromise` and `MessagePlacePromise` (c_places/specs/Places.antt), `BurstPromise` (c_bursts/specs/Bursts.antt).

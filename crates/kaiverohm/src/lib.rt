@@ -4,22 +4,13 @@ use c_bursts::Burst;
 use c_places::Place;
 use c_reports::Numbers;
 use c_reports::Report;
+use cutting::Heading;
 ghost use Rattle.reading.specs.Read.{lent};
 ghost use Rattle.endpoint.specs.Calls.{LengthPromise};
 ghost use Rattle.segments.specs.Writer.{CountPromise};
 ghost use Rattle.c_places.specs.Places.{StreamPlacePromise, MessagePlacePromise};
 ghost use Rattle.c_bursts.specs.Bursts.{run, BurstPromise};
 ghost use Rattle.kaiverohm.specs.Exports.{SetupFromCPromise, ReadFromCPromise, AbandonStreamFromCPromise, AbandonMessageFromCPromise, WriteFromCPromise};
-
-// What the segment writer writes in the head of each packet.
-#[repr(C)]
-pub struct Heading {
-    pub destination: u16,
-    pub source: u16,
-    pub stream: u16,
-    pub cos: u8,
-    pub priority: u8,
-}
 
 // The words of a state.
 #[no_mangle]
@@ -132,12 +123,5 @@ pub extern "C" fn kaiverohm_write_segment(
 ) -> Numbers
     ensures { λ r. ⌜ WriteFromCPromise (now (out .entry)) heading mtu (now (pdu .entry)) number r (now (out .exit)) ⌝ }
 {
-    let head = cutting::Heading {
-        destination: heading.destination,
-        source: heading.source,
-        cos: heading.cos,
-        stream: heading.stream,
-        priority: heading.priority,
-    };
-    c_reports::of_writer(segments::write_segment(out, head, mtu, pdu, number))
+    c_reports::of_writer(segments::write_segment(out, heading, mtu, pdu, number))
 }

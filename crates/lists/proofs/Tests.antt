@@ -2,6 +2,11 @@
 use mathlib.Core.Path.{_≡_, refl}
 use mathlib.Core.Bool.{Bool, true, false, cond, not, _||_, _&&_, false≢true, true≢false}
 
+-- a fact and others, in a chain without parentheses
+infixr 10 _and_
+pub _and_ : {A B : Type 0} → A → B → A × B
+a and b = (a, b)
+
 -- by cases
 pub by-test : {P : Type 0} (b : Bool) → (b ≡ true → P) → (b ≡ false → P) → P
 by-test true yes-case no-case = yes-case refl

@@ -13,7 +13,7 @@ fn print_runs(log: &[u8]) -> usize
     let mut state = [0usize; 147];
     let mut streams = [0u8; 32768];
     let mut messages = [0u8; 32768];
-    let mut response = [0u8; 7];
+    let mut response = [0u8; responses::SIZE];
     let mut out = [0u8; 65536];
     endpoint::setup(&mut state, 1, 32, 2048);
     let mut at = 0;

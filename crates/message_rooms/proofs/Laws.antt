@@ -10,6 +10,7 @@ use lib.Pow.{pow-mono}
 use Rattle.lists.specs.Bytes.{written}
 use Rattle.answers.specs.Answers.{Said}
 use Rattle.wire.specs.declared.MessageSegment.{MessageSegment}
+use Rattle.wire.specs.Type11.{messageDataFrom}
 use Rattle.sizes.specs.Sizes.{bytesOf}
 use Rattle.responses.specs.Type13.{DONE, answered}
 use Rattle.contexts.specs.State.{State, messageContexts}
@@ -37,15 +38,15 @@ marks-le marks msglen h m =
 -- ---- what the stores and the context make
 
 -- all behind the head
-pub data-whole : (p : List ℕ) → take (length p - 7) (drop 7 p) ≡ messageData p
-data-whole p = take-all (length p - 7) (drop 7 p) (simp length-drop (omega arith))
+pub data-whole : (p : List ℕ) → take (length p - messageDataFrom) (drop messageDataFrom p) ≡ messageData p
+data-whole p = take-all (length p - messageDataFrom) (drop messageDataFrom p) (simp length-drop (omega arith))
 
 pub placing : (s : State) (memory response p : List ℕ) (m : MessageSegment) (n marks last size marks′ last′ : ℕ) (says : Said) (state : State) (memory′ response′ : List ℕ)
     → size ≡ bytesOf (m .ssize)
     → marks′ ≡ marksWith m marks
     → last′ ≡ lastWith m last
     → MessageKept s m n marks′ last′ says state
-    → memory′ ≡ written memory (n * messageRoomBytes + m .msgseg * size) (take (length p - 7) (drop 7 p))
+    → memory′ ≡ written memory (n * messageRoomBytes + m .msgseg * size) (take (length p - messageDataFrom) (drop messageDataFrom p))
     → response′ ≡ answered response p DONE
     → messageJoining says state memory′ response′ ≡ messagePlaced s memory response p m n marks last
 unfolding messagePlaced

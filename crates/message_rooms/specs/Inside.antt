@@ -6,8 +6,8 @@ use mathlib.Core.Bool.{false}
 use lib.ListN.{length}
 use Rattle.answers.specs.Answers.{Said, refused}
 use Rattle.wire.specs.declared.MessageSegment.{MessageSegment}
-use Rattle.wire.specs.Type11.{isSingle}
-use Rattle.responses.specs.Type13.{answered}
+use Rattle.wire.specs.Type11.{messageDataFrom, isSingle}
+use Rattle.responses.specs.Type13.{responseSize, answered}
 use Rattle.contexts.specs.State.{State, withMessage, messageContexts}
 use Rattle.contexts.specs.Words.{stateOf, stateWords}
 use Rattle.marks.specs.Marks.{marked}
@@ -19,8 +19,8 @@ pub record MessageReady (words memory response packet : List ℕ) (m : MessageSe
   pub whole : length words ≡ stateWords
   pub good : namedBy19 (stateOf words) ≡ false
   pub size : length memory ≡ messageMemoryBytes
-  pub reply : 7 ≤ length response
-  pub inside : 7 + m .raw ≡ length packet
+  pub reply : responseSize ≤ length response
+  pub inside : messageDataFrom + m .raw ≡ length packet
   pub segments : m .msglen < 16
   pub number : m .msgseg < 16
   pub boxes : m .mbox < 4

@@ -2,10 +2,11 @@
 use answers::Answer;
 use wire::MessageSegment;
 ghost use mathlib.Core.Path.{_≡_};
-ghost use Prim.Native.Nat.{_<_, _≤_};
+ghost use Prim.Native.Nat.{_+_, _<_, _≤_};
 ghost use lib.ListN.{length};
 ghost use Rattle.answers.specs.Answers.{said};
-ghost use Rattle.responses.specs.Type13.{DONE, answered};
+ghost use Rattle.wire.specs.Packet.{header};
+ghost use Rattle.responses.specs.Type13.{responseSize, DONE, answered};
 ghost use Rattle.contexts.specs.State.{messageContexts};
 ghost use Rattle.contexts.specs.Words.{stateOf, stateWords};
 ghost use Rattle.rules.specs.Inside.{Sound};
@@ -17,18 +18,18 @@ pub const ROOM: usize = 4096;
 
 pub const MEMORY: usize = contexts::MESSAGE_CONTEXTS * ROOM;
 
-// A refusal: its response is written, and nothing else. Every caller has a buffer of 7 bytes, a packet of 7 and a status.
+// A refusal: its response is written, and nothing else. Every caller has a buffer for it, a packet with its head and a status.
 pub fn refuse(response: &mut [u8], packet: &[u8], number: usize, status: u8) -> Answer
-    requires { ⌜ (7 ≤ length (now response)) × (7 ≤ length (now packet)) × (status < 16) ⌝ }
+    requires { ⌜ (responseSize ≤ length (now response)) × (header + 2 ≤ length (now packet)) × (status < 16) ⌝ }
     ensures { λ r. ⌜ Replied (now (response .entry)) (now (packet .entry)) number status (said r) (now (response .exit)) ⌝ }
 {
     responses::respond(response, packet, status);
     Answer::Refused(number)
 }
 
-// An accepted segment: its response is DONE. Every caller has a buffer of 7 bytes and a packet of 7.
+// An accepted segment: its response is DONE. Every caller has a buffer for it and a packet with its head.
 pub fn done(response: &mut [u8], packet: &[u8])
-    requires { ⌜ (7 ≤ length (now response)) × (7 ≤ length (now packet)) ⌝ }
+    requires { ⌜ (responseSize ≤ length (now response)) × (header + 2 ≤ length (now packet)) ⌝ }
     ensures { λ _. ⌜ now (response .exit) ≡ answered (now (response .entry)) (now (packet .entry)) DONE ⌝ }
 {
     responses::respond(response, packet, responses::DONE);

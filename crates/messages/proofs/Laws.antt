@@ -10,7 +10,7 @@ use borrow.Author.Tests.{lt-ltb, le-ltb, eq-eqb, ne-eqb, eqb-true, not-false}
 use Rattle.lists.specs.Bytes.{written}
 use Rattle.answers.specs.Answers.{Said, message}
 use Rattle.wire.specs.declared.MessageSegment.{MessageSegment}
-use Rattle.wire.specs.Type11.{isSingle, mailbox}
+use Rattle.wire.specs.Type11.{messageDataFrom, isSingle, mailbox}
 use Rattle.sizes.specs.Sizes.{bytesOf, inEights}
 use Rattle.responses.specs.Type13.{ERROR, RETRY, DONE, answered}
 use Rattle.sizes.proofs.Laws.{bytes-le, eights-le}
@@ -142,7 +142,7 @@ module _ (s : State) (memory response p : List ℕ) (m : MessageSegment) where
 pub taking : (s : State) (memory response p : List ℕ) (m : MessageSegment) (n box : ℕ) (state : State) (memory′ response′ : List ℕ)
     → box ≡ mailbox m
     → state ≡ withMessage s n closedMessage
-    → memory′ ≡ written memory (n * messageRoomBytes) (take (length p - 7) (drop 7 p))
+    → memory′ ≡ written memory (n * messageRoomBytes) (take (length p - messageDataFrom) (drop messageDataFrom p))
     → response′ ≡ answered response p DONE
     → messageJoining (message n (m .source) (m .letter) box (m .raw)) state memory′ response′ ≡ deliveredAtOnce s memory response p m n
 unfolding deliveredAtOnce

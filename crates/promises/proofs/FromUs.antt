@@ -15,12 +15,12 @@ use Rattle.wire.specs.Head.{is9, is11, headRows}
 use Rattle.responses.specs.Type13.{responseTo, answered}
 use Rattle.reading.specs.Table.{Lent, stateIn, table}
 use Rattle.reading.specs.Read.{reading, outcome, accepting}
-use Rattle.lists.proofs.Tests.{by-test}
+use Rattle.lists.proofs.Tests.{by-test, _and_}
 use Rattle.wire.proofs.Head.{one-type}
 use Rattle.reading.proofs.Kept.{other-type}
 use Rattle.lists.specs.Each.{Each}
 use Rattle.promises.specs.Statements.{statusOf, responseLeft, ResponsesFromUs}
-use Rattle.promises.proofs.Status.{_and_, writes, nothing-written, refused-so, stream-silent, said-status, responses-exactly}
+use Rattle.promises.proofs.Status.{writes, nothing-written, refused-so, stream-silent, said-status, responses-exactly}
 
 -- rows that leave all decide, or their tests fail
 past-quiet : (earlier later : List Row) → Each (λ (r : Row). r .leaves ≡ all) earlier → ((number : ℕ) × (verdict (earlier ++ later) ≡ refuse number all)) ⊎ none earlier

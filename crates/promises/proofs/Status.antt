@@ -20,7 +20,7 @@ use Rattle.messages.specs.Rows.{messageOpen}
 use Rattle.refusal19.proofs.Good.{both}
 use Rattle.reading.specs.Table.{Lent, stateIn, segmentIn, messageSegmentIn, table}
 use Rattle.reading.specs.Read.{reading, outcome, leaving, accepting}
-use Rattle.lists.proofs.Tests.{by-test}
+use Rattle.lists.proofs.Tests.{by-test, _and_}
 use Rattle.wire.proofs.Head.{one-type}
 use Rattle.reading.proofs.Kept.{other-type}
 use Rattle.lists.specs.Each.{Each}
@@ -28,11 +28,6 @@ use Rattle.promises.specs.Statements.{statuses, statusIn, statusOf, resp
 use Rattle.promises.proofs.Exactly.{chosen, number-said}
 
 -- ---- The table's rows
-
--- of one, and of the others
-infixr 10 _and_
-pub _and_ : {A B : Type 0} → A → B → A × B
-a and b = (a, b)
 
 -- what a row's last column writes
 abbrev pub writes : Leaves → Option ℕ

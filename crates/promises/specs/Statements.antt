@@ -18,14 +18,14 @@ use lib.Dec.{eqb}
 use lib.ListN.{length, take, replicate}
 use denote.Ref.{RefT, now}
 use Rattle.lists.specs.Bytes.{byte, written}
-use Rattle.wire.specs.Packet.{priority, tt, packetType, destination, source}
+use Rattle.wire.specs.Packet.{header, priority, tt, packetType, destination, source}
 use Rattle.wire.specs.declared.Flow.{Flow}
 use Rattle.wire.specs.declared.Parsed.the-variants.{Refused, Stream, Message}
 use Rattle.wire.specs.Type9.{segmentOf}
 use Rattle.wire.specs.Type11.{messageOf}
 use Rattle.wire.specs.Parsed.{parsed}
 use Rattle.wire.specs.Head.{is9, is11, headRows}
-use Rattle.responses.specs.Type13.{DONE, RETRY, ERROR, above, responseTo, answered}
+use Rattle.responses.specs.Type13.{responseSize, DONE, RETRY, ERROR, above, responseTo, answered}
 use Rattle.cutting.specs.Cutting.{packetOf}
 use Rattle.flows.specs.OneFlow.{pdu}
 use Rattle.flows.specs.Board.{Board, Delivery, delivery, deliveredBy, Lends, freshBoard}
@@ -176,7 +176,7 @@ ResponsesFromUs = (x : Lent) (status : ℕ) → statusOf x (reading x .says) ≡
 -- the response buffer decides nothing: with any two of 7 or more bytes a packet is answered the same and leaves the same, but for the response itself
 abbrev pub ResponseBufferDecidesNothing : Type 0
 ResponseBufferDecidesNothing =
-    (words streamMemory messageMemory response response′ packet : List ℕ) → 7 ≤ length response → 7 ≤ length response′
+    (words streamMemory messageMemory response response′ packet : List ℕ) → responseSize ≤ length response → responseSize ≤ length response′
     → butResponse (reading (lent words streamMemory messageMemory response packet)) ≡ butResponse (reading (lent words streamMemory messageMemory response′ packet))
 
 -- ---- Good states: setup makes one, and reading (of a packet whose items are bytes) and abandoning leave one.
@@ -257,7 +257,7 @@ pub record Fresh (mtu R : ℕ) (streamMemory messageMemory response : List ℕ) 
 
 -- there are such boards
 abbrev pub FreshNotEmpty : Type 0
-FreshNotEmpty = Fresh 32 64 (replicate 1024 0) (replicate 32768 0) (replicate 7 0)
+FreshNotEmpty = Fresh 32 64 (replicate 1024 0) (replicate 32768 0) (replicate responseSize 0)
 
 -- the writer makes the packets of the layout, byte for byte
 abbrev pub WriterMakes : Type 0
@@ -278,14 +278,14 @@ Demand2 =
 
 -- every response to a message is of type 13 with the request's IDs swapped, one priority above and at most 3
 pub record IsResponse (p response : List ℕ) (status : ℕ) : Type 0 where
-  pub seven : length response ≡ 7
+  pub seven : length response ≡ responseSize
   pub kind : packetType response ≡ 13
   pub sixteen-bit-IDs : tt response ≡ 0b01
   pub higher : priority response ≡ above (priority p)
   pub to-sender : destination response ≡ source p
   pub from-us : source response ≡ destination p
-  pub says : byte response 5 ≡ 0b0001 * 16 + status
-  pub letter-mbox-msgseg : byte response 6 ≡ byte p 6
+  pub says : byte response header ≡ 0b0001 * 16 + status
+  pub letter-mbox-msgseg : byte response (header + 1) ≡ byte p (header + 1)
 
 abbrev pub ResponseLayout : Type 0
 ResponseLayout = (p : List ℕ) (status : ℕ) → AreBytes p → IsResponse p (responseTo p status) status
@@ -297,7 +297,7 @@ ResponseLayout = (p : List ℕ) (status : ℕ) → AreBytes p → IsResponse p (
 pub data Reads : Board → List (List ℕ) → List Delivery → Type 0 where
   stop : {b : Board} → Reads b [] []
   call : {b : Board} {p : List ℕ} {ps : List (List ℕ)} {ds : List Delivery} (r : Reading) (given words streamMemory messageMemory response : List ℕ)
-      → 7 ≤ length given
+      → responseSize ≤ length given
       → ReadPromise (lent (b .words) (b .streamMemory) (b .messageMemory) given p) r words streamMemory messageMemory response
       → Reads (record { words = words; streamMemory = streamMemory; messageMemory = messageMemory; response = response }) ps ds
       → Reads b (p ∷ ps) (deliveredBy (stateOf words .setup .room) streamMemory (said (r .answer)) ++ ds)
@@ -391,7 +391,7 @@ FlowsDoNotDisturb = FlowsApart
 
 -- there are such packets: those that the mixture leaves
 abbrev pub FlowsNotEmpty : Type 0
-FlowsNotEmpty = AtMostSixteenFlows 1 32 64 (replicate 1024 0) (replicate 32768 0) (replicate 7 0) (five ∷ six ∷ []) (packets 1 32 mixture)
+FlowsNotEmpty = AtMostSixteenFlows 1 32 64 (replicate 1024 0) (replicate 32768 0) (replicate responseSize 0) (five ∷ six ∷ []) (packets 1 32 mixture)
 
 -- ==== THE JOINT, outside those premises: two neighbouring PDUs of one flow, each of which loses exactly one packet
 

@@ -10,11 +10,13 @@ use Rattle.answers.specs.Answers.{Said}
 use Rattle.answers.specs.declared.Reading.{Reading}
 use Rattle.tables.specs.Refusals.{all}
 use Rattle.responses.specs.Type13.{responseSize}
+use Rattle.contexts.specs.State.{streamContexts}
 use Rattle.contexts.specs.Words.{stateOf, stateWords}
 use Rattle.contexts.proofs.Words.{words-of}
 use Rattle.refusal19.proofs.Good.{neither}
 use Rattle.stream_rooms.specs.Placing as streamRoom
 use Rattle.message_rooms.specs.Placing as messageRoom
+use Rattle.message_rooms.specs.Placing.{messageMemoryBytes}
 use Rattle.reading.specs.Desk.{Desk, stateOn, withStreams, withMessages}
 use Rattle.reading.specs.Table.{Lent, wrongSizes}
 use Rattle.reading.specs.Read.{left, leaving, ofStream, ofMessage, reading, ReadPromise}
@@ -36,13 +38,13 @@ message-left x says words memory response j z e =
     ap (λ (w : List ℕ). left says false responseSize (withMessages (x .desk) w memory response)) (sym (words-of words z)) ∙ ap (ofMessage x) e
 
 -- row 12 passed
-pub sizes-right : (d : Desk) → length (d .streamMemory) ≡ 16 * stateOn d .setup .room → length (d .messageMemory) ≡ 32768 → 7 ≤ length (d .response) → wrongSizes d ≡ false
+pub sizes-right : (d : Desk) → length (d .streamMemory) ≡ streamContexts * stateOn d .setup .room → length (d .messageMemory) ≡ messageMemoryBytes → responseSize ≤ length (d .response) → wrongSizes d ≡ false
 unfolding wrongSizes
 sizes-right d a b e = rw (eq-eqb (length (d .streamMemory)) _ a, eq-eqb (length (d .messageMemory)) _ b, le-ltb (length (d .response)) _ e)
 
-pub sizes-fit : (d : Desk) → wrongSizes d ≡ false → (length (d .streamMemory) ≡ 16 * stateOn d .setup .room) × (length (d .messageMemory) ≡ 32768) × (7 ≤ length (d .response))
+pub sizes-fit : (d : Desk) → wrongSizes d ≡ false → (length (d .streamMemory) ≡ streamContexts * stateOn d .setup .room) × (length (d .messageMemory) ≡ messageMemoryBytes) × (responseSize ≤ length (d .response))
 unfolding wrongSizes
 sizes-fit d e =
-    let a = neither (not (eqb (length (d .streamMemory)) (16 * stateOn d .setup .room)) || not (eqb (length (d .messageMemory)) 32768)) (ltb (length (d .response)) 7) e in
-    let b = neither (not (eqb (length (d .streamMemory)) (16 * stateOn d .setup .room))) (not (eqb (length (d .messageMemory)) 32768)) (a .0) in
+    let a = neither (not (eqb (length (d .streamMemory)) (streamContexts * stateOn d .setup .room)) || not (eqb (length (d .messageMemory)) messageMemoryBytes)) (ltb (length (d .response)) responseSize) e in
+    let b = neither (not (eqb (length (d .streamMemory)) (streamContexts * stateOn d .setup .room))) (not (eqb (length (d .messageMemory)) messageMemoryBytes)) (a .0) in
     (eqb-true (length (d .streamMemory)) _ (not-false _ (b .0)), eqb-true (length (d .messageMemory)) _ (not-false _ (b .1)), ltb-false (length (d .response)) _ (a .1))

@@ -9,7 +9,7 @@ use Rattle.lists.proofs.Written.{length-written}
 use Rattle.tables.specs.Refusals.{Row, Leaves, all, flowClosed, allERROR, allRETRY, Verdict, refuse, accept, verdict}
 use Rattle.wire.specs.Type11.{isSingle}
 use Rattle.wire.specs.Head.{is9}
-use Rattle.responses.specs.Type13.{DONE, ERROR, RETRY, responseTo, answered}
+use Rattle.responses.specs.Type13.{responseSize, DONE, ERROR, RETRY, responseTo, answered}
 use Rattle.contexts.specs.State.{freeMessage}
 use Rattle.message_rooms.specs.Placing as messageRoom
 use Rattle.messages.specs.Joining as message
@@ -57,14 +57,14 @@ module _ (words streams messages response response′ packet : List ℕ) where
   unfolding table lentRows wrongSizes
   same-table a b = rw (le-ltb (length response) 7 a, le-ltb (length response′) 7 b)
 
-  pub response-decides-nothing : 7 ≤ length response → 7 ≤ length response′ → butResponse (reading x) ≡ butResponse (reading y)
+  pub response-decides-nothing : responseSize ≤ length response → responseSize ≤ length response′ → butResponse (reading x) ≡ butResponse (reading y)
   unfolding reading
   response-decides-nothing a b = by-verdict (verdict (table x)) ∙ ap (λ (rows : List Row). butResponse (outcome y (verdict rows))) (same-table a b)
 
 -- ---- its length stays
 
 -- a response takes the buffer's first 7 bytes
-pub length-answered : (response p : List ℕ) (status : ℕ) → 7 ≤ length response → length (answered response p status) ≡ length response
+pub length-answered : (response p : List ℕ) (status : ℕ) → responseSize ≤ length response → length (answered response p status) ≡ length response
 unfolding answered responseTo
 length-answered response p status h = length-written response (responseTo p status) 0 (omega arith)
 

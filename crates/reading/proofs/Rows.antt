@@ -6,7 +6,7 @@ use mathlib.Core.Bool.{Bool, true, false, cond, not, _||_, _&&_}
 use lib.ListN.{length}
 use borrow.Author.Tests.{eq-eqb, ne-eqb}
 use Rattle.lists.specs.Each.{Each}
-use Rattle.lists.proofs.Tests.{by-test}
+use Rattle.lists.proofs.Tests.{by-test, _and_}
 use Rattle.tables.specs.Refusals.{Row, Leaves, all, Verdict, refuse, accept, verdict, given}
 use Rattle.tables.proofs.Exactly.{every-row, none-held}
 use Rattle.tables.proofs.Joined.{orElse, verdict-joined}
@@ -46,7 +46,7 @@ flat x = by-row x 19 _ all _ ∙ rw (by-row x 12 (not (isState (x .desk)) || wro
 -- every row of the head leaves all
 head-leaves : (device : ℕ) (p : List ℕ) → Each (λ (r : Row). r .leaves ≡ all) (headRows device p)
 unfolding headRows
-head-leaves device p = (refl, (refl, (refl, (refl, (refl, (refl, (refl, tt)))))))
+head-leaves device p = refl and refl and refl and refl and refl and refl and refl and tt
 
 module _ (x : Lent) (whole : length (x .desk .words) ≡ stateWords) (fine : namedBy19 (stateIn x) ≡ false) where
   stream-typed : is9 (x .packet) ≡ true → outcome x (verdict (typedRows x)) ≡ byParsed x (Stream (segmentIn x))

@@ -5,6 +5,7 @@ use mathlib.Core.Bool.{false}
 use lib.ListN.{length}
 use Rattle.answers.specs.Answers.{said, refused}
 use Rattle.answers.specs.declared.Reading.{Reading}
+use Rattle.responses.specs.Type13.{responseSize}
 use Rattle.contexts.specs.State.{streamContexts}
 use Rattle.contexts.specs.Words.{stateWords}
 use Rattle.refusal19.specs.Refusal19.{namedBy19}
@@ -27,4 +28,4 @@ pub record Fit (d : Desk) : Type 0 where
 -- and a response buffer that 12 allows: what reading one packet may rely on
 pub record ReadyToRead (d : Desk) : Type 0 where
   pub fit : Fit d
-  pub reply : 7 ≤ length (d .response)
+  pub reply : responseSize ≤ length (d .response)

@@ -39,7 +39,7 @@ pub fn wrong_memory(
     if message_memory.len() != message_rooms::MEMORY {
         return true;
     }
-    response.len() < 7
+    response.len() < responses::SIZE
 }
 
 // Reads one packet. Every caller has tested the state and the memories; a run over many packets tests them once.

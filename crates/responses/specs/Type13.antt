@@ -37,6 +37,6 @@ responseTo p status =
     ∷ byte p (header + 1)
     ∷ []
 
--- the response buffer after it: its first 7 bytes
+-- the response buffer after it: its first bytes are the response
 unfoldable pub answered : List ℕ → List ℕ → ℕ → List ℕ
 answered response p status = written response 0 (responseTo p status)

@@ -7,6 +7,7 @@ use mathlib.Core.Bool.{Bool, true, false, cond}
 use lib.Dec.{eqb}
 use lib.ListN.{length, take, length-append}
 use Rattle.lists.specs.Bytes.{high, low}
+use Rattle.wire.specs.Packet.{header}
 use Rattle.cutting.proofs.Pad.{length-pad}
 use Rattle.cutting.specs.declared.Heading.{Heading}
 use Rattle.cutting.specs.Cutting.{segmentCount, segmentData, isFirst, isFinal, padOf, flagsOf, fieldOf, packetOf}
@@ -25,7 +26,7 @@ headOf h flags field =
 
 -- how many of these the packet has
 abbrev frontOf : Bool → Bool → ℕ
-frontOf first final = cond first 9 (cond final 9 7)
+frontOf first final = cond first (header + 4) (cond final (header + 4) (header + 2))
 
 length-front : (h : Heading) (flags field : ℕ) (first final : Bool) → length (take (frontOf first final) (headOf h flags field)) ≡ frontOf first final
 length-front h flags field true final = refl
@@ -34,7 +35,7 @@ length-front h flags field false false = refl
 
 -- the front is seven bytes and the field
 front-is : (h : Heading) (flags size : ℕ) (first final : Bool)
-    → take (frontOf first final) (headOf h flags (cond first (h .stream) size)) ≡ take 7 (headOf h flags 0) ++ fieldOf first final (h .stream) size
+    → take (frontOf first final) (headOf h flags (cond first (h .stream) size)) ≡ take (header + 2) (headOf h flags 0) ++ fieldOf first final (h .stream) size
 unfolding fieldOf
 front-is h flags size true final = refl
 front-is h flags size false true = refl

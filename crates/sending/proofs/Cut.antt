@@ -9,6 +9,7 @@ use lib.Seq.{take-append-seam}
 use lib.Dec.{eqb}
 use borrow.Author.Tests.{ltb-true, eqb-true, eqb-false, eq-eqb, ne-eqb, le-ltb}
 use Rattle.lists.specs.Bytes.{byte, high, low}
+use Rattle.lists.proofs.Tests.{_and_}
 use Rattle.tables.specs.Refusals.{none}
 use Rattle.wire.specs.Packet.{header, packetType, destination, tt as ttOf}
 use Rattle.wire.specs.declared.Flow.{Flow}
@@ -108,28 +109,15 @@ module _ (h : Heading) (range : InRange h) (size : ℕ) (bytes : List ℕ) where
   unfolding none headRows
   passes first final =
       let fl = flags-of first final (length bytes) in
-      let f = first-byte (h .priority) (range .priority) in (
-        le-ltb (length (shape h first final size bytes)) header (omega arith),
-        (
-          rw (eq-eqb (ttOf (shape h first final size bytes)) 1 (f .of-tt)),
-          (
-            rw (eq-eqb (destination (shape h first final size bytes)) (h .destination) (two-bytes (h .destination) (range .destination))),
-            (
-              rw (of-9 first final),
-              (
-                le-ltb (length (shape h first final size bytes)) (header + 2) (omega arith),
-                (
-                  rw (of-9 first final, fl .of-xh),
-                  (
-                    rw (of-9 first final, fl .of-S, fl .of-E) (field-fits first final),
-                    tt,
-                  ),
-                ),
-              ),
-            ),
-          ),
-        ),
-      )
+      let f = first-byte (h .priority) (range .priority) in
+      le-ltb (length (shape h first final size bytes)) header (omega arith)
+      and (rw (eq-eqb (ttOf (shape h first final size bytes)) 1 (f .of-tt)))
+      and (rw (eq-eqb (destination (shape h first final size bytes)) (h .destination) (two-bytes (h .destination) (range .destination))))
+      and (rw (of-9 first final))
+      and le-ltb (length (shape h first final size bytes)) (header + 2) (omega arith)
+      and (rw (of-9 first final, fl .of-xh))
+      and (rw (of-9 first final, fl .of-S, fl .of-E) (field-fits first final))
+      and tt
 
   is-parsed : (first final : Bool) → parsed (h .destination) (shape h first final size bytes) ≡ Stream (segment h first final size bytes)
   is-parsed first final = is-stream (shape h first final size bytes) (h .destination) (passes first final) (of-9 first final) ∙ ap Stream (is-segment first final)

@@ -4,35 +4,14 @@ use borrow.Author.Needs.{needs}
 use Rattle.c_reports.proofs.response_of.Statement.{statement}
 use Rattle.c_reports.proofs.response_of.Tie as tie
 
-enum-told : tie.Need-enum-told
-enum-told c = search needs
-
-is-message-requires : tie.Need-is-message-requires
-is-message-requires c κs = search needs
-
 returns : tie.Need-returns
 returns c = simp (c .before .before .enum-told .given .1, ← c .before .is-message .ensures, c .if1 .taken)
-
-enum-told-2 : tie.Need-enum-told-2
-enum-told-2 c = search needs
-
-enum-told-3 : tie.Need-enum-told-3
-enum-told-3 c = search needs
-
-enum-known-answer : tie.Need-enum-known-answer
-enum-known-answer c = search needs
 
 returns-2 : tie.Need-returns-2
 returns-2 c = simp (c .before .before .answer .given .1, lt-ltb _ _ (c .if2 .taken))
 
 returns-3 : tie.Need-returns-3
 returns-3 c = simp (c .before .before .enum-told .given .1, ← c .before .is-message .ensures, c .if1 .left)
-
-returns-4 : tie.Need-returns-4
-returns-4 c = search needs
-
-returns-5 : tie.Need-returns-5
-returns-5 c = search needs
 
 returns-6 : tie.Need-returns-6
 returns-6 c = simp (c .before .before .answer .given .1, le-ltb _ _ (c .if2 .left))
@@ -41,14 +20,7 @@ pub response-of-spec : {M : Type 1} → statement M
 response-of-spec =
     tie.close
     (tie.spec
-    enum-told
-    is-message-requires
-    returns
-    enum-told-2
-    enum-told-3
-    enum-known-answer
-    returns-2
+    (λ c. search needs) (λ c κs. search needs) returns
+    (λ c. search needs) (λ c. search needs) (λ c. search needs) returns-2
     returns-3
-    returns-4
-    returns-5
-    returns-6)
+    (λ c. search needs) (λ c. search needs) returns-6)

@@ -5,18 +5,9 @@ use borrow.Author.Needs.{needs}
 use Rattle.cutting.proofs.count_of.Statement.{statement}
 use Rattle.cutting.proofs.count_of.Tie as tie
 
-sub-result : tie.Need-sub-result
-sub-result c = search needs
-
-add-result : tie.Need-add-result
-add-result c = search needs
-
-div-result : tie.Need-div-result
-div-result c = search needs
-
 returns : tie.Need-returns
 unfolding segmentCount
 returns c = refl
 
 pub count-of-spec : {M : Type 1} → statement M
-count-of-spec = tie.close (tie.spec sub-result add-result div-result returns)
+count-of-spec = tie.close (tie.spec (λ c. search needs) (λ c. search needs) (λ c. search needs) returns)

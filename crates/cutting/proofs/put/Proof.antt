@@ -6,26 +6,11 @@ use borrow.Author.Needs.{needs}
 use Rattle.cutting.proofs.put.Statement.{statement}
 use Rattle.cutting.proofs.put.Tie as tie
 
-copy-requires : tie.Need-copy-requires
-copy-requires c κs = search needs
-
-store-requires : tie.Need-store-requires
-store-requires c κs = search needs
-
-add-store : tie.Need-add-store
-add-store c = search needs
-
-array-share-prefix-pad : tie.Need-array-share-prefix-pad
-array-share-prefix-pad c = search needs
-
 slice-aggregate-store : tie.Need-slice-aggregate-store
 slice-aggregate-store c = simp length-take (omega arith)
 
 store-requires-2 : tie.Need-store-requires-2
 store-requires-2 c κs = simp length-take (omega arith)
-
-same-length : tie.Need-same-length
-same-length c = search needs
 
 returns : tie.Need-returns
 returns c =
@@ -38,11 +23,6 @@ pub put-spec : {M : Type 1} → statement M
 put-spec =
     tie.close
     (tie.spec
-    copy-requires
-    store-requires
-    add-store
-    array-share-prefix-pad
-    slice-aggregate-store
+    (λ c κs. search needs) (λ c κs. search needs) (λ c. search needs) (λ c. search needs) slice-aggregate-store
     store-requires-2
-    same-length
-    returns)
+    (λ c. search needs) returns)

@@ -4,9 +4,6 @@ use borrow.Author.Needs.{needs}
 use Rattle.responses.proofs.above.Statement.{statement}
 use Rattle.responses.proofs.above.Tie as tie
 
-add-result : tie.Need-add-result
-add-result c = search needs
-
 returns : tie.Need-returns
 returns c = (simp (lt-ltb _ _ (c .if1 .taken)), search needs)
 
@@ -14,4 +11,4 @@ returns-2 : tie.Need-returns-2
 returns-2 c = (simp (le-ltb _ _ (c .if1 .left)), search needs)
 
 pub above-spec : {M : Type 1} → statement M
-above-spec = tie.close (tie.spec add-result returns returns-2)
+above-spec = tie.close (tie.spec (λ c. search needs) returns returns-2)

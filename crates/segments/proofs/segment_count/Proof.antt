@@ -7,15 +7,9 @@ use borrow.Author.Needs.{needs}
 use Rattle.segments.proofs.segment_count.Statement.{statement}
 use Rattle.segments.proofs.segment_count.Tie as tie
 
-bad-mtu-requires : tie.Need-bad-mtu-requires
-bad-mtu-requires c κs = search needs
-
 returns : tie.Need-returns
 unfolding countToWrite
 returns c = simp (← c .before .bad-mtu .ensures, c .if1 .taken)
-
-bad-size-requires : tie.Need-bad-size-requires
-bad-size-requires c κs = search needs
 
 returns-2 : tie.Need-returns-2
 unfolding countToWrite
@@ -39,4 +33,7 @@ returns-3 c =
 pub segment-count-spec : {M : Type 1} → statement M
 segment-count-spec =
     tie.close
-    (tie.spec bad-mtu-requires returns bad-size-requires returns-2 count-of-requires returns-3)
+    (tie.spec
+    (λ c κs. search needs) returns
+    (λ c κs. search needs) returns-2
+    count-of-requires returns-3)

@@ -17,20 +17,17 @@ good c = good-mtu _ (sym (c .before .bad-mtu .ensures) ∙ c .if1 .left)
 small : (c : tie.Else3) → length (c .before .before .before .before .before .before .before .before .args .pdu .now) ≤ 65536
 small c = good-size _ (sym (c .before .bad-size .ensures) ∙ c .if3 .left)
 
-bad-mtu-requires : tie.Need-bad-mtu-requires
-bad-mtu-requires c κs = search needs
-
+-- 18
 returns : tie.Need-returns
 returns c = simp (nested, ← c .before .bad-mtu .ensures, c .if1 .taken)
 
+-- 17
 returns-2 : tie.Need-returns-2
 returns-2 c =
     let first = c .before .before in
     simp (nested, ← first .before .bad-mtu .ensures, first .if1 .left, lt-ltb _ _ (c .if2 .taken))
 
-bad-size-requires : tie.Need-bad-size-requires
-bad-size-requires c κs = search needs
-
+-- 14
 returns-3 : tie.Need-returns-3
 returns-3 c =
     let second = c .before .before in
@@ -42,13 +39,24 @@ count-of-requires c κs =
     let mtu = good (c .before .before .before .before) in
     (omega arith, omega arith, small c)
 
+-- 15
 returns-4 : tie.Need-returns-4
 returns-4 c =
     let third = c .before .before in
     let second = third .before .before in
     let first = second .before .before in
-    simp (nested, ← first .before .bad-mtu .ensures, first .if1 .left, le-ltb _ _ (second .if2 .left), ← third .before .bad-size .ensures, third .if3 .left, ← c .before .count-of .ensures, le-ltb _ _ (c .if4 .taken))
+    simp (
+      nested,
+      ← first .before .bad-mtu .ensures,
+      first .if1 .left,
+      le-ltb _ _ (second .if2 .left),
+      ← third .before .bad-size .ensures,
+      third .if3 .left,
+      ← c .before .count-of .ensures,
+      le-ltb _ _ (c .if4 .taken),
+    )
 
+-- 16, or written
 write-fitting-requires : tie.Need-write-fitting-requires
 write-fitting-requires c κs =
     let third = c .before .before .before in
@@ -56,28 +64,30 @@ write-fitting-requires c κs =
     let mtu = good (second .before .before) in
     ((second .if2 .left, omega arith, omega arith, small third), (c .before .before .count-of .ensures, c .before .if4 .left))
 
-same-length : tie.Need-same-length
-same-length c = search needs
-
 returns-5 : tie.Need-returns-5
 returns-5 c =
     let fourth = c .before .before .before .before in
     let third = fourth .before .before in
     let second = third .before .before in
     let first = second .before .before in
-    simp (nested, ← first .before .bad-mtu .ensures, first .if1 .left, le-ltb _ _ (second .if2 .left), ← third .before .bad-size .ensures, third .if3 .left, ← fourth .before .count-of .ensures, lt-ltb _ _ (fourth .if4 .left), ← c .before .before .write-fitting .ensures)
+    simp (
+      nested,
+      ← first .before .bad-mtu .ensures,
+      first .if1 .left,
+      le-ltb _ _ (second .if2 .left),
+      ← third .before .bad-size .ensures,
+      third .if3 .left,
+      ← fourth .before .count-of .ensures,
+      lt-ltb _ _ (fourth .if4 .left),
+      ← c .before .before .write-fitting .ensures,
+    )
 
 pub write-segment-spec : {M : Type 1} → statement M
 write-segment-spec =
     tie.close
     (tie.spec
-    bad-mtu-requires
-    returns
+    (λ c κs. search needs) returns
     returns-2
-    bad-size-requires
-    returns-3
-    count-of-requires
-    returns-4
-    write-fitting-requires
-    same-length
-    returns-5)
+    (λ c κs. search needs) returns-3
+    count-of-requires returns-4 write-fitting-requires
+    (λ c. search needs) returns-5)
