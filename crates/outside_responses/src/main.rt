@@ -1,8 +1,8 @@
 // A log of packets that the second program made. Prints for each packet its line, and the response that it wrote, or `none`.
 use libc::STDIN_FILENO;
+use log_records::Next;
 use printing::print_bytes;
 use printing::print_text;
-use log_records::Next;
 ghost use mathlib.Core.Path.{_≡_};
 ghost use Rattle.outside_responses.specs.Found.{LiesIn, isRecord};
 
