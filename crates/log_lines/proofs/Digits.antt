@@ -21,48 +21,48 @@ some n h = ap length (one-digit n h)
 pub one-more : (n : ℕ) → 10 ≤ n → length (decimal n) ≡ length (decimal (n / 10)) + 1
 one-more n h = ap length (more-digits n h) ∙ length-append (decimal (n / 10)) (digit (n % 10) ∷ [])
 
-pub only-digit : (out after : List ℕ) (at n r : ℕ) → n < 10 → Puts out at (digit n ∷ []) after r → Puts out at (decimal n) after r
-only-digit out after at n r h p = subst (λ (l : List ℕ). Puts out at l after r) (sym (one-digit n h)) p
+pub only-digit : {out after : List ℕ} {at r : ℕ} (n : ℕ) → n < 10 → Puts out at (digit n ∷ []) after r → Puts out at (decimal n) after r
+only-digit {out} {after} {at} {r} n h p = subst (λ (l : List ℕ). Puts out at l after r) (sym (one-digit n h)) p
 
 -- the buffer keeps its length
-pub same-size : (out bytes after : List ℕ) (at r : ℕ) → at + length bytes ≤ length out → Puts out at bytes after r → length after ≡ length out
-same-size out bytes after at r fits p = ap length (p .stored) ∙ length-written out bytes at fits
+pub same-size : {out bytes after : List ℕ} {at r : ℕ} → at + length bytes ≤ length out → Puts out at bytes after r → length after ≡ length out
+same-size {out} {bytes} {at} fits p = ap length (p .stored) ∙ length-written out bytes at fits
 
 -- the place of the last digit is inside
-pub inside : (out mid : List ℕ) (at n r : ℕ) → 10 ≤ n → at + length (decimal n) ≤ length out → Puts out at (decimal (n / 10)) mid r → r < length mid
-inside out mid at n r h fits p =
-    let long : length mid ≡ length out = same-size out (decimal (n / 10)) mid at r (omega (arith, one-more n h)) p in
+pub inside : {out mid : List ℕ} {at r : ℕ} (n : ℕ) → 10 ≤ n → at + length (decimal n) ≤ length out → Puts out at (decimal (n / 10)) mid r → r < length mid
+inside {out} {mid} n h fits p =
+    let long : length mid ≡ length out = same-size (omega (arith, one-more n h)) p in
     omega (arith, one-more n h, p .behind)
 
-pub last-digit : (out mid after : List ℕ) (at n r s : ℕ) → 10 ≤ n → at + length (decimal n) ≤ length out
+pub last-digit : {out mid after : List ℕ} {at r s : ℕ} (n : ℕ) → 10 ≤ n → at + length (decimal n) ≤ length out
     → Puts out at (decimal (n / 10)) mid r → Puts mid r (digit (n % 10) ∷ []) after s → Puts out at (decimal n) after s
-last-digit out mid after at n r s h fits p q =
-    subst (λ (l : List ℕ). Puts out at l after s) (sym (more-digits n h)) (both out (decimal (n / 10)) (digit (n % 10) ∷ []) mid after at r s (omega (arith, one-more n h)) p q)
+last-digit {out} {after} {at} {s} n h fits p q =
+    subst (λ (l : List ℕ). Puts out at l after s) (sym (more-digits n h)) (both (omega (arith, one-more n h)) p q)
 
 -- twenty digits hold a word
 pub few-digits : (n : ℕ) → n < 18446744073709551616 → length (decimal n) ≤ 20
 few-digits n h = few 19 n (omega arith)
 
 -- ` dropped`, and its absence
-pub is-dropped : (out after : List ℕ) (at r : ℕ) (dropped : Bool) → dropped ≡ true → Puts out at (text " dropped") after r
+pub is-dropped : {out after : List ℕ} {at r : ℕ} {dropped : Bool} → dropped ≡ true → Puts out at (text " dropped") after r
     → Puts out at (cond dropped (text " dropped") []) after r × (r ≤ at + 8)
-is-dropped out after at r dropped t p = (subst (λ (b : Bool). Puts out at (cond b (text " dropped") []) after r) (sym t) p, omega (arith, p .behind))
+is-dropped {out} {after} {at} {r} t p = (subst (λ (b : Bool). Puts out at (cond b (text " dropped") []) after r) (sym t) p, omega (arith, p .behind))
 
-pub not-dropped : (out : List ℕ) (at : ℕ) (dropped : Bool) → dropped ≡ false → Puts out at (cond dropped (text " dropped") []) out at × (at ≤ at + 8)
-not-dropped out at dropped t = (subst (λ (b : Bool). Puts out at (cond b (text " dropped") []) out at) (sym t) (none out at), omega arith)
+pub not-dropped : {out : List ℕ} {at : ℕ} {dropped : Bool} → dropped ≡ false → Puts out at (cond dropped (text " dropped") []) out at × (at ≤ at + 8)
+not-dropped {out} {at} t = (subst (λ (b : Bool). Puts out at (cond b (text " dropped") []) out at) (sym t) (none out at), omega arith)
 
 -- a space and a number
-pub spaced-is : (out mid after : List ℕ) (at n r s : ℕ) → at + 21 ≤ length out → n < 18446744073709551616
+pub spaced-is : {out mid after : List ℕ} {at r s : ℕ} (n : ℕ) → at + 21 ≤ length out → n < 18446744073709551616
     → Puts out at (text " ") mid r → Puts mid r (decimal n) after s → Puts out at (spaced n) after s × (s ≤ at + 21)
 unfolding spaced
-spaced-is out mid after at n r s fits h p q =
+spaced-is {at} {r} n fits h p q =
     let d : length (decimal n) ≤ 20 = few-digits n h in
     let e : r ≡ at + 1 = p .behind in
-    (both out (text " ") (decimal n) mid after at r s (omega arith) p q, omega (arith, q .behind))
+    (both (omega arith) p q, omega (arith, q .behind))
 
 -- what follows has room for the number
-pub number-fits : (out mid : List ℕ) (at n r : ℕ) → at + 21 ≤ length out → n < 18446744073709551616 → Puts out at (text " ") mid r → r + length (decimal n) ≤ length mid
-number-fits out mid at n r fits h p =
-    let long : length mid ≡ length out = same-size out (text " ") mid at r (omega arith) p in
+pub number-fits : {out mid : List ℕ} {at r : ℕ} (n : ℕ) → at + 21 ≤ length out → n < 18446744073709551616 → Puts out at (text " ") mid r → r + length (decimal n) ≤ length mid
+number-fits {out} {mid} {at} {r} n fits h p =
+    let long : length mid ≡ length out = same-size (omega arith) p in
     let e : r ≡ at + 1 = p .behind in
     omega (arith, few-digits n h)

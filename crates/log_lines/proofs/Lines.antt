@@ -18,54 +18,53 @@ abbrev pub Within : List ℕ → ℕ → List ℕ → List ℕ → ℕ → ℕ �
 Within out at bytes after r limit = Puts out at bytes after r × (r ≤ limit)
 
 -- two runs of bytes that end inside the buffer
-pub joined : (out first second mid after : List ℕ) (at r s : ℕ) → s ≤ length out → Puts out at first mid r → Puts mid r second after s → Puts out at (first ++ second) after s
-joined out first second mid after at r s h p q = both out first second mid after at r s (omega (arith, p .behind, q .behind)) p q
+pub joined : {out first second mid after : List ℕ} {at r s : ℕ} → s ≤ length out → Puts out at first mid r → Puts mid r second after s → Puts out at (first ++ second) after s
+joined h p q = both (omega (arith, p .behind, q .behind)) p q
 
 -- a word of three letters and four numbers
-pub four : (out word m₁ m₂ m₃ m₄ after : List ℕ) (a b c d r₁ r₂ r₃ r₄ s : ℕ) → length word ≡ 3 → 87 ≤ length out
+pub four : {out word m₁ m₂ m₃ m₄ after : List ℕ} (a b c d : ℕ) {r₁ r₂ r₃ r₄ s : ℕ} → length word ≡ 3 → 87 ≤ length out
     → Puts out 0 word m₁ r₁ → Within m₁ r₁ (spaced a) m₂ r₂ (r₁ + 21) → Within m₂ r₂ (spaced b) m₃ r₃ (r₂ + 21)
     → Within m₃ r₃ (spaced c) m₄ r₄ (r₃ + 21) → Within m₄ r₄ (spaced d) after s (r₄ + 21)
     → Within out 0 (word ++ spaced a ++ spaced b ++ spaced c ++ spaced d) after s 87
-four out word m₁ m₂ m₃ m₄ after a b c d r₁ r₂ r₃ r₄ s three fits w pa pb pc pd =
-    let first : r₁ ≡ 3 = omega (arith, w .behind, three) in
-    let one = joined out word (spaced a) m₁ m₂ 0 r₁ r₂ (omega (arith, pa .1)) w (pa .0) in
-    let two = joined out (word ++ spaced a) (spaced b) m₂ m₃ 0 r₂ r₃ (omega (arith, pa .1, pb .1)) one (pb .0) in
-    let three = joined out (word ++ spaced a ++ spaced b) (spaced c) m₃ m₄ 0 r₃ r₄ (omega (arith, pa .1, pb .1, pc .1)) two (pc .0) in
-    (joined out (word ++ spaced a ++ spaced b ++ spaced c) (spaced d) m₄ after 0 r₄ s (omega (arith, pa .1, pb .1, pc .1, pd .1)) three (pd .0), omega (arith, pa .1, pb .1, pc .1, pd .1))
+four a b c d {r₁} letters fits w pa pb pc pd =
+    let first : r₁ ≡ 3 = omega (arith, w .behind, letters) in
+    let one = joined (omega (arith, pa .1)) w (pa .0) in
+    let two = joined (omega (arith, pa .1, pb .1)) one (pb .0) in
+    let three = joined (omega (arith, pa .1, pb .1, pc .1)) two (pc .0) in
+    (joined (omega (arith, pa .1, pb .1, pc .1, pd .1)) three (pd .0), omega (arith, pa .1, pb .1, pc .1, pd .1))
 
 -- what an answer says, by its case
-module _ (out after : List ℕ) (r : ℕ) (answer : Answer) where
-  pub says-is : (x : Answer) (bytes : List ℕ) → answer ≡ x → answerText (said x) ≡ bytes → Within out 0 bytes after r 87 → Within out 0 (answerText (said answer)) after r 87
-  says-is x bytes e t p = (subst (λ (l : List ℕ). Puts out 0 l after r) (sym (ap (λ (y : Answer). answerText (said y)) e ∙ t)) (p .0), p .1)
+module _ {out after : List ℕ} {r : ℕ} {answer : Answer} where
+  pub says-is : {x : Answer} {bytes : List ℕ} → answer ≡ x → answerText (said x) ≡ bytes → Within out 0 bytes after r 87 → Within out 0 (answerText (said answer)) after r 87
+  says-is e t p = (subst (λ (l : List ℕ). Puts out 0 l after r) (sym (ap (λ (y : Answer). answerText (said y)) e ∙ t)) (p .0), p .1)
 
   pub held-is : answer ≡ Held → Puts out 0 (text "held") after r → Within out 0 (answerText (said answer)) after r 87
-  held-is e p = says-is Held (text "held") e refl (p, omega (arith, p .behind))
+  held-is e p = says-is e refl (p, omega (arith, p .behind))
 
-  pub refused-is : (mid : List ℕ) (number r₁ : ℕ) → answer ≡ Refused number → 87 ≤ length out → Puts out 0 (text "refused") mid r₁
+  pub refused-is : {mid : List ℕ} {number r₁ : ℕ} → answer ≡ Refused number → 87 ≤ length out → Puts out 0 (text "refused") mid r₁
       → Within mid r₁ (spaced number) after r (r₁ + 21) → Within out 0 (answerText (said answer)) after r 87
-  refused-is mid number r₁ e fits p q =
+  refused-is {r₁} e fits p q =
       let seven : r₁ ≡ 7 = p .behind in
-      says-is (Refused number) (text "refused" ++ spaced number) e refl (joined out (text "refused") (spaced number) mid after 0 r₁ r (omega (arith, q .1)) p (q .0), omega (arith, q .1))
+      says-is e refl (joined (omega (arith, q .1)) p (q .0), omega (arith, q .1))
 
 -- text and the end of the line
-ends : (out bytes mid after : List ℕ) (r s : ℕ) → 128 ≤ length out → r < 128 → Puts out 0 bytes mid r → Puts mid r (text "\n") after s
+ends : {out bytes mid after : List ℕ} {r s : ℕ} → 128 ≤ length out → r < 128 → Puts out 0 bytes mid r → Puts mid r (text "\n") after s
     → (linePut s after ≡ putLine out (bytes ++ text "\n")) × (s ≤ 128)
-ends out bytes mid after r s fits few p n =
+ends {r} {s} fits few p n =
     let last : s ≡ r + 1 = n .behind in
-    has-room out _ after s fits (omega arith) (joined out bytes (text "\n") mid after 0 r s (omega arith) p n)
+    has-room fits (omega arith) (joined (omega arith) p n)
 
 -- a whole line: the answer, ` dropped` where so, the end of the line
-pub line-is : (out m₁ m₂ after : List ℕ) (says : Said) (dropped : Bool) (r₁ r₂ s : ℕ) → 128 ≤ length out
+pub line-is : {out m₁ m₂ after : List ℕ} (says : Said) (dropped : Bool) {r₁ r₂ s : ℕ} → 128 ≤ length out
     → Within out 0 (answerText says) m₁ r₁ 87 → Within m₁ r₁ (cond dropped (text " dropped") []) m₂ r₂ (r₁ + 8) → Puts m₂ r₂ (text "\n") after s
     → (linePut s after ≡ putLine out (lineOf says dropped)) × (s ≤ 128)
 unfolding lineOf
-line-is out m₁ m₂ after says dropped r₁ r₂ s fits p q n =
-    ends out _ m₂ after r₂ s fits (omega (arith, p .1, q .1)) (joined out (answerText says) (cond dropped (text " dropped") []) m₁ m₂ 0 r₁ r₂ (omega (arith, p .1, q .1)) (p .0) (q .0)) n
+line-is says dropped fits p q n = ends fits (omega (arith, p .1, q .1)) (joined (omega (arith, p .1, q .1)) (p .0) (q .0)) n
 
 -- the line of a clean end
-pub end-is : (out m₁ m₂ after : List ℕ) (count r₁ r₂ s : ℕ) → 128 ≤ length out
+pub end-is : {out m₁ m₂ after : List ℕ} (count : ℕ) {r₁ r₂ s : ℕ} → 128 ≤ length out
     → Puts out 0 (text "end") m₁ r₁ → Within m₁ r₁ (spaced count) m₂ r₂ (r₁ + 21) → Puts m₂ r₂ (text "\n") after s → (linePut s after ≡ putLine out (endLine count)) × (s ≤ 128)
 unfolding endLine
-end-is out m₁ m₂ after count r₁ r₂ s fits p q n =
+end-is count {r₁} fits p q n =
     let first : r₁ ≡ 3 = p .behind in
-    ends out _ m₂ after r₂ s fits (omega (arith, q .1)) (joined out (text "end") (spaced count) m₁ m₂ 0 r₁ r₂ (omega (arith, q .1)) p (q .0)) n
+    ends fits (omega (arith, q .1)) (joined (omega (arith, q .1)) p (q .0)) n

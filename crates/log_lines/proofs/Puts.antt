@@ -14,9 +14,9 @@ use Rattle.lists.proofs.Written.{stores}
 use Rattle.log_lines.specs.Puts.{Puts, linePut, putLine}
 
 -- two runs of bytes, the second where the first ends, are one
-pub both : (out first second mid after : List ℕ) (at r s : ℕ) → at + length first + length second ≤ length out
+pub both : {out first second mid after : List ℕ} {at r s : ℕ} → at + length first + length second ≤ length out
     → Puts out at first mid r → Puts mid r second after s → Puts out at (first ++ second) after s
-both out first second mid after at r s fits p q = record {
+both {out} {first} {second} {mid} {at} fits p q = record {
   stored =
       q .stored
       ∙ (ap (λ (k : ℕ). written mid k second) (p .behind)
@@ -26,8 +26,8 @@ both out first second mid after at r s fits p q = record {
 }
 
 -- one byte
-pub byte : (out : List ℕ) (at b : ℕ) → at < length out → Puts out at (b ∷ []) (set out at b) (at + 1)
-byte out at b h = record { stored = stores out (b ∷ []) at (omega arith); behind = refl }
+pub byte : {out : List ℕ} {at b : ℕ} → at < length out → Puts out at (b ∷ []) (set out at b) (at + 1)
+byte {out} {at} {b} h = record { stored = stores out (b ∷ []) at (omega arith); behind = refl }
 
 -- none
 pub none : (out : List ℕ) (at : ℕ) → Puts out at [] out at
@@ -38,10 +38,10 @@ none out at = record {
 }
 
 -- a line in a buffer with room for it, and in one with too little
-pub has-room : (out line after : List ℕ) (r : ℕ) → 128 ≤ length out → r ≤ 128 → Puts out 0 line after r → (linePut r after ≡ putLine out line) × (r ≤ 128)
+pub has-room : {out line after : List ℕ} {r : ℕ} → 128 ≤ length out → r ≤ 128 → Puts out 0 line after r → (linePut r after ≡ putLine out line) × (r ≤ 128)
 unfolding putLine
-has-room out line after r h few p = (rw (le-ltb (length out) 128 h, p .stored, p .behind ∙ zero-add (length line)), few)
+has-room {out} {line} h few p = (rw (le-ltb (length out) 128 h, p .stored, p .behind ∙ zero-add (length line)), few)
 
-pub no-room : (out line : List ℕ) → length out < 128 → (linePut 0 out ≡ putLine out line) × (0 ≤ 128)
+pub no-room : {out : List ℕ} (line : List ℕ) → length out < 128 → (linePut 0 out ≡ putLine out line) × (0 ≤ 128)
 unfolding putLine
-no-room out line h = (rw (lt-ltb (length out) 128 h), omega arith)
+no-room {out} line h = (rw (lt-ltb (length out) 128 h), omega arith)

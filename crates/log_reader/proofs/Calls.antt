@@ -68,10 +68,12 @@ module _ {M : Type 1} (𝓤 : URA M) (H : Heap 𝓤) (A : Atoms 𝓤) (W : Given
       (sep 𝓤 (New 𝓤 H A mem run .pre (to-new 𝓤 H A mem run κ q s)) (sem 𝓤 H A (ShrSlice (named 0) κ u8 .own s (sliceOf s ∷ []))))
   goes-new κ s n =
       qed W ((‵ (flft κ q) ⊛ ‵ ftrue) ∷ ‵ (owns (ShrSlice (named 0) κ u8 ∷ usize ∷ []) (s, (n, tt)) (sliceOf s ∷ [], (vint w64 n ∷ [], tt))) ∷ []) ∵
-      move ! (1 ∷ []) $ fsplit ! $ use1 W (‵ (ShrSlice (named 0) κ u8 .own s (sliceOf s ∷ [])) ⊛ ‵ (ShrSlice (named 0) κ u8 .own s (sliceOf s ∷ []))) (shr-slice-copy 𝓤 H A W (named 0) κ u8 .twice s (sliceOf s ∷ [])) $ split ! $
+      move ! (1 ∷ []) $ fsplit ! $ use1 W (‵ (ShrSlice (named 0) κ u8 .own s (sliceOf s ∷ [])) ⊛ ‵ (ShrSlice (named 0) κ u8 .own s (sliceOf s ∷ [])))
+      (shr-slice-copy 𝓤 H A W (named 0) κ u8 .twice s (sliceOf s ∷ [])) $ split ! $
       -- [what s owns; the same; what the number owns; the token]
       move ! (2 ∷ []) $ drop ! $ nothing ! $ move ! (1 ∷ 0 ∷ []) $ fjoin ! $ move ! (2 ∷ 0 ∷ []) $
-      use2 W (raw (New 𝓤 H A mem run .pre (to-new 𝓤 H A mem run κ q s))) (qed W ((‵ (flft κ q) ⊛ ‵ ftrue) ∷ ‵ (owns (ShrSlice (named 0) κ u8 ∷ []) (s, tt) (sliceOf s ∷ [], tt)) ∷ []) ∵ join ! $ frame ! $ done !) $ frame ! $ done !
+      use2 W (raw (New 𝓤 H A mem run .pre (to-new 𝓤 H A mem run κ q s))) (qed W ((‵ (flft κ q) ⊛ ‵ ftrue) ∷ ‵ (owns (ShrSlice (named 0) κ u8 ∷ []) (s, tt) (sliceOf s ∷ [], tt)) ∷ []) ∵
+      join ! $ frame ! $ done !) $ frame ! $ done !
 
   pub goes-moved : (κ : Lft) (n : ℕ) → n < 2 ^ 64 → (r : LogReader) (u : Val)
       → ent 𝓤 (⋆ 𝓤 H A (‵ (T.the-row (record { mir = named 0; lft = κ }) .own r (u ∷ [])) ∷ (‵ (flft κ q) ⊛ ‵ ftrue) ∷ [])) (Moved 𝓤 H A mem run .pre (to-moved 𝓤 H A mem run κ q n r u))
@@ -86,12 +88,15 @@ module _ {M : Type 1} (𝓤 : URA M) (H : Heap 𝓤) (A : Atoms 𝓤) (W : Given
   goes-record α d fits =
       qed W (‵ (T.the-row α .own d (T′.lowered d ∷ [])) ∷ (‵ (flft (α .lft) q) ⊛ ‵ ftrue) ∷ []) ∵
       use1 W (‵ (T.the-row α .own d (T′.lowered d ∷ [])) ⊛ ‵ (T.the-row α .own d (T′.lowered d ∷ []))) (LL.copy (T.the-type α) (T′.the-copy α) 𝓤 H A W .twice d (T′.lowered d ∷ [])) $ split ! $
-      use1 W (given (T′.lowered d ∷ [] ≡ T′.lowered d ∷ []) (‵ (all-own (T.the-type α .parts) (T′.the-laws α) (d .log, (d .at, tt))))) (own-open 𝓤 H A W (T.the-type α) (T′.the-laws α) (d .log, (d .at, tt)) (T′.lowered d)) $ learn ! (λ _.
-      use1 W (‵ (ownAt (T.the-type α .parts) (T′.the-laws α) 0 (d .log)) ⊛ ‵ (rest (T.the-type α .parts) (T′.the-laws α) 0 (d .log, (d .at, tt)))) (own-out 𝓤 H A W (T.the-type α .parts) (T′.the-laws α) 0 (d .log, (d .at, tt))) $ split ! $
+      use1 W (given (T′.lowered d ∷ [] ≡ T′.lowered d ∷ []) (‵ (all-own (T.the-type α .parts) (T′.the-laws α) (d .log, (d .at, tt)))))
+      (own-open 𝓤 H A W (T.the-type α) (T′.the-laws α) (d .log, (d .at, tt)) (T′.lowered d)) $ learn ! (λ _.
+      use1 W (‵ (ownAt (T.the-type α .parts) (T′.the-laws α) 0 (d .log)) ⊛ ‵ (rest (T.the-type α .parts) (T′.the-laws α) 0 (d .log, (d .at, tt))))
+      (own-out 𝓤 H A W (T.the-type α .parts) (T′.the-laws α) 0 (d .log, (d .at, tt))) $ split ! $
       -- [what log owns; what at owns; what the struct owns; the token]
       move ! (1 ∷ []) $ drop ! $ nothing ! $ owned ! usize (Is usize) (uint-makes 𝓤 H A W w64) (d .at) _ (refl, fits) $ fjoin ! $ move ! (1 ∷ 0 ∷ []) $ fjoin ! $
       move ! (2 ∷ 0 ∷ []) $ use2 W (raw (NextRecord 𝓤 H A mem run .pre (to-record 𝓤 H A mem run (α .lft) q d)))
-      (qed W ((‵ (flft (α .lft) q) ⊛ ‵ ftrue) ∷ ‵ (owns (ShrSlice (named 0) (α .lft) u8 ∷ usize ∷ []) (d .log, (d .at, tt)) (sliceOf (d .log) ∷ [], (vint w64 (d .at) ∷ [], tt))) ∷ []) ∵ join ! $ frame ! $ done !) $ frame ! $ done !)
+      (qed W ((‵ (flft (α .lft) q) ⊛ ‵ ftrue) ∷ ‵ (owns (ShrSlice (named 0) (α .lft) u8 ∷ usize ∷ []) (d .log, (d .at, tt)) (sliceOf (d .log) ∷ [], (vint w64 (d .at) ∷ [], tt))) ∷ []) ∵
+      join ! $ frame ! $ done !) $ frame ! $ done !)
 
 module _ {M : Type 1} {𝓤 : URA M} {H : Heap 𝓤} {A : Atoms 𝓤} {K : Type 0} {W : Given 𝓤 H A} {Γ : List (Item 𝓤)} {G : Goal 𝓤 H} where
   -- A function T that was called at a has returned the machine value u: that of some r of type R, of which its contract says φ. It has no
@@ -101,6 +106,7 @@ module _ {M : Type 1} {𝓤 : URA M} {H : Heap 𝓤} {A : Atoms 𝓤} {K : Type 
       → ((r : R .Denot) → φ r → Is R r (u ∷ []) → Seq K W (‵ (R .own r (u ∷ [])) ∷ tokens ∷ Γ) G)
       → Seq K W (raw P ∷ Γ) G
   answers t z T κs a R u tokens φ post k =
-      use1 W (later (some (λ (r : R .Denot). (tokens ⊛ ‵ (R .own r (u ∷ []))) ⊛ raw (ex 𝓤 (λ (ws : Lasts T κs a). sep 𝓤 (sem 𝓤 H A (lasts T κs a ws)) (fact 𝓤 (φ r))))))) post $ await t z $ pick t (λ r.
+      use1 W (later (some (λ (r : R .Denot). (tokens ⊛ ‵ (R .own r (u ∷ []))) ⊛ raw (ex 𝓤 (λ (ws : Lasts T κs a). sep 𝓤 (sem 𝓤 H A (lasts T κs a ws)) (fact 𝓤 (φ r))))))) post $ await t z $
+      pick t (λ r.
       split t $ move t (1 ∷ []) $ use1 W (raw (fact 𝓤 (φ r))) (exE 𝓤 _ (λ ws. snd∗ 𝓤 (sem 𝓤 H A (lasts T κs a ws)) (fact 𝓤 (φ r)))) $ heard t (φ r) (λ e.
       split t $ move t (1 ∷ []) $ peeks t R (Is R) (shows 𝓤 H A R) r (u ∷ []) (λ is. k r e is)))

@@ -1,13 +1,14 @@
 -- What stands at a place of a log, by the bytes there.
 use Prim.Native.Nat.{ℕ, _+_, _-_, _*_, _≤_, _<_}
-use mathlib.Core.Path.{_≡_, refl}
+use mathlib.Core.Path.{_≡_, refl, sym}
 use mathlib.Core.List.{List}
 use mathlib.Core.Bool.{Bool, true, false, cond, false≢true}
 use native.Mathlib.Omega.{arith}
 use lib.ListN.{length}
 use lib.Dec.{eqb, ltb}
-use borrow.Author.Tests.{lt-ltb, le-ltb, ltb-true, ltb-false, ne-eqb}
+use borrow.Author.Tests.{lt-ltb, le-ltb, ltb-true, ltb-false, ne-eqb, eqb-false}
 use Rattle.lists.specs.Bytes.{byte}
+use Rattle.log_records.specs.declared.Next.{Next}
 use Rattle.log_records.specs.declared.Next.the-variants.{Record, End, Bad}
 use Rattle.log_records.specs.Records.{recordFrom, longRecord, nextRecord}
 
@@ -42,40 +43,68 @@ large log at low high first second some h room =
       there (length log) (at + 2) (low + 128 * high) room,
     )
 
--- ---- a record that stands at a place lies inside the log and behind the place
+-- ---- what stands at a place, by the tests that it passed: past the end, bad, or a record with its length in one byte or in two
+pub data Stood (log : List ℕ) (at : ℕ) (n : Next) : Type 0 where
+  past : length log ≤ at → n ≡ End → Stood log at n
+  bad : n ≡ Bad → Stood log at n
+  one : at < length log → byte log at < 128 → recordFrom (length log) (at + 1) (byte log at) ≡ n → Stood log at n
+  two : at + 2 ≤ length log → 128 ≤ byte log at → (byte log (at + 1) ≡ 0 → ⊥) → byte log (at + 1) ≤ 127
+      → recordFrom (length log) (at + 2) (byte log at - 128 + 128 * byte log (at + 1)) ≡ n → Stood log at n
+
+pub stood : (log : List ℕ) (at : ℕ) {n : Next} → nextRecord log at ≡ n → Stood log at n
+unfolding nextRecord longRecord
+stood log at {n} e = go _ _ _ _ _ refl refl refl refl refl e
+  where
+    go : (a b c d f : Bool) → ltb at (length log) ≡ a → ltb (byte log at) 128 ≡ b → ltb (length log) (at + 2) ≡ c → eqb (byte log (at + 1)) 0 ≡ d
+        → ltb 127 (byte log (at + 1)) ≡ f
+        → cond a
+        (cond b (recordFrom (length log) (at + 1) (byte log at))
+        (cond c Bad (cond d Bad (cond f Bad (recordFrom (length log) (at + 2) (byte log at - 128 + 128 * byte log (at + 1))))))) End
+        ≡ n
+        → Stood log at n
+    go false b c d f t u v w x e = past (ltb-false at (length log) t) (sym e)
+    go true true c d f t u v w x e = one (ltb-true at (length log) t) (ltb-true (byte log at) 128 u) e
+    go true false true d f t u v w x e = bad (sym e)
+    go true false false true f t u v w x e = bad (sym e)
+    go true false false false true t u v w x e = bad (sym e)
+    go true false false false false t u v w x e =
+        two (ltb-false (length log) (at + 2) v) (ltb-false (byte log at) 128 u) (eqb-false (byte log (at + 1)) 0 w) (ltb-false 127 (byte log (at + 1)) x) e
+
+-- the packet is all there
+pub record Fits (n f s from size next : ℕ) : Type 0 where
+  pub starts : f ≡ from
+  pub sized : s ≡ size
+  pub behind : from + size ≡ next
+  pub within : next ≤ n
+
+pub fits : (n f s from size next : ℕ) → f ≤ n → recordFrom n f s ≡ Record from size next → Fits n f s from size next
+unfolding recordFrom
+fits n f s from size next start e = go (ltb (n - f) s) refl e
+  where
+    go : (b : Bool) → ltb (n - f) s ≡ b → cond b Bad (Record f s (f + s)) ≡ Record from size next → Fits n f s from size next
+    go true t e = absurd (false≢true cc)
+    go false t e =
+        let room : s ≤ n - f = ltb-false (n - f) s t in
+        let a : f ≡ from = cc in
+        let b : s ≡ size = cc in
+        let c : f + s ≡ next = cc in
+        record { starts = a; sized = b; behind = omega arith; within = omega arith }
+
+-- so it lies inside the log and behind the place
 pub record Inside (log : List ℕ) (at from size next : ℕ) : Type 0 where
   pub behind : from + size ≡ next
   pub within : next ≤ length log
   pub onward : at < next
 
-from-place : (log : List ℕ) (at f s from size next : ℕ) → at < f → f ≤ length log → recordFrom (length log) f s ≡ Record from size next → Inside log at from size next
-unfolding recordFrom
-from-place log at f s from size next before start e = go (ltb (length log - f) s) refl e
-  where
-    go : (b : Bool) → ltb (length log - f) s ≡ b → cond b Bad (Record f s (f + s)) ≡ Record from size next → Inside log at from size next
-    go true t e = absurd (false≢true cc)
-    go false t e =
-        let room : s ≤ length log - f = ltb-false (length log - f) s t in
-        let a : f ≡ from = cc in
-        let b : s ≡ size = cc in
-        let c : f + s ≡ next = cc in
-        record { behind = omega arith; within = omega arith; onward = omega arith }
-
 pub inside : (log : List ℕ) (at from size next : ℕ) → nextRecord log at ≡ Record from size next → Inside log at from size next
-unfolding nextRecord longRecord
-inside log at from size next e =
-    go (ltb at (length log)) (ltb (byte log at) 128) (ltb (length log) (at + 2)) (eqb (byte log (at + 1)) 0) (ltb 127 (byte log (at + 1))) refl refl e
+inside log at from size next e = go (stood log at e)
   where
-    go : (a b c d f : Bool) → ltb at (length log) ≡ a → ltb (length log) (at + 2) ≡ c
-        → cond a (cond b (recordFrom (length log) (at + 1) (byte log at)) (cond c Bad (cond d Bad (cond f Bad (recordFrom (length log) (at + 2) (byte log at - 128 + 128 * byte log (at + 1))))))) End ≡ Record from size next
-        → Inside log at from size next
-    go false b c d f t u e = absurd (false≢true cc)
-    go true true c d f t u e =
-        let h : at < length log = ltb-true at (length log) t in
-        from-place log at (at + 1) (byte log at) from size next (omega arith) (omega arith) e
-    go true false true d f t u e = absurd (false≢true cc)
-    go true false false true f t u e = absurd (false≢true cc)
-    go true false false false true t u e = absurd (false≢true cc)
-    go true false false false false t u e =
-        let h : at + 2 ≤ length log = ltb-false (length log) (at + 2) u in
-        from-place log at (at + 2) (byte log at - 128 + 128 * byte log (at + 1)) from size next (omega arith) h e
+    go : Stood log at (Record from size next) → Inside log at from size next
+    go (past there e) = absurd (false≢true cc)
+    go (bad e) = absurd (false≢true cc)
+    go (one there small e) =
+        let f = fits (length log) (at + 1) _ from size next (omega arith) e in
+        record { behind = f .behind; within = f .within; onward = omega arith }
+    go (two there top not-0 last e) =
+        let f = fits (length log) (at + 2) _ from size next there e in
+        record { behind = f .behind; within = f .within; onward = omega arith }

@@ -1,10 +1,11 @@
--- A log as it is written, and the theorem that it reads back.
+-- A log as it is written, and two theorems: it reads back, and a log that reads cleanly is written so.
 use Prim.Native.Nat.{ℕ, _+_, _/_, _%_, _<_}
 use mathlib.Core.Path.{_≡_}
 use mathlib.Core.List.{List, [], _∷_, _++_}
 use mathlib.Core.Bool.{true, cond}
 use lib.ListN.{length}
 use lib.Dec.{ltb}
+use Rattle.lists.specs.Bytes.{byte}
 use Rattle.lists.specs.Each.{Each}
 use Rattle.log_records.specs.Records.{records, recordsOf}
 
@@ -26,3 +27,9 @@ AllShort = Each (λ (packet : List ℕ). length packet < 16384)
 -- a written log reads back as its records
 abbrev pub LogReadsBack : Type 0
 LogReadsBack = (packets : List (List ℕ)) → AllShort packets → recordsOf (writtenLog packets) ≡ records packets true
+
+-- and there is no other: a log, bytes all, that reads cleanly is the written log of its records, which are short
+abbrev pub LogIsWritten : Type 0
+LogIsWritten =
+    (log : List ℕ) → ((i : ℕ) → byte log i < 256) → recordsOf log .clean ≡ true
+    → (writtenLog (recordsOf log .packets) ≡ log) × AllShort (recordsOf log .packets)

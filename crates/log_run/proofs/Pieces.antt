@@ -55,8 +55,10 @@ from-place zero b log at count out h room = absurd (omega arith)
 from-place (suc most) b log at count out h room = go (nextRecord log at) refl (λ b′ next out′ h′ room′. from-place most b′ log next (count + 1) out′ h′ room′)
   where
     go : (x : Next) → nextRecord log at ≡ x
-        → ((b′ : Desk) (next : ℕ) (out′ : List ℕ) → length log - next < most → 128 ≤ length out′ → pieces most b′ log next (count + 1) out′ ≡ outputOf b′ (count + 1) (recordsFrom most log next))
-        → onPiece (λ next. pieces most (printedBy b log count out x .desk) log next (count + 1) (printedBy b log count out x .out)) (printedBy b log count out x .out) (printedBy b log count out x .piece)
+        → ((b′ : Desk) (next : ℕ) (out′ : List ℕ) → length log - next < most → 128 ≤ length out′
+        → pieces most b′ log next (count + 1) out′ ≡ outputOf b′ (count + 1) (recordsFrom most log next))
+        → onPiece (λ next. pieces most (printedBy b log count out x .desk) log next (count + 1) (printedBy b log count out x .out))
+        (printedBy b log count out x .out) (printedBy b log count out x .piece)
         ≡ outputOf b count (byNext log (recordsFrom most log) x)
     go End e ih = written-line out (endLine count) room ∙ ap endLine (sym (add-zero count))
     go Bad e ih = written-line out badLog room

@@ -66,7 +66,7 @@ module _ (b : Desk) (log : List ℕ) (at count room : ℕ) where
       ap (λ (t : Bool). cond t (running [] b at count false) (ranBy (λ b′ next room′. ranFrom (length log) b′ log next (count + 1) room′) b log at count room (nextRecord log at))) (le-ltb room 128 h)
       ∙ (ap (ranBy (λ b′ next room′. ranFrom (length log) b′ log next (count + 1) room′) b log at count room) e
       ∙ (ap (λ (l : List ℕ). recordRan (λ b′ next room′. ranFrom (length log) b′ log next (count + 1) room′) b (take size (drop from log)) l next room) l
-      ∙ ap (linesBefore line) (ran-enough (length log) (suc (length log)) (after b (take size (drop from log))) log next (count + 1) (room - length line) (omega (arith, i .within, i .onward)) (omega arith))))
+      ∙ ap (linesBefore line) (ran-enough (length log) (suc (length log)) _ log next (count + 1) (room - length line) (omega (arith, i .within, i .onward)) (omega arith))))
 
   pub at-end : 128 ≤ room → nextRecord log at ≡ End → rest b log at count room ≡ running (endLine count) b at count true
   unfolding ranFrom
@@ -243,7 +243,8 @@ inside-log most b log = by-lines log (Inside log) stays (λ b at count e. stays 
     stays : (b : Desk) (at count : ℕ) → at ≤ length log → (at ≤ at) × (at ≤ length log)
     stays b at count h = (omega arith, h)
 
-    onward : (b : Desk) (at count from size next : ℕ) → nextRecord log at ≡ Record from size next → (x : Running) → Inside log (after b (take size (drop from log))) next (count + 1) x → Inside log b at count x
+    onward : (b : Desk) (at count from size next : ℕ) → nextRecord log at ≡ Record from size next → (x : Running)
+        → Inside log (after b (take size (drop from log))) next (count + 1) x → Inside log b at count x
     onward b at count from size next e x ih h =
         let i = inside log at from size next e in
         let r = ih (i .within) in
@@ -261,7 +262,8 @@ comes-on b log at count room h o = go (nextRecord log at) refl
         let i = inside log at from size next e in
         let packet : List ℕ = take size (drop from log) in
         let line : List ℕ = lineOf (read b packet .says) (read b packet .dropped) in
-        let q : rest b log at count room .at ≡ rest (after b packet) log next (count + 1) (room - length line) .at = ap (λ (x : Running). x .at) (at-record b log at count room from size next line h e refl) in
+        let q : rest b log at count room .at ≡ rest (after b packet) log next (count + 1) (room - length line) .at =
+        ap (λ (x : Running). x .at) (at-record b log at count room from size next line h e refl) in
         let r = inside-log (suc (length log)) (after b packet) log next (count + 1) (room - length line) (i .within) in
         (omega (arith, q, r .0, i .onward), omega (arith, q, r .1))
 

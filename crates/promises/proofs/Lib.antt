@@ -11,3 +11,4 @@ pub mod FromUs
 pub mod Leaves
 pub mod ParsedRows
 pub mod Meaning
+pub mod Ignored

@@ -33,16 +33,12 @@ abbrev μ-loop : tie.MeasureT-loop
 μ-loop log state₀ streams₀ messages₀ response₀ out₀ at₀ count₀ total₀ state streams messages response out at count total =
     length log - at
 
-slice-aggregate-setup : tie.Need-slice-aggregate-setup Inv-loop μ-loop
-slice-aggregate-setup c = search needs
-
-setup-requires : tie.Need-setup-requires Inv-loop μ-loop
-setup-requires c κs = search needs
-
+-- nothing is put, and the whole output is still to come
 loop-holds : tie.Need-loop-holds Inv-loop μ-loop
 loop-holds c =
+    let made = c .before in
     record {
-      words = c .before .setup .kept .0;
+      words = made .setup .kept .0;
       streams = refl;
       messages = refl;
       reply = refl;
@@ -50,71 +46,44 @@ loop-holds c =
       few = omega arith;
       inside = omega arith;
       fits = omega arith;
-      whole = begins (c .before .before .before .before .args .log .now) (c .before .setup .last .0) (c .before .setup .result) (c .before .before .before .before .pre) (c .before .setup .ensures);
+      whole = begins _ _ (made .setup .result) (made .before .before .before .pre) (made .setup .ensures);
     }
-
-slice-aggregate-run : tie.Need-slice-aggregate-run Inv-loop μ-loop
-slice-aggregate-run c = search needs
-
-slice-aggregate-run-2 : tie.Need-slice-aggregate-run-2 Inv-loop μ-loop
-slice-aggregate-run-2 c = search needs
-
-slice-aggregate-run-3 : tie.Need-slice-aggregate-run-3 Inv-loop μ-loop
-slice-aggregate-run-3 c = search needs
-
-slice-aggregate-run-4 : tie.Need-slice-aggregate-run-4 Inv-loop μ-loop
-slice-aggregate-run-4 c = search needs
-
-slice-aggregate-run-5 : tie.Need-slice-aggregate-run-5 Inv-loop μ-loop
-slice-aggregate-run-5 c = search needs
-
-run-requires : tie.Need-run-requires Inv-loop μ-loop
-run-requires c κs = search needs
-
-array-share-prefix-out : tie.Need-array-share-prefix-out Inv-loop μ-loop
-array-share-prefix-out c = search needs
 
 slice-aggregate-write-all : tie.Need-slice-aggregate-write-all Inv-loop μ-loop
 slice-aggregate-write-all c =
-    let i = c .before .before .before .before .before .before .before .before .before .before .before .before .loop .inv in
-    simp length-take (omega (arith, c .before .before .before .before .before .before .run .ensures .1 .0, i .buffer))
+    let called = c .before .before .before .before .before .before in
+    let i = called .before .before .before .before .before .before .loop .inv in
+    simp length-take (omega (arith, called .run .ensures .1 .0, i .buffer))
 
-write-all-requires : tie.Need-write-all-requires Inv-loop μ-loop
-write-all-requires c κs = search needs
-
-add-total : tie.Need-add-total Inv-loop μ-loop
-add-total c = search needs
-
+-- the last run
 returns : tie.Need-returns Inv-loop μ-loop
 returns c =
-    let l = c .before .before .before .before .before .before .before .before .before .before .before .before .before .before .loop in
-    let i = l .inv in
-    let r = c .before .before .before .before .before .before .before .before .run in
-    let m = adds-last (desk (l .state) (l .streams) (l .messages) (l .response)) (c .before .before .before .before .before .before .before .before .before .before .before .before .before .before .before .before .before .before .before .args .log .now) (l .at) (l .count) (l .out) (r .result) (desk (r .last .0) (r .last .1 .0) (r .last .1 .1 .0) (r .last .1 .1 .1 .0)) (r .last .1 .1 .1 .1 .1 .1 .1 .0) (r .ensures .0) (i .few) (c .if1 .taken) in
-    omega (arith, m, i .whole)
+    let called = c .before .before .before .before .before .before .before .before in
+    let i = called .before .before .before .before .before .before .loop .inv in
+    omega (arith, adds-last _ _ _ _ _ _ _ _ (called .run .ensures .0) (i .few) (c .if1 .taken), i .whole)
 
+-- one more run: it has come on
 loop-less : tie.Need-loop-less Inv-loop μ-loop
 loop-less c =
-    let l = c .before .before .before .before .before .before .before .before .before .before .before .before .before .before .loop in
-    let i = l .inv in
-    let r = c .before .before .before .before .before .before .before .before .run in
-    let o = r .ensures .1 .1 (omega (arith, i .buffer)) (c .if1 .left) in
+    let called = c .before .before .before .before .before .before .before .before in
+    let i = called .before .before .before .before .before .before .loop .inv in
+    let o = called .run .ensures .1 .1 (omega (arith, i .buffer)) (c .if1 .left) in
     omega (arith, o .0, o .1)
 
 loop-again : tie.Need-loop-again Inv-loop μ-loop
 loop-again c =
-    let l = c .before .before .before .before .before .before .before .before .before .before .before .before .before .before .loop in
-    let i = l .inv in
-    let r = c .before .before .before .before .before .before .before .before .run in
+    let called = c .before .before .before .before .before .before .before .before in
+    let i = called .before .before .before .before .before .before .loop .inv in
+    let r = called .run in
     let o = r .ensures .1 .1 (omega (arith, i .buffer)) (c .if1 .left) in
-    let m = adds-more (desk (l .state) (l .streams) (l .messages) (l .response)) (c .before .before .before .before .before .before .before .before .before .before .before .before .before .before .before .before .before .before .before .args .log .now) (l .at) (l .count) (l .out) (r .result) (desk (r .last .0) (r .last .1 .0) (r .last .1 .1 .0) (r .last .1 .1 .1 .0)) (r .last .1 .1 .1 .1 .1 .1 .1 .0) (r .ensures .0) (i .few) (c .if1 .left) in
+    let m = adds-more _ _ _ _ _ _ _ _ (r .ensures .0) (i .few) (c .if1 .left) in
     record {
       words = r .kept .0 ∙ i .words;
       streams = r .kept .1 .0 ∙ i .streams;
       messages = r .kept .1 .1 .0 ∙ i .messages;
       reply = r .kept .1 .1 .1 .0 ∙ i .reply;
       buffer = r .kept .1 .1 .1 .1 .1 .1 .1 .0 ∙ i .buffer;
-      few = few-behind (desk (l .state) (l .streams) (l .messages) (l .response)) (c .before .before .before .before .before .before .before .before .before .before .before .before .before .before .before .before .before .before .before .args .log .now) (l .at) (l .count) (l .out) (r .result) (desk (r .last .0) (r .last .1 .0) (r .last .1 .1 .0) (r .last .1 .1 .1 .0)) (r .last .1 .1 .1 .1 .1 .1 .1 .0) (r .ensures .0) (i .few);
+      few = few-behind _ _ _ _ _ _ _ _ (r .ensures .0) (i .few);
       inside = o .1;
       fits = omega (arith, o .0, i .fits, i .buffer, r .ensures .1 .0);
       whole = omega (arith, m, i .whole);
@@ -126,19 +95,9 @@ print-runs-spec =
     (tie.spec
     Inv-loop
     μ-loop
-    slice-aggregate-setup
-    setup-requires
-    loop-holds
-    slice-aggregate-run
-    slice-aggregate-run-2
-    slice-aggregate-run-3
-    slice-aggregate-run-4
-    slice-aggregate-run-5
-    run-requires
-    array-share-prefix-out
+    (λ c. search needs) (λ c κs. search needs) loop-holds
+    (λ c. search needs) (λ c. search needs) (λ c. search needs) (λ c. search needs) (λ c. search needs) (λ c κs. search needs) (λ c. search needs)
     slice-aggregate-write-all
-    write-all-requires
-    add-total
-    returns
+    (λ c κs. search needs) (λ c. search needs) returns
     loop-less
     loop-again)

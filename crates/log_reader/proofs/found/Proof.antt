@@ -1,4 +1,5 @@
--- `log_reader::found` meets its contract: a walk of its MIR, by hand. The struct is taken apart, and `next_record` is called on the slice and the number. All that the proof knows of `next_record` is that it meets its contract.
+-- `log_reader::found` meets its contract: a walk of its MIR, by hand. The struct is taken apart, and `next_record` is called on the slice and the
+-- number. All that the proof knows of `next_record` is that it meets its contract.
 -- The struct is Copy: what it owns is had twice, one copy is kept whole for the exit, and of the other what log owns goes to the callee, beside the lifetime's token, which comes back.
 -- Assumes nothing.
 use mathlib.Core.Path.{_≡_, refl}
@@ -92,7 +93,8 @@ module _ {M : Type 1} (𝓤 : URA M) (H : Heap 𝓤) (A : Atoms 𝓤) (W : Given
         assigns ! (of-opd ! (load ! (from ! (fld ! refl (stop !))) (look-in ! 4 (sub ! 0 refl (whole !))))) (from ! (stop !)) (init ! 2 refl (tt, wt .1 .0)) $
         assigns ! (of-opd ! (load ! (from ! (fld ! refl (stop !))) (look-in ! 4 (sub ! 1 refl (whole !))))) (from ! (stop !)) (init ! 0 refl (tt, wt .1 .1 .0)) $
         move ! (8 ∷ []) $ use1 W (raw (NextRecord 𝓤 H A mem run .pre (to-record 𝓤 H A mem run κ q d)) ⊛ ‵ Own) (apart (wt .1 .1 .0 .fits)) $ split ! $
-        calls-at ! fm (NextRecord 𝓤 H A mem run) known (to-record 𝓤 H A mem run κ q d) (and-then ! (load ! (from ! (stop !)) (look ! 4 refl)) (and-then ! (load ! (from ! (stop !)) (look ! 2 refl)) (no-more !))) (λ u.
+        calls-at ! fm (NextRecord 𝓤 H A mem run) known (to-record 𝓤 H A mem run κ q d)
+        (and-then ! (load ! (from ! (stop !)) (look ! 4 refl)) (and-then ! (load ! (from ! (stop !)) (look ! 2 refl)) (no-more !))) (λ u.
         answers ! tt next-record.ended (κ, tt) (d .log, (d .at, tt)) S.the-row u (‵ (flft κ q) ⊛ ‵ ftrue) (λ r. r ≡ nextRecord (now (d .log)) (d .at)) (id⊢ 𝓤 _) (λ r e is.
         -- [the result; the token; what the struct owns; _3; …; _2; …; _1; …; room for _0; …]
         land ! (from ! (stop !)) (init ! 9 refl (EL.lawful S.the-type S′.the-laws 𝓤 H A W tt .typed r _ is .0)) $
@@ -102,13 +104,18 @@ module _ {M : Type 1} (𝓤 : URA M) (H : Heap 𝓤) (A : Atoms 𝓤) (W : Given
 module _ {M : Type 1} (𝓤 : URA M) (H : Heap 𝓤) (A : Atoms 𝓤) (W : Given 𝓤 H A) (mem : Memory → SProp 𝓤) (run : Routine → Fun 𝓤) where
   found-walks : (C : Calls 𝓤 H) (Λ : Loops 𝓤 H) → FmC 𝓤 H (W .laws) C → Triple 𝓤 (C #log-records·next-record) (NextRecord 𝓤 H A mem run)
       → Walks 𝓤 H A found.ended stayed (WpFn 𝓤 H C Λ code.function) (found.clauses 𝓤 H A mem run)
-  found-walks C Λ fm known = walked 𝓤 H A found.ended stayed (found.clauses 𝓤 H A mem run) (WpFn 𝓤 H C Λ code.function) (λ κs. (LL.vals (T.the-type (namedLft 1 0 tt κs)) (T′.the-laws (namedLft 1 0 tt κs)), tt)) (λ κs. (LL.tells (T.the-type (namedLft 1 0 tt κs)) (T′.the-laws (namedLft 1 0 tt κs)), tt))
-      (λ κs qs bounds a g are. via 𝓤 _ (fst∗ 𝓤 _ (emp 𝓤)) (walk 𝓤 H A W mem run (κs .0) (qs .0) (a .0) C Λ fm known (LL.lawful (T.the-type (namedLft 1 0 tt κs)) (T′.the-laws (namedLft 1 0 tt κs)) 𝓤 H A W .typed (a .0) _ (are .0) .0)))
+  found-walks C Λ fm known =
+      walked 𝓤 H A found.ended stayed (found.clauses 𝓤 H A mem run) (WpFn 𝓤 H C Λ code.function) (λ κs. (LL.vals (T.the-type (namedLft 1 0 tt κs)) (T′.the-laws (namedLft 1 0 tt κs)), tt))
+      (λ κs. (LL.tells (T.the-type (namedLft 1 0 tt κs)) (T′.the-laws (namedLft 1 0 tt κs)), tt))
+      (λ κs qs bounds a g are. via 𝓤 _ (fst∗ 𝓤 _ (emp 𝓤))
+      (walk 𝓤 H A W mem run (κs .0) (qs .0) (a .0) C Λ fm known (LL.lawful (T.the-type (namedLft 1 0 tt κs)) (T′.the-laws (namedLft 1 0 tt κs)) 𝓤 H A W .typed (a .0) _ (are .0) .0)))
 
 found-meets : {M : Type 1} (𝓤 : URA M) (H : Heap 𝓤) (A : Atoms 𝓤) (W : Given 𝓤 H A) (mem : Memory → SProp 𝓤) (run : Routine → Fun 𝓤) (𝓣 : Tables 𝓤 H)
     → Triple 𝓤 (𝓣 .C #log-records·next-record) (NextRecord 𝓤 H A mem run)
     → Meets 𝓤 H A found.signature (WpFn 𝓤 H (𝓣 .C) (𝓣 .Λ) code.function) (found.spec 𝓤 H A mem run)
-found-meets 𝓤 H A W mem run 𝓣 known-next-record = walk-meets 𝓤 H A found.ended stayed W (goes-none 𝓤 H A W 1 B yes (λ κs x f. refl), tt) (found.clauses 𝓤 H A mem run) (WpFn 𝓤 H (𝓣 .C) (𝓣 .Λ) code.function) (WpFn-mono 𝓤 H (W .laws) 𝓣 code.function)
+found-meets 𝓤 H A W mem run 𝓣 known-next-record =
+    walk-meets 𝓤 H A found.ended stayed W (goes-none 𝓤 H A W 1 B yes (λ κs x f. refl), tt) (found.clauses 𝓤 H A mem run) (WpFn 𝓤 H (𝓣 .C) (𝓣 .Λ) code.function)
+    (WpFn-mono 𝓤 H (W .laws) 𝓣 code.function)
     (found-walks 𝓤 H A W mem run (𝓣 .C) (𝓣 .Λ) (fmOf 𝓤 H (W .laws) 𝓣) known-next-record)
 
 pub found-spec : {M : Type 1} → stated.statement M

@@ -1,5 +1,8 @@
--- `log_reader::next` meets its contract: a walk of its MIR, by hand. The borrow is opened, which gives the struct's cell and what the struct owns; `next_record` is called on the slice and the number, and `place_behind` on what it answered; the number that this returned is stored in the cell, and the borrow is closed at the struct with that number.
--- The struct is Copy: what it owns is had twice, of one copy what log owns goes to `next_record`, and the other, with the facts of the new number in the place of at's, goes back behind the borrow. What was found is Copy too: one copy goes to `place_behind`, and one is the result.
+-- `log_reader::next` meets its contract: a walk of its MIR, by hand. The borrow is opened, which gives the struct's cell and what the struct owns;
+-- `next_record` is called on the slice and the number, and `place_behind` on what it answered; the number that this returned is stored in the cell,
+-- and the borrow is closed at the struct with that number.
+-- The struct is Copy: what it owns is had twice, of one copy what log owns goes to `next_record`, and the other, with the facts of the new number in
+-- the place of at's, goes back behind the borrow. What was found is Copy too: one copy goes to `place_behind`, and one is the result.
 -- All that the proof knows of the two is that each meets its contract.
 -- Assumes nothing.
 use mathlib.Core.Path.{_≡_, refl, ap, _∙_}
@@ -84,7 +87,8 @@ module _ {M : Type 1} (𝓤 : URA M) (H : Heap 𝓤) (A : Atoms 𝓤) (at-mem : 
   abbrev PlaceBehind : Contract 𝓤
   PlaceBehind = tripleOf 𝓤 H A place-behind.signature (place-behind.spec 𝓤 H A at-mem run)
 
-module _ {M : Type 1} (𝓤 : URA M) (H : Heap 𝓤) (A : Atoms 𝓤) (W : Given 𝓤 H A) (at-mem : Memory → SProp 𝓤) (run : Routine → Fun 𝓤) (κ κ′ : Lft) (q q′ : Share) (bounds : AllOutlive 2 (next.signature .outlives) (κ, (κ′, tt))) (b o : ℕ) (γ : GName) (h : LogReader) where
+module _ {M : Type 1} (𝓤 : URA M) (H : Heap 𝓤) (A : Atoms 𝓤) (W : Given 𝓤 H A) (at-mem : Memory → SProp 𝓤) (run : Routine → Fun 𝓤) (κ κ′ : Lft) (q q′ : Share)
+    (bounds : AllOutlive 2 (next.signature .outlives) (κ, (κ′, tt))) (b o : ℕ) (γ : GName) (h : LogReader) where
   abbrev x : RefT LogReader × Unit {0}
   x = (record { ptr = (b, o); name = γ; now = h }, tt)
 
@@ -130,13 +134,16 @@ module _ {M : Type 1} (𝓤 : URA M) (H : Heap 𝓤) (A : Atoms 𝓤) (W : Given
   again : (m : ℕ) → m < 2 ^ 64 → ent 𝓤 (sem 𝓤 H A Own) (sem 𝓤 H A (B κ′ .own (h′ m) (T′.lowered (h′ m) ∷ [])))
   again m fits = qed W (‵ Own ∷ []) ∵ owned ! usize (Is usize) (uint-makes 𝓤 H A W w64) m _ (refl, fits) $ move ! (1 ∷ 0 ∷ []) $ by ! (own-put 𝓤 H A W D L 1 vh m mach)
 
-  exits : (r : Next) (u : Val) (m : ℕ) → r ≡ answer → m ≡ placeBehind r (h .at) → ent 𝓤 (⋆ 𝓤 H A (‵ (fobs γ (B κ′ .coded .code (h′ m))) ∷ ‵ (fbor κ (Body (mem (B κ′)) b o γ)) ∷ ‵ (flft κ q) ∷ (‵ (flft κ′ q′) ⊛ ‵ ftrue) ∷ ‵ (S.the-row .own r (u ∷ [])) ∷ [])) (Post u)
+  exits : (r : Next) (u : Val) (m : ℕ) → r ≡ answer → m ≡ placeBehind r (h .at)
+      → ent 𝓤 (⋆ 𝓤 H A (‵ (fobs γ (B κ′ .coded .code (h′ m))) ∷ ‵ (fbor κ (Body (mem (B κ′)) b o γ)) ∷ ‵ (flft κ q) ∷ (‵ (flft κ′ q′) ⊛ ‵ ftrue) ∷ ‵ (S.the-row .own r (u ∷ [])) ∷ [])) (Post u)
   exits r u m e e′ =
       qed W (‵ (fobs γ (B κ′ .coded .code (h′ m))) ∷ ‵ (fbor κ (Body (mem (B κ′)) b o γ)) ∷ ‵ (flft κ q) ∷ (‵ (flft κ′ q′) ⊛ ‵ ftrue) ∷ ‵ (S.the-row .own r (u ∷ [])) ∷ []) ∵
-      suffices ! _ (ends-at 𝓤 H A next.ended stayed (next.clauses 𝓤 H A at-mem run) W (((κ, (κ′, tt)), (q, (q′, tt)), bounds, x, at), tt) u r (h′ m, tt) (tt, tt)) $ says ! (e, ap h′ (e′ ∙ ap (λ (t : Next). placeBehind t (h .at)) e)) $
+      suffices ! _ (ends-at 𝓤 H A next.ended stayed (next.clauses 𝓤 H A at-mem run) W (((κ, (κ′, tt)), (q, (q′, tt)), bounds, x, at), tt) u r (h′ m, tt) (tt, tt)) $
+      says ! (e, ap h′ (e′ ∙ ap (λ (t : Next). placeBehind t (h .at)) e)) $
       move ! (2 ∷ 3 ∷ []) $ join ! $ frame ! $ feqI ! (List Val) (vptr b o ∷ []) (vptr b o ∷ []) refl $ fjoin3 ! $ nothing ! $ move ! (1 ∷ 0 ∷ []) $ fjoin ! $ frame ! $ done !
 
-  module _ (C : Calls 𝓤 H) (Λ : Loops 𝓤 H) (fm : FmC 𝓤 H (W .laws) C) (known-record : Triple 𝓤 (C #log-records·next-record) (NextRecord 𝓤 H A at-mem run)) (known-behind : Triple 𝓤 (C #log-reader·place-behind) (PlaceBehind 𝓤 H A at-mem run)) where
+  module _ (C : Calls 𝓤 H) (Λ : Loops 𝓤 H) (fm : FmC 𝓤 H (W .laws) C) (known-record : Triple 𝓤 (C #log-records·next-record) (NextRecord 𝓤 H A at-mem run))
+      (known-behind : Triple 𝓤 (C #log-reader·place-behind) (PlaceBehind 𝓤 H A at-mem run)) where
     walk : ent 𝓤 (onEntry 𝓤 H A next.signature (κ, (κ′, tt)) (q, (q′, tt)) x at) (WpFn 𝓤 H C Λ code.function (vptr b o ∷ []) Post)
     walk =
         qed W ((‵ (flft κ q) ⊛ ‵ (flft κ′ q′) ⊛ ‵ ftrue) ∷ ‵ (owns (MutRef (named 0) κ (B κ′) ∷ []) x at) ∷ []) ∵ enter ! C Λ code.function (vptr b o ∷ []) _ $
@@ -147,40 +154,51 @@ module _ {M : Type 1} (𝓤 : URA M) (H : Heap 𝓤) (A : Atoms 𝓤) (W : Given
         use1 W (‵ (fat fullShare (T′.mir erased) b o mach)) (W .laws .raw-at fullShare (T′.mir erased) b o mach) $
         move ! (1 ∷ []) $ peeks ! (B κ′) (Is (B κ′)) (shows 𝓤 H A (B κ′)) h (mach ∷ []) (λ was. move ! (1 ∷ 0 ∷ []) $
         -- [the struct's cell; what a LogReader owns; the open borrow; obs; auth; 'a's token; …; room for _5; …; room for _4; …; room for _3; …; room for _2; …; _1; …; room for _0; …]
-        assigns ! (of-opd ! (load ! (from ! (hop ! (look ! 15 refl) (fld ! refl (stop !)))) (look-in ! 0 (sub ! 1 refl (whole !))))) (from ! (stop !)) (init ! 13 refl (tt, record { fits = was .1 .1 .1 .0 .1 })) $
-        assigns ! (of-opd ! (load ! (from ! (hop ! (look ! 15 refl) (fld ! refl (stop !)))) (look-in ! 0 (sub ! 0 refl (whole !))))) (from ! (stop !)) (init ! 9 refl (tt, LL.lawful D L 𝓤 H A W .typed h _ was .0 .1 .0)) $
+        assigns ! (of-opd ! (load ! (from ! (hop ! (look ! 15 refl) (fld ! refl (stop !)))) (look-in ! 0 (sub ! 1 refl (whole !))))) (from ! (stop !))
+        (init ! 13 refl (tt, record { fits = was .1 .1 .1 .0 .1 })) $
+        assigns ! (of-opd ! (load ! (from ! (hop ! (look ! 15 refl) (fld ! refl (stop !)))) (look-in ! 0 (sub ! 0 refl (whole !))))) (from ! (stop !))
+        (init ! 9 refl (tt, LL.lawful D L 𝓤 H A W .typed h _ was .0 .1 .0)) $
         move ! (1 ∷ 5 ∷ []) $ use2 W (raw (NextRecord 𝓤 H A at-mem run .pre (to-record 𝓤 H A at-mem run κ′ q′ h)) ⊛ ‵ Own) (goes-record 𝓤 H A W at-mem run q′ (α κ′) h (was .1 .1 .1 .0 .1)) $ split ! $
         -- [what `next_record` asks; what the struct owns; the cell; the open borrow; obs; auth; …; room for _5; …; _4; …; room for _3; …; _2; …; _1; …; room for _0; …]
-        calls-at ! fm (NextRecord 𝓤 H A at-mem run) known-record (to-record 𝓤 H A at-mem run κ′ q′ h) (and-then ! (load ! (from ! (stop !)) (look ! 9 refl)) (and-then ! (load ! (from ! (stop !)) (look ! 13 refl)) (no-more !))) (λ u.
+        calls-at ! fm (NextRecord 𝓤 H A at-mem run) known-record (to-record 𝓤 H A at-mem run κ′ q′ h)
+        (and-then ! (load ! (from ! (stop !)) (look ! 9 refl)) (and-then ! (load ! (from ! (stop !)) (look ! 13 refl)) (no-more !))) (λ u.
         answers ! tt next-record.ended (κ′, tt) (h .log, (h .at, tt)) S.the-row u (‵ (flft κ′ q′) ⊛ ‵ ftrue) (λ r. r ≡ nextRecord (now (h .log)) (h .at)) (id⊢ 𝓤 _) (λ r e is.
         -- [what was found; 'a's token; what the struct owns; the cell; the open borrow; obs; auth; …; room for _5; …; _4; …; room for _3; …; _2; …; _1; …; room for _0; …]
         land ! (from ! (stop !)) (init ! 12 refl (EL.lawful S.the-type S′.the-laws 𝓤 H A W tt .typed r _ is .0)) $
         use1 W (‵ (S.the-row .own r (u ∷ [])) ⊛ ‵ (S.the-row .own r (u ∷ []))) (EL.copy S.the-type S′.the-copy 𝓤 H A W .twice r (u ∷ [])) $ split ! $
         use1 W (raw (PlaceBehind 𝓤 H A at-mem run .pre (to-behind r u))) (goes-behind (was .1 .1 .1 .0 .1) r u) $
-        calls-at ! fm (PlaceBehind 𝓤 H A at-mem run) known-behind (to-behind r u) (and-then ! (load ! (from ! (stop !)) (look ! 13 refl)) (and-then ! (load ! (from ! (stop !)) (look ! 15 refl)) (no-more !))) (λ w.
+        calls-at ! fm (PlaceBehind 𝓤 H A at-mem run) known-behind (to-behind r u)
+        (and-then ! (load ! (from ! (stop !)) (look ! 13 refl)) (and-then ! (load ! (from ! (stop !)) (look ! 15 refl)) (no-more !))) (λ w.
         answers ! tt place-behind.ended tt (r, (h .at, tt)) usize w (‵ ftrue) (λ m. m ≡ placeBehind r (h .at)) (id⊢ 𝓤 _) (λ m e′ is′.
         -- [the number; …; what was found; 'a's token; what the struct owns; the cell; the open borrow; obs; auth; …; room for _5; …; _4; …; _3; …; _2; …; _1; …; room for _0; …]
         land ! (from ! (stop !)) (init ! 10 refl (uint-lawful 𝓤 H A W w64 .typed m _ is′ .0)) $ rewrite ! 10 (λ (y : Val). ‵ (fat fullShare (tyInt w64) l₅ 0 y)) (ap only (is′ .0)) refl $
-        assigns ! (of-opd ! (load ! (from ! (stop !)) (look ! 10 refl))) (from ! (hop ! (look ! 18 refl) (fld ! refl (stop !)))) (store-in ! 5 (sub ! 1 refl (whole !)) (tt, record { fits = is′ .1 })) $
+        assigns ! (of-opd ! (load ! (from ! (stop !)) (look ! 10 refl))) (from ! (hop ! (look ! 18 refl) (fld ! refl (stop !))))
+        (store-in ! 5 (sub ! 1 refl (whole !)) (tt, record { fits = is′ .1 })) $
         assigns ! (of-opd ! (load ! (from ! (stop !)) (look ! 14 refl))) (from ! (stop !)) (init ! 20 refl (EL.lawful S.the-type S′.the-laws 𝓤 H A W tt .typed r _ is .0)) $
         -- the struct is put together again, with the new number, and the borrow is closed
         move ! (4 ∷ []) $ use1 W (‵ (B κ′ .own (h′ m) (T′.lowered (h′ m) ∷ []))) (again m (is′ .1)) $ move ! (5 ∷ []) $
-        use1 W (‵ (cellAt fullShare (B κ′ .mir) (T′.lowered (h′ m) ∷ []) b o)) (W .laws .at-raw fullShare (T′.mir erased) b o (T′.lowered (h′ m))) $ move ! (0 ∷ 1 ∷ 6 ∷ 7 ∷ 8 ∷ []) $ closes ! tt (B κ′) (h′ m) (T′.lowered (h′ m) ∷ []) b o $
+        use1 W (‵ (cellAt fullShare (B κ′ .mir) (T′.lowered (h′ m) ∷ []) b o)) (W .laws .at-raw fullShare (T′.mir erased) b o (T′.lowered (h′ m))) $ move ! (0 ∷ 1 ∷ 6 ∷ 7 ∷ 8 ∷ []) $
+        closes ! tt (B κ′) (h′ m) (T′.lowered (h′ m) ∷ []) b o $
         -- [obs; the borrow; the token; the number; …; what was found; 'a's token; …; _5; …; _4; …; _3; …; _2; …; _1; …; _0; …]
         returns ! (look ! 18 refl) $ forget ! 8 refl $ forget ! 10 refl $ forget ! 12 refl $ forget ! 14 refl $ forget ! 16 refl $ forget ! 18 refl $
-        move ! (18 ∷ 19 ∷ []) $ free1 ! $ move ! (16 ∷ 17 ∷ []) $ free1 ! $ move ! (14 ∷ 15 ∷ []) $ free1 ! $ move ! (12 ∷ 13 ∷ []) $ free1 ! $ move ! (10 ∷ 11 ∷ []) $ free1 ! $ move ! (8 ∷ 9 ∷ []) $ free1 ! $ free0 ! $
+        move ! (18 ∷ 19 ∷ []) $ free1 ! $ move ! (16 ∷ 17 ∷ []) $ free1 ! $ move ! (14 ∷ 15 ∷ []) $ free1 ! $ move ! (12 ∷ 13 ∷ []) $ free1 ! $ move ! (10 ∷ 11 ∷ []) $ free1 ! $
+        move ! (8 ∷ 9 ∷ []) $ free1 ! $ free0 ! $
         keep ! (0 ∷ 1 ∷ 2 ∷ 6 ∷ 5 ∷ []) $ by ! (exits r u m e e′)))))))))))))
 
 module _ {M : Type 1} (𝓤 : URA M) (H : Heap 𝓤) (A : Atoms 𝓤) (W : Given 𝓤 H A) (at-mem : Memory → SProp 𝓤) (run : Routine → Fun 𝓤) where
-  next-walks : (C : Calls 𝓤 H) (Λ : Loops 𝓤 H) → FmC 𝓤 H (W .laws) C → Triple 𝓤 (C #log-records·next-record) (NextRecord 𝓤 H A at-mem run) → Triple 𝓤 (C #log-reader·place-behind) (PlaceBehind 𝓤 H A at-mem run)
+  next-walks : (C : Calls 𝓤 H) (Λ : Loops 𝓤 H) → FmC 𝓤 H (W .laws) C → Triple 𝓤 (C #log-records·next-record) (NextRecord 𝓤 H A at-mem run)
+      → Triple 𝓤 (C #log-reader·place-behind) (PlaceBehind 𝓤 H A at-mem run)
       → Walks 𝓤 H A next.ended stayed (WpFn 𝓤 H C Λ code.function) (next.clauses 𝓤 H A at-mem run)
-  next-walks C Λ fm known-record known-behind = walked 𝓤 H A next.ended stayed (next.clauses 𝓤 H A at-mem run) (WpFn 𝓤 H C Λ code.function) (λ κs. (ptr-vals, tt)) (λ κs. (mut-tells (named 0) (κs .0) (B (κs .1 .0)), tt))
-      (λ κs qs bounds a g are. via 𝓤 _ (fst∗ 𝓤 _ (emp 𝓤)) (walk 𝓤 H A W at-mem run (κs .0) (κs .1 .0) (qs .0) (qs .1 .0) bounds (a .0 .ptr .0) (a .0 .ptr .1) (a .0 .name) (a .0 .now) C Λ fm known-record known-behind))
+  next-walks C Λ fm known-record known-behind =
+      walked 𝓤 H A next.ended stayed (next.clauses 𝓤 H A at-mem run) (WpFn 𝓤 H C Λ code.function) (λ κs. (ptr-vals, tt)) (λ κs. (mut-tells (named 0) (κs .0) (B (κs .1 .0)), tt))
+      (λ κs qs bounds a g are. via 𝓤 _ (fst∗ 𝓤 _ (emp 𝓤))
+      (walk 𝓤 H A W at-mem run (κs .0) (κs .1 .0) (qs .0) (qs .1 .0) bounds (a .0 .ptr .0) (a .0 .ptr .1) (a .0 .name) (a .0 .now) C Λ fm known-record known-behind))
 
 next-meets : {M : Type 1} (𝓤 : URA M) (H : Heap 𝓤) (A : Atoms 𝓤) (W : Given 𝓤 H A) (at-mem : Memory → SProp 𝓤) (run : Routine → Fun 𝓤) (𝓣 : Tables 𝓤 H)
     → Triple 𝓤 (𝓣 .C #log-records·next-record) (NextRecord 𝓤 H A at-mem run) → Triple 𝓤 (𝓣 .C #log-reader·place-behind) (PlaceBehind 𝓤 H A at-mem run)
     → Meets 𝓤 H A next.signature (WpFn 𝓤 H (𝓣 .C) (𝓣 .Λ) code.function) (next.spec 𝓤 H A at-mem run)
-next-meets 𝓤 H A W at-mem run 𝓣 known-record known-behind = walk-meets 𝓤 H A next.ended stayed W (goes-ref 𝓤 H A W 2 0 tt behind, tt) (next.clauses 𝓤 H A at-mem run) (WpFn 𝓤 H (𝓣 .C) (𝓣 .Λ) code.function) (WpFn-mono 𝓤 H (W .laws) 𝓣 code.function)
+next-meets 𝓤 H A W at-mem run 𝓣 known-record known-behind =
+    walk-meets 𝓤 H A next.ended stayed W (goes-ref 𝓤 H A W 2 0 tt behind, tt) (next.clauses 𝓤 H A at-mem run) (WpFn 𝓤 H (𝓣 .C) (𝓣 .Λ) code.function) (WpFn-mono 𝓤 H (W .laws) 𝓣 code.function)
     (next-walks 𝓤 H A W at-mem run (𝓣 .C) (𝓣 .Λ) (fmOf 𝓤 H (W .laws) 𝓣) known-record known-behind)
 
 pub next-spec : {M : Type 1} → stated.statement M

@@ -1,5 +1,8 @@
--- `log_reader::place_after` meets its contract: a walk of its MIR, by hand. A reader is made and moved, as in `record_at`, and stored in a local that is then lent to `next` by `&mut`, for a lifetime that is made for the call.
--- That lifetime is to be within the log's, which the reader holds: it is the meet of a new one and the log's. Half of the log's token goes into the token of the meet, and half beside it, and both come back. Then the new lifetime is ended, the local is taken back at the last value that `next` says, and its place is read.
+-- `log_reader::place_after` meets its contract: a walk of its MIR, by hand. A reader is made and moved, as in `record_at`, and stored in a local that
+-- is then lent to `next` by `&mut`, for a lifetime that is made for the call.
+-- That lifetime is to be within the log's, which the reader holds: it is the meet of a new one and the log's. Half of the log's token goes into the
+-- token of the meet, and half beside it, and both come back. Then the new lifetime is ended, the local is taken back at the last value that `next`
+-- says, and its place is read.
 -- All that the proof knows of the four functions called is that each meets its contract.
 -- Assumes nothing.
 use mathlib.Core.Path.{_≡_, refl, ap, _∙_}
@@ -90,7 +93,8 @@ module _ {M : Type 1} (𝓤 : URA M) (H : Heap 𝓤) (A : Atoms 𝓤) (mem-at : 
   abbrev Place : Contract 𝓤
   Place = tripleOf 𝓤 H A place.signature (place.spec 𝓤 H A mem-at run)
 
-module _ {M : Type 1} (𝓤 : URA M) (H : Heap 𝓤) (A : Atoms 𝓤) (W : Given 𝓤 H A) (mem-at : Memory → SProp 𝓤) (run : Routine → Fun 𝓤) (κ : Lft) (q : Share) (s : RefT (List ℕ)) (n : ℕ) (ok : n < 2 ^ 64) where
+module _ {M : Type 1} (𝓤 : URA M) (H : Heap 𝓤) (A : Atoms 𝓤) (W : Given 𝓤 H A) (mem-at : Memory → SProp 𝓤) (run : Routine → Fun 𝓤) (κ : Lft) (q : Share) (s : RefT (List ℕ)) (n : ℕ)
+    (ok : n < 2 ^ 64) where
   -- the machine value that s has
   abbrev v : Val
   v = sliceOf s
@@ -128,7 +132,8 @@ module _ {M : Type 1} (𝓤 : URA M) (H : Heap 𝓤) (A : Atoms 𝓤) (W : Given
   -- the struct r at the local l, lent: its cell and what it owns, put together and taken apart
   laid : (r : LogReader) (u : Val) (l : ℕ) → ent 𝓤 (⋆ 𝓤 H A (‵ (cellAt fullShare (R .mir) (u ∷ []) l 0) ∷ ‵ (R .own r (u ∷ [])) ∷ [])) (sem 𝓤 H A (partAt R fullShare r l 0))
   unfolding partOf
-  laid r u l = qed W (‵ (cellAt fullShare (R .mir) (u ∷ []) l 0) ∷ ‵ (R .own r (u ∷ [])) ∷ []) ∵ fjoin ! $ fpack ! (List Val) (λ vs. fsep (cellAt fullShare (R .mir) vs l 0) (R .own r vs)) (u ∷ []) $ done !
+  laid r u l =
+      qed W (‵ (cellAt fullShare (R .mir) (u ∷ []) l 0) ∷ ‵ (R .own r (u ∷ [])) ∷ []) ∵ fjoin ! $ fpack ! (List Val) (λ vs. fsep (cellAt fullShare (R .mir) vs l 0) (R .own r vs)) (u ∷ []) $ done !
 
   abbrev Lies : LogReader → ℕ → List Val → SProp 𝓤
   Lies r l vs = sep 𝓤 (sem 𝓤 H A (cellAt fullShare (R .mir) vs l 0)) (sem 𝓤 H A (R .own r vs))
@@ -144,7 +149,8 @@ module _ {M : Type 1} (𝓤 : URA M) (H : Heap 𝓤) (A : Atoms 𝓤) (W : Given
   abbrev to-next : ℕ → LogReader → ℕ → GName → NextC 𝓤 H A mem-at run .Ghost
   to-next ν r l δ = (((ν ∷ κ, (κ, tt)), (ql, (qr, tt)), (meet-⊑-right (ν ∷ []) κ, tt), (lent r l δ, tt), (vptr l 0 ∷ [], tt)), tt)
 
-  goes-next : (ν : ℕ) (r : LogReader) (l : ℕ) (δ : GName) → ent 𝓤 (⋆ 𝓤 H A (‵ (MutRef (named 0) (ν ∷ κ) R .own (lent r l δ) (vptr l 0 ∷ [])) ∷ ‵ (flft (ν ∷ κ) ql) ∷ ‵ (flft κ qr) ∷ [])) (NextC 𝓤 H A mem-at run .pre (to-next ν r l δ))
+  goes-next : (ν : ℕ) (r : LogReader) (l : ℕ) (δ : GName)
+      → ent 𝓤 (⋆ 𝓤 H A (‵ (MutRef (named 0) (ν ∷ κ) R .own (lent r l δ) (vptr l 0 ∷ [])) ∷ ‵ (flft (ν ∷ κ) ql) ∷ ‵ (flft κ qr) ∷ [])) (NextC 𝓤 H A mem-at run .pre (to-next ν r l δ))
   goes-next ν r l δ =
       qed W (‵ (MutRef (named 0) (ν ∷ κ) R .own (lent r l δ) (vptr l 0 ∷ [])) ∷ ‵ (flft (ν ∷ κ) ql) ∷ ‵ (flft κ qr) ∷ []) ∵
       nothing ! $ move ! (1 ∷ 0 ∷ []) $ fjoin ! $ nothing ! $ move ! (3 ∷ 0 ∷ []) $ join ! $ move ! (2 ∷ 0 ∷ []) $ join ! $ join ! $ frame ! $ done !
@@ -162,7 +168,9 @@ module _ {M : Type 1} (𝓤 : URA M) (H : Heap 𝓤) (A : Atoms 𝓤) (W : Given
       suffices ! _ (ends-at 𝓤 H A place-after.ended stayed (place-after.clauses 𝓤 H A mem-at run) W (((κ, tt), (q, tt), tt, (s, (n, tt)), at), tt) u m (tt, (tt, tt)) (tt, (tt, tt))) $ says ! e $
       move ! (1 ∷ []) $ frame ! $ nothing ! $ owned ! usize (Is usize) (uint-makes 𝓤 H A W w64) n _ (refl, ok) $ fjoin ! $ move ! (2 ∷ 0 ∷ []) $ fjoin ! $ frame ! $ done !
 
-  module _ (C : Calls 𝓤 H) (Λ : Loops 𝓤 H) (fm : FmC 𝓤 H (W .laws) C) (known-new : Triple 𝓤 (C #log-reader·new) (New 𝓤 H A mem-at run)) (known-moved : Triple 𝓤 (C #log-reader·moved) (Moved 𝓤 H A mem-at run)) (known-next : Triple 𝓤 (C #log-reader·next) (NextC 𝓤 H A mem-at run)) (known-place : Triple 𝓤 (C #log-reader·place) (Place 𝓤 H A mem-at run)) where
+  module _ (C : Calls 𝓤 H) (Λ : Loops 𝓤 H) (fm : FmC 𝓤 H (W .laws) C) (known-new : Triple 𝓤 (C #log-reader·new) (New 𝓤 H A mem-at run))
+      (known-moved : Triple 𝓤 (C #log-reader·moved) (Moved 𝓤 H A mem-at run)) (known-next : Triple 𝓤 (C #log-reader·next) (NextC 𝓤 H A mem-at run))
+      (known-place : Triple 𝓤 (C #log-reader·place) (Place 𝓤 H A mem-at run)) where
     walk : Is (ShrSlice (named 0) κ u8) s (v ∷ []) → ent 𝓤 (onEntry 𝓤 H A place-after.signature (κ, tt) (q, tt) (s, (n, tt)) at) (WpFn 𝓤 H C Λ code.function (v ∷ vint w64 n ∷ []) Post)
     walk p =
         qed W (raw (onEntry 𝓤 H A place-after.signature (κ, tt) (q, tt) (s, (n, tt)) at) ∷ []) ∵ enter ! C Λ code.function (v ∷ vint w64 n ∷ []) _ $
@@ -175,7 +183,8 @@ module _ {M : Type 1} (𝓤 : URA M) (H : Heap 𝓤) (A : Atoms 𝓤) (W : Given
         -- [what the struct owns; the token; what s owns; room for _7; …]
         land ! (from ! (stop !)) (init ! 7 refl (LL.lawful (T.the-type αᵉ) (T′.the-laws αᵉ) 𝓤 H A W .typed r _ is .0)) $
         use2 W (raw (Moved 𝓤 H A mem-at run .pre (to-moved 𝓤 H A mem-at run κ q n r u))) (goes-moved 𝓤 H A W mem-at run q κ n ok r u) $
-        calls-at ! fm (Moved 𝓤 H A mem-at run) known-moved (to-moved 𝓤 H A mem-at run κ q n r u) (and-then ! (load ! (from ! (stop !)) (look ! 6 refl)) (and-then ! (load ! (from ! (stop !)) (look ! 12 refl)) (no-more !))) (λ u′.
+        calls-at ! fm (Moved 𝓤 H A mem-at run) known-moved (to-moved 𝓤 H A mem-at run κ q n r u)
+        (and-then ! (load ! (from ! (stop !)) (look ! 6 refl)) (and-then ! (load ! (from ! (stop !)) (look ! 12 refl)) (no-more !))) (λ u′.
         answers ! tt moved.ended (κ, tt) (r, (n, tt)) (B (κ, tt)) u′ (‵ (flft κ q) ⊛ ‵ ftrue) (λ r′. r′ ≡ readerAt (r .log) n) (id⊢ 𝓤 _) (λ r′ e′ is′.
         -- [what the moved struct owns; the token; what s owns; room for _7; …; room for _6; …; _5; …; room for _4; …; room for _3; …; _2; …; _1; …; room for _0; …]
         land ! (from ! (stop !)) (init ! 9 refl (LL.lawful (T.the-type αᵉ) (T′.the-laws αᵉ) 𝓤 H A W .typed r′ _ is′ .0)) $
@@ -188,13 +197,16 @@ module _ {M : Type 1} (𝓤 : URA M) (H : Heap 𝓤) (A : Atoms 𝓤) (W : Given
         move ! (3 ∷ []) $ split ! $ use1 W (‵ (flft κ ql) ⊛ ‵ (flft κ qr)) (W .lfts .lft-split κ q) $ split ! $
         move ! (3 ∷ 0 ∷ []) $ use2 W (‵ (flft (ν ∷ κ) ql)) (W .lfts .lft-meet (ν ∷ []) κ ql) $
         -- [the meet's token; half of the log's; …; the way back; what lies at _3; what s owns; _7; …]
-        move ! (4 ∷ []) $ use1 W (later (some (λ (δ : GName). ‵ (MutRef (named 0) (ν ∷ κ) R .own (lent r′ l₃ δ) (vptr l₃ 0 ∷ [])) ⊛ ‵ (flent (ν ∷ κ) (Body (mem R) l₃ 0 δ))))) (lends-ref 𝓤 H A W R (named 0) (ν ∷ κ) r′ l₃ 0) $ await ! tt $ pick ! (λ δ. split ! $
+        move ! (4 ∷ []) $ use1 W (later (some (λ (δ : GName). ‵ (MutRef (named 0) (ν ∷ κ) R .own (lent r′ l₃ δ) (vptr l₃ 0 ∷ [])) ⊛ ‵ (flent (ν ∷ κ) (Body (mem R) l₃ 0 δ)))))
+        (lends-ref 𝓤 H A W R (named 0) (ν ∷ κ) r′ l₃ 0) $ await ! tt $ pick ! (λ δ. split ! $
         move ! (0 ∷ 2 ∷ 3 ∷ []) $ use3 W (raw (NextC 𝓤 H A mem-at run .pre (to-next ν r′ l₃ δ))) (goes-next ν r′ l₃ δ) $
         -- [what `next` asks; the lender's part; …; the way back; what s owns; _7; …; room for _6; …; _5; …; _4; …; _3's end; _2; …; _1; …; room for _0; …]
         calls-at ! fm (NextC 𝓤 H A mem-at run) known-next (to-next ν r′ l₃ δ) (and-then ! (load ! (from ! (stop !)) (look ! 5 refl)) (no-more !)) (λ w.
-        use1 W (later (some (λ (t : Next). ((‵ (flft (ν ∷ κ) ql) ⊛ ‵ (flft κ qr) ⊛ ‵ ftrue) ⊛ ‵ (S.the-row .own t (w ∷ []))) ⊛ raw (ensured 𝓤 H A next.ended (next.clauses 𝓤 H A mem-at run) (ν ∷ κ, (κ, tt)) (lent r′ l₃ δ, tt) tt t)))) (id⊢ 𝓤 _) $ await ! tt $ pick ! (λ t.
+        use1 W (later (some (λ (t : Next). ((‵ (flft (ν ∷ κ) ql) ⊛ ‵ (flft κ qr) ⊛ ‵ ftrue) ⊛ ‵ (S.the-row .own t (w ∷ []))) ⊛ raw
+        (ensured 𝓤 H A next.ended (next.clauses 𝓤 H A mem-at run) (ν ∷ κ, (κ, tt)) (lent r′ l₃ δ, tt) tt t)))) (id⊢ 𝓤 _) $ await ! tt $ pick ! (λ t.
         -- what `next` ensures, at some last value
-        split ! $ move ! (1 ∷ []) $ use1 W (some (λ (ws : LogReader × Unit {0}). ‵ (lasts next.ended (ν ∷ κ, (κ, tt)) (lent r′ l₃ δ, tt) ws) ⊛ raw (fact 𝓤 ((t ≡ foundBy r′) × (ws .0 ≡ movedOn r′))))) (id⊢ 𝓤 _) $ pick ! (λ ws.
+        split ! $ move ! (1 ∷ []) $ use1 W (some
+        (λ (ws : LogReader × Unit {0}). ‵ (lasts next.ended (ν ∷ κ, (κ, tt)) (lent r′ l₃ δ, tt) ws) ⊛ raw (fact 𝓤 ((t ≡ foundBy r′) × (ws .0 ≡ movedOn r′))))) (id⊢ 𝓤 _) $ pick ! (λ ws.
         split ! $ move ! (1 ∷ []) $ heard ! ((t ≡ foundBy r′) × (ws .0 ≡ movedOn r′)) (λ e″. fsplit ! $ move ! (2 ∷ []) $ split ! $ move ! (1 ∷ []) $
         -- [what was found; the tokens; the last value; …; the lender's part; …; the way back; what s owns; _7; …; room for _6; …; _5; …; _4; …; _3's end; _2; …; _1; …; room for _0; …]
         peeks ! S.the-row (Is S.the-row) (shows 𝓤 H A S.the-row) t (w ∷ []) (λ is″.
@@ -210,7 +222,8 @@ module _ {M : Type 1} (𝓤 : URA M) (H : Heap 𝓤) (A : Atoms 𝓤) (W : Given
         use1 W (‵ (fat fullShare (T′.mir erased) l₃ 0 (T′.lowered (ws .0)))) (W .laws .raw-at fullShare (T′.mir erased) l₃ 0 (T′.lowered (ws .0))) $
         move ! (1 ∷ []) $ peeks ! R (Is R) (shows 𝓤 H A R) (ws .0) (T′.lowered (ws .0) ∷ []) (λ was.
         -- [what the struct owns; _3; the token; …; …; what s owns; _7; …; _6; …; _5; …; _4; …; _3's end; _2; …; _1; …; room for _0; …]
-        forget ! 12 refl $ assigns ! (of-opd ! (load ! (from ! (stop !)) (look ! 1 refl))) (from ! (stop !)) (init ! 12 refl (LL.lawful (T.the-type αᵉ) (T′.the-laws αᵉ) 𝓤 H A W .typed (ws .0) _ was .0)) $
+        forget ! 12 refl $ assigns ! (of-opd ! (load ! (from ! (stop !)) (look ! 1 refl))) (from ! (stop !))
+        (init ! 12 refl (LL.lawful (T.the-type αᵉ) (T′.the-laws αᵉ) 𝓤 H A W .typed (ws .0) _ was .0)) $
         move ! (0 ∷ 2 ∷ []) $ use2 W (raw (Place 𝓤 H A mem-at run .pre (to-place (ws .0) (T′.lowered (ws .0))))) (goes-place (ws .0) (T′.lowered (ws .0))) $
         calls-at ! fm (Place 𝓤 H A mem-at run) known-place (to-place (ws .0) (T′.lowered (ws .0))) (and-then ! (load ! (from ! (stop !)) (look ! 11 refl)) (no-more !)) (λ w′.
         answers ! tt place.ended (κ, tt) (ws .0, tt) usize w′ (‵ (flft κ q) ⊛ ‵ ftrue) (λ m. m ≡ ws .0 .at) (id⊢ 𝓤 _) (λ m e‴ is‴.
@@ -222,15 +235,21 @@ module _ {M : Type 1} (𝓤 : URA M) (H : Heap 𝓤) (A : Atoms 𝓤) (W : Given
         keep ! (0 ∷ 1 ∷ 4 ∷ []) $ by ! (exits m w′ (e‴ ∙ ap (λ (y : LogReader). y .at) (e″ .1 ∙ (ap movedOn e′ ∙ ap (λ (y : LogReader). movedOn (readerAt (y .log) n)) e)))))))))))))))))))))))))))
 
 module _ {M : Type 1} (𝓤 : URA M) (H : Heap 𝓤) (A : Atoms 𝓤) (W : Given 𝓤 H A) (mem-at : Memory → SProp 𝓤) (run : Routine → Fun 𝓤) where
-  place-after-walks : (C : Calls 𝓤 H) (Λ : Loops 𝓤 H) → FmC 𝓤 H (W .laws) C → Triple 𝓤 (C #log-reader·new) (New 𝓤 H A mem-at run) → Triple 𝓤 (C #log-reader·moved) (Moved 𝓤 H A mem-at run) → Triple 𝓤 (C #log-reader·next) (NextC 𝓤 H A mem-at run) → Triple 𝓤 (C #log-reader·place) (Place 𝓤 H A mem-at run)
+  place-after-walks : (C : Calls 𝓤 H) (Λ : Loops 𝓤 H) → FmC 𝓤 H (W .laws) C → Triple 𝓤 (C #log-reader·new) (New 𝓤 H A mem-at run) → Triple 𝓤 (C #log-reader·moved) (Moved 𝓤 H A mem-at run)
+      → Triple 𝓤 (C #log-reader·next) (NextC 𝓤 H A mem-at run) → Triple 𝓤 (C #log-reader·place) (Place 𝓤 H A mem-at run)
       → Walks 𝓤 H A place-after.ended stayed (WpFn 𝓤 H C Λ code.function) (place-after.clauses 𝓤 H A mem-at run)
-  place-after-walks C Λ fm known-new known-moved known-next known-place = walked 𝓤 H A place-after.ended stayed (place-after.clauses 𝓤 H A mem-at run) (WpFn 𝓤 H C Λ code.function) (λ κs. (slice-vals, (uint-vals w64, tt))) (λ κs. (shr-slice-tells (named 0) (κs .0) u8, (uint-tells w64, tt)))
+  place-after-walks C Λ fm known-new known-moved known-next known-place =
+      walked 𝓤 H A place-after.ended stayed (place-after.clauses 𝓤 H A mem-at run) (WpFn 𝓤 H C Λ code.function) (λ κs. (slice-vals, (uint-vals w64, tt)))
+      (λ κs. (shr-slice-tells (named 0) (κs .0) u8, (uint-tells w64, tt)))
       (λ κs qs bounds a g are. via 𝓤 _ (fst∗ 𝓤 _ (emp 𝓤)) (walk 𝓤 H A W mem-at run (κs .0) (qs .0) (a .0) (a .1 .0) (are .1 .0 .1) C Λ fm known-new known-moved known-next known-place (are .0)))
 
 place-after-meets : {M : Type 1} (𝓤 : URA M) (H : Heap 𝓤) (A : Atoms 𝓤) (W : Given 𝓤 H A) (mem-at : Memory → SProp 𝓤) (run : Routine → Fun 𝓤) (𝓣 : Tables 𝓤 H)
-    → Triple 𝓤 (𝓣 .C #log-reader·new) (New 𝓤 H A mem-at run) → Triple 𝓤 (𝓣 .C #log-reader·moved) (Moved 𝓤 H A mem-at run) → Triple 𝓤 (𝓣 .C #log-reader·next) (NextC 𝓤 H A mem-at run) → Triple 𝓤 (𝓣 .C #log-reader·place) (Place 𝓤 H A mem-at run)
+    → Triple 𝓤 (𝓣 .C #log-reader·new) (New 𝓤 H A mem-at run) → Triple 𝓤 (𝓣 .C #log-reader·moved) (Moved 𝓤 H A mem-at run) → Triple 𝓤 (𝓣 .C #log-reader·next) (NextC 𝓤 H A mem-at run)
+    → Triple 𝓤 (𝓣 .C #log-reader·place) (Place 𝓤 H A mem-at run)
     → Meets 𝓤 H A place-after.signature (WpFn 𝓤 H (𝓣 .C) (𝓣 .Λ) code.function) (place-after.spec 𝓤 H A mem-at run)
-place-after-meets 𝓤 H A W mem-at run 𝓣 known-new known-moved known-next known-place = walk-meets 𝓤 H A place-after.ended stayed W (goes-none-slice 𝓤 H A W 1 (0 ∷ []) tt (plain (λ _. u8)) yes, (goes-none 𝓤 H A W 1 (λ _. usize) yes (λ κs x f. refl), tt)) (place-after.clauses 𝓤 H A mem-at run) (WpFn 𝓤 H (𝓣 .C) (𝓣 .Λ) code.function) (WpFn-mono 𝓤 H (W .laws) 𝓣 code.function)
+place-after-meets 𝓤 H A W mem-at run 𝓣 known-new known-moved known-next known-place =
+    walk-meets 𝓤 H A place-after.ended stayed W (goes-none-slice 𝓤 H A W 1 (0 ∷ []) tt (plain (λ _. u8)) yes, (goes-none 𝓤 H A W 1 (λ _. usize) yes (λ κs x f. refl), tt))
+    (place-after.clauses 𝓤 H A mem-at run) (WpFn 𝓤 H (𝓣 .C) (𝓣 .Λ) code.function) (WpFn-mono 𝓤 H (W .laws) 𝓣 code.function)
     (place-after-walks 𝓤 H A W mem-at run (𝓣 .C) (𝓣 .Λ) (fmOf 𝓤 H (W .laws) 𝓣) known-new known-moved known-next known-place)
 
 pub place-after-spec : {M : Type 1} → stated.statement M

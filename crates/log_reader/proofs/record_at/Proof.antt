@@ -1,5 +1,7 @@
--- `log_reader::record_at` meets its contract: a walk of its MIR, by hand. A reader that `new` returns is held in a local, moved, held in another, and passed to `found`. All that the proof knows of the three is that each meets its contract.
--- The machine value that a call returns is stored and passed on as it is. In a local of a body MIR erases the lifetime of the struct's type, so the value is shown to have the type at `erased`: what the struct owns does not say the lifetime's name.
+-- `log_reader::record_at` meets its contract: a walk of its MIR, by hand. A reader that `new` returns is held in a local, moved, held in another, and
+-- passed to `found`. All that the proof knows of the three is that each meets its contract.
+-- The machine value that a call returns is stored and passed on as it is. In a local of a body MIR erases the lifetime of the struct's type, so the
+-- value is shown to have the type at `erased`: what the struct owns does not say the lifetime's name.
 -- Assumes nothing.
 use mathlib.Core.Path.{_≡_, refl, ap, _∙_}
 use Prim.Native.Nat.{ℕ, _<_, _^_}
@@ -74,7 +76,8 @@ module _ {M : Type 1} (𝓤 : URA M) (H : Heap 𝓤) (A : Atoms 𝓤) (mem : Mem
   abbrev Found : Contract 𝓤
   Found = tripleOf 𝓤 H A found.signature (found.spec 𝓤 H A mem run)
 
-module _ {M : Type 1} (𝓤 : URA M) (H : Heap 𝓤) (A : Atoms 𝓤) (W : Given 𝓤 H A) (mem : Memory → SProp 𝓤) (run : Routine → Fun 𝓤) (κ : Lft) (q : Share) (s : RefT (List ℕ)) (n : ℕ) (ok : n < 2 ^ 64) where
+module _ {M : Type 1} (𝓤 : URA M) (H : Heap 𝓤) (A : Atoms 𝓤) (W : Given 𝓤 H A) (mem : Memory → SProp 𝓤) (run : Routine → Fun 𝓤) (κ : Lft) (q : Share) (s : RefT (List ℕ)) (n : ℕ)
+    (ok : n < 2 ^ 64) where
   -- the machine value that s has
   abbrev v : Val
   v = sliceOf s
@@ -108,7 +111,8 @@ module _ {M : Type 1} (𝓤 : URA M) (H : Heap 𝓤) (A : Atoms 𝓤) (W : Given
       suffices ! _ (ends-at 𝓤 H A record-at.ended stayed (record-at.clauses 𝓤 H A mem run) W (((κ, tt), (q, tt), tt, (s, (n, tt)), at), tt) u t (tt, (tt, tt)) (tt, (tt, tt))) $ says ! e $
       move ! (1 ∷ []) $ frame ! $ nothing ! $ owned ! usize (Is usize) (uint-makes 𝓤 H A W w64) n _ (refl, ok) $ fjoin ! $ move ! (2 ∷ 0 ∷ []) $ fjoin ! $ frame ! $ done !
 
-  module _ (C : Calls 𝓤 H) (Λ : Loops 𝓤 H) (fm : FmC 𝓤 H (W .laws) C) (known-new : Triple 𝓤 (C #log-reader·new) (New 𝓤 H A mem run)) (known-moved : Triple 𝓤 (C #log-reader·moved) (Moved 𝓤 H A mem run)) (known-found : Triple 𝓤 (C #log-reader·found) (Found 𝓤 H A mem run)) where
+  module _ (C : Calls 𝓤 H) (Λ : Loops 𝓤 H) (fm : FmC 𝓤 H (W .laws) C) (known-new : Triple 𝓤 (C #log-reader·new) (New 𝓤 H A mem run))
+      (known-moved : Triple 𝓤 (C #log-reader·moved) (Moved 𝓤 H A mem run)) (known-found : Triple 𝓤 (C #log-reader·found) (Found 𝓤 H A mem run)) where
     walk : Is (ShrSlice (named 0) κ u8) s (v ∷ []) → ent 𝓤 (onEntry 𝓤 H A record-at.signature (κ, tt) (q, tt) (s, (n, tt)) at) (WpFn 𝓤 H C Λ code.function (v ∷ vint w64 n ∷ []) Post)
     walk p =
         qed W (raw (onEntry 𝓤 H A record-at.signature (κ, tt) (q, tt) (s, (n, tt)) at) ∷ []) ∵ enter ! C Λ code.function (v ∷ vint w64 n ∷ []) _ $
@@ -121,7 +125,8 @@ module _ {M : Type 1} (𝓤 : URA M) (H : Heap 𝓤) (A : Atoms 𝓤) (W : Given
         -- [what the struct owns; the token; what s owns; room for _4; …; room for _3; …; _2; …; _1; …; room for _0; …]
         land ! (from ! (stop !)) (init ! 3 refl (LL.lawful (T.the-type αᵉ) (T′.the-laws αᵉ) 𝓤 H A W .typed r _ is .0)) $
         use2 W (raw (Moved 𝓤 H A mem run .pre (to-moved 𝓤 H A mem run κ q n r u))) (goes-moved 𝓤 H A W mem run q κ n ok r u) $
-        calls-at ! fm (Moved 𝓤 H A mem run) known-moved (to-moved 𝓤 H A mem run κ q n r u) (and-then ! (load ! (from ! (stop !)) (look ! 2 refl)) (and-then ! (load ! (from ! (stop !)) (look ! 6 refl)) (no-more !))) (λ u′.
+        calls-at ! fm (Moved 𝓤 H A mem run) known-moved (to-moved 𝓤 H A mem run κ q n r u)
+        (and-then ! (load ! (from ! (stop !)) (look ! 2 refl)) (and-then ! (load ! (from ! (stop !)) (look ! 6 refl)) (no-more !))) (λ u′.
         answers ! tt moved.ended (κ, tt) (r, (n, tt)) (B (κ, tt)) u′ (‵ (flft κ q) ⊛ ‵ ftrue) (λ r′. r′ ≡ readerAt (r .log) n) (id⊢ 𝓤 _) (λ r′ e′ is′.
         -- [what the moved struct owns; the token; what s owns; _4; …; room for _3; …; _2; …; _1; …; room for _0; …]
         land ! (from ! (stop !)) (init ! 5 refl (LL.lawful (T.the-type αᵉ) (T′.the-laws αᵉ) 𝓤 H A W .typed r′ _ is′ .0)) $
@@ -135,15 +140,20 @@ module _ {M : Type 1} (𝓤 : URA M) (H : Heap 𝓤) (A : Atoms 𝓤) (W : Given
         by ! (exits t w (e″ ∙ (ap foundBy e′ ∙ ap (λ (y : LogReader). foundBy (readerAt (y .log) n)) e))))))))))))))
 
 module _ {M : Type 1} (𝓤 : URA M) (H : Heap 𝓤) (A : Atoms 𝓤) (W : Given 𝓤 H A) (mem : Memory → SProp 𝓤) (run : Routine → Fun 𝓤) where
-  record-at-walks : (C : Calls 𝓤 H) (Λ : Loops 𝓤 H) → FmC 𝓤 H (W .laws) C → Triple 𝓤 (C #log-reader·new) (New 𝓤 H A mem run) → Triple 𝓤 (C #log-reader·moved) (Moved 𝓤 H A mem run) → Triple 𝓤 (C #log-reader·found) (Found 𝓤 H A mem run)
+  record-at-walks : (C : Calls 𝓤 H) (Λ : Loops 𝓤 H) → FmC 𝓤 H (W .laws) C → Triple 𝓤 (C #log-reader·new) (New 𝓤 H A mem run) → Triple 𝓤 (C #log-reader·moved) (Moved 𝓤 H A mem run)
+      → Triple 𝓤 (C #log-reader·found) (Found 𝓤 H A mem run)
       → Walks 𝓤 H A record-at.ended stayed (WpFn 𝓤 H C Λ code.function) (record-at.clauses 𝓤 H A mem run)
-  record-at-walks C Λ fm known-new known-moved known-found = walked 𝓤 H A record-at.ended stayed (record-at.clauses 𝓤 H A mem run) (WpFn 𝓤 H C Λ code.function) (λ κs. (slice-vals, (uint-vals w64, tt))) (λ κs. (shr-slice-tells (named 0) (κs .0) u8, (uint-tells w64, tt)))
+  record-at-walks C Λ fm known-new known-moved known-found =
+      walked 𝓤 H A record-at.ended stayed (record-at.clauses 𝓤 H A mem run) (WpFn 𝓤 H C Λ code.function) (λ κs. (slice-vals, (uint-vals w64, tt)))
+      (λ κs. (shr-slice-tells (named 0) (κs .0) u8, (uint-tells w64, tt)))
       (λ κs qs bounds a g are. via 𝓤 _ (fst∗ 𝓤 _ (emp 𝓤)) (walk 𝓤 H A W mem run (κs .0) (qs .0) (a .0) (a .1 .0) (are .1 .0 .1) C Λ fm known-new known-moved known-found (are .0)))
 
 record-at-meets : {M : Type 1} (𝓤 : URA M) (H : Heap 𝓤) (A : Atoms 𝓤) (W : Given 𝓤 H A) (mem : Memory → SProp 𝓤) (run : Routine → Fun 𝓤) (𝓣 : Tables 𝓤 H)
     → Triple 𝓤 (𝓣 .C #log-reader·new) (New 𝓤 H A mem run) → Triple 𝓤 (𝓣 .C #log-reader·moved) (Moved 𝓤 H A mem run) → Triple 𝓤 (𝓣 .C #log-reader·found) (Found 𝓤 H A mem run)
     → Meets 𝓤 H A record-at.signature (WpFn 𝓤 H (𝓣 .C) (𝓣 .Λ) code.function) (record-at.spec 𝓤 H A mem run)
-record-at-meets 𝓤 H A W mem run 𝓣 known-new known-moved known-found = walk-meets 𝓤 H A record-at.ended stayed W (goes-none-slice 𝓤 H A W 1 (0 ∷ []) tt (plain (λ _. u8)) yes, (goes-none 𝓤 H A W 1 (λ _. usize) yes (λ κs x f. refl), tt)) (record-at.clauses 𝓤 H A mem run) (WpFn 𝓤 H (𝓣 .C) (𝓣 .Λ) code.function) (WpFn-mono 𝓤 H (W .laws) 𝓣 code.function)
+record-at-meets 𝓤 H A W mem run 𝓣 known-new known-moved known-found =
+    walk-meets 𝓤 H A record-at.ended stayed W (goes-none-slice 𝓤 H A W 1 (0 ∷ []) tt (plain (λ _. u8)) yes, (goes-none 𝓤 H A W 1 (λ _. usize) yes (λ κs x f. refl), tt))
+    (record-at.clauses 𝓤 H A mem run) (WpFn 𝓤 H (𝓣 .C) (𝓣 .Λ) code.function) (WpFn-mono 𝓤 H (W .laws) 𝓣 code.function)
     (record-at-walks 𝓤 H A W mem run (𝓣 .C) (𝓣 .Λ) (fmOf 𝓤 H (W .laws) 𝓣) known-new known-moved known-found)
 
 pub record-at-spec : {M : Type 1} → stated.statement M

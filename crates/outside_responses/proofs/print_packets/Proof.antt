@@ -1,6 +1,7 @@
 -- `outside_responses::print_packets` meets its contract: a walk of its MIR, by hand, with a loop over a reader in a local.
 -- The invariant: the local holds a reader of the log that was passed, and the three memories are owned, as long as they were. What is left of the log behind the reader's place falls at each turn.
--- In a turn the local is lent to `next` for the meet of a new lifetime and the log's, as in `log_reader::place_after`; then the memories are lent again to `print_found`, for another new lifetime. Where no record was found the function returns.
+-- In a turn the local is lent to `next` for the meet of a new lifetime and the log's, as in `log_reader::place_after`; then the memories are lent
+-- again to `print_found`, for another new lifetime. Where no record was found the function returns.
 -- All that the proof knows of the three functions called is that each meets its contract.
 -- Assumes nothing.
 use mathlib.Core.Path.{_≡_, refl, ap, sym, subst, _∙_}
@@ -24,9 +25,11 @@ use ghost.Atoms.{Atoms, sem}
 use contract.BorrowLft.{meet-⊑-left, meet-⊑-right}
 use contract.Monad.{Fun, fact}
 use contract.Running.{givenOf, tables, tablesOf}
-use types.Kit.{Given, Item, ‵, raw, _⊛_, ⋆, some, later, _$_, _∵_, !, qed, by, move, keep, drop, use1, use2, use3, split, join, pick, apply, rewrite, fsplit, fjoin, fpack, feqL, feqI, suffices, frame, await, done}
+use types.Kit.{Given, Item, ‵, raw, _⊛_, ⋆, some, later, _$_, _∵_, !, qed, by, move, keep, drop, use1, use2, use3, split, join, pick}
+use types.Kit.{apply, rewrite, fsplit, fjoin, fpack, feqL, feqI, suffices, frame, await, done}
 use types.Part.{whole, sub, look-in, agg}
-use types.Run.{look, init, forget, stop, hop, fld, from, load, addr, of-opd, un, unit-lit, and-then, no-more, assigns, land, first, blocks, branches, skips, loops, again, returns-within, enter, alloc1, alloc0, params1, pass1, pass0, free1, free0}
+use types.Run.{look, init, forget, stop, hop, fld, from, load, addr, of-opd, un, unit-lit, and-then, no-more, assigns, land, first}
+use types.Run.{blocks, branches, skips, loops, again, returns-within, enter, alloc1, alloc0, params1, pass1, pass0, free1, free0}
 use types.SemTy.{Body}
 use types.Tokens.{lft-new, lft-end}
 use sound.WpLaws.{FmC, fmOf, WpFn-mono}
@@ -127,7 +130,8 @@ module _ {M : Type 1} (𝓤 : URA M) (H : Heap 𝓤) (A : Atoms 𝓤) (mem-at : 
   abbrev FoundC : Contract 𝓤
   FoundC = tripleOf 𝓤 H A print-found.signature (print-found.spec 𝓤 H A mem-at run)
 
-module _ {M : Type 1} (𝓤 : URA M) (H : Heap 𝓤) (A : Atoms 𝓤) (W : Given 𝓤 H A) (mem-at : Memory → SProp 𝓤) (run : Routine → Fun 𝓤) (κ₁ κ₂ κ₃ κ : Lft) (q₁ q₂ q₃ q : Share) (b₁ o₁ : ℕ) (γ₁ : GName) (xs₀ : List ℕ) (b₂ o₂ : ℕ) (γ₂ : GName) (ys₀ : List ℕ) (b₃ o₃ : ℕ) (γ₃ : GName) (zs₀ : List ℕ) (s : RefT (List ℕ)) where
+module _ {M : Type 1} (𝓤 : URA M) (H : Heap 𝓤) (A : Atoms 𝓤) (W : Given 𝓤 H A) (mem-at : Memory → SProp 𝓤) (run : Routine → Fun 𝓤) (κ₁ κ₂ κ₃ κ : Lft) (q₁ q₂ q₃ q : Share) (b₁ o₁ : ℕ)
+    (γ₁ : GName) (xs₀ : List ℕ) (b₂ o₂ : ℕ) (γ₂ : GName) (ys₀ : List ℕ) (b₃ o₃ : ℕ) (γ₃ : GName) (zs₀ : List ℕ) (s : RefT (List ℕ)) where
   -- the memories, under a name, at a list; and their machine values, and the log's
   abbrev S₁ : GName → List ℕ → RefT (List ℕ)
   S₁ δ l = record { ptr = (b₁, o₁); name = δ; now = l }
@@ -199,7 +203,8 @@ module _ {M : Type 1} (𝓤 : URA M) (H : Heap 𝓤) (A : Atoms 𝓤) (W : Given
   -- the struct r at the local l, lent: its cell and what it owns, put together and taken apart
   laid : (r : LogReader) (u : Val) (l : ℕ) → ent 𝓤 (⋆ 𝓤 H A (‵ (cellAt fullShare (R .mir) (u ∷ []) l 0) ∷ ‵ (R .own r (u ∷ [])) ∷ [])) (sem 𝓤 H A (partAt R fullShare r l 0))
   unfolding partOf
-  laid r u l = qed W (‵ (cellAt fullShare (R .mir) (u ∷ []) l 0) ∷ ‵ (R .own r (u ∷ [])) ∷ []) ∵ fjoin ! $ fpack ! (List Val) (λ vs. fsep (cellAt fullShare (R .mir) vs l 0) (R .own r vs)) (u ∷ []) $ done !
+  laid r u l =
+      qed W (‵ (cellAt fullShare (R .mir) (u ∷ []) l 0) ∷ ‵ (R .own r (u ∷ [])) ∷ []) ∵ fjoin ! $ fpack ! (List Val) (λ vs. fsep (cellAt fullShare (R .mir) vs l 0) (R .own r vs)) (u ∷ []) $ done !
 
   abbrev Lies : LogReader → ℕ → List Val → SProp 𝓤
   Lies r l vs = sep 𝓤 (sem 𝓤 H A (cellAt fullShare (R .mir) vs l 0)) (sem 𝓤 H A (R .own r vs))
@@ -219,7 +224,8 @@ module _ {M : Type 1} (𝓤 : URA M) (H : Heap 𝓤) (A : Atoms 𝓤) (W : Given
   abbrev to-next : ℕ → LogReader → ℕ → GName → NextC 𝓤 H A mem-at run .Ghost
   to-next ν r l δ = (((ν ∷ κ, (κ, tt)), (ql, (qr, tt)), (meet-⊑-right (ν ∷ []) κ, tt), (lent r l δ, tt), (vptr l 0 ∷ [], tt)), tt)
 
-  goes-next : (ν : ℕ) (r : LogReader) (l : ℕ) (δ : GName) → ent 𝓤 (⋆ 𝓤 H A (‵ (MutRef (named 0) (ν ∷ κ) R .own (lent r l δ) (vptr l 0 ∷ [])) ∷ ‵ (flft (ν ∷ κ) ql) ∷ ‵ (flft κ qr) ∷ [])) (NextC 𝓤 H A mem-at run .pre (to-next ν r l δ))
+  goes-next : (ν : ℕ) (r : LogReader) (l : ℕ) (δ : GName)
+      → ent 𝓤 (⋆ 𝓤 H A (‵ (MutRef (named 0) (ν ∷ κ) R .own (lent r l δ) (vptr l 0 ∷ [])) ∷ ‵ (flft (ν ∷ κ) ql) ∷ ‵ (flft κ qr) ∷ [])) (NextC 𝓤 H A mem-at run .pre (to-next ν r l δ))
   goes-next ν r l δ =
       qed W (‵ (MutRef (named 0) (ν ∷ κ) R .own (lent r l δ) (vptr l 0 ∷ [])) ∷ ‵ (flft (ν ∷ κ) ql) ∷ ‵ (flft κ qr) ∷ []) ∵
       nothing ! $ move ! (1 ∷ 0 ∷ []) $ fjoin ! $ nothing ! $ move ! (3 ∷ 0 ∷ []) $ join ! $ move ! (2 ∷ 0 ∷ []) $ join ! $ join ! $ frame ! $ done !
@@ -229,7 +235,9 @@ module _ {M : Type 1} (𝓤 : URA M) (H : Heap 𝓤) (A : Atoms 𝓤) (W : Given
   to-found μ δ₁ δ₂ δ₃ xs ys zs t w = (((μ ∷ [], (κ, tt)), (fullShare, (q, tt)), tt, (S₁ δ₁ xs, (S₂ δ₂ ys, (S₃ δ₃ zs, (s, (t, tt))))), (v₁ ∷ [], (v₂ ∷ [], (v₃ ∷ [], (v ∷ [], (w ∷ [], tt)))))), tt)
 
   abbrev Passed : ℕ → GName → GName → GName → List ℕ → List ℕ → List ℕ → Next → Val → Fml
-  Passed μ δ₁ δ₂ δ₃ xs ys zs t w = owns (MutSlice (named 0) (μ ∷ []) usize ∷ MutSlice (named 0) (μ ∷ []) u8 ∷ MutSlice (named 0) (μ ∷ []) u8 ∷ ShrSlice (named 1) κ u8 ∷ S.the-row ∷ []) (S₁ δ₁ xs, (S₂ δ₂ ys, (S₃ δ₃ zs, (s, (t, tt))))) (v₁ ∷ [], (v₂ ∷ [], (v₃ ∷ [], (v ∷ [], (w ∷ [], tt)))))
+  Passed μ δ₁ δ₂ δ₃ xs ys zs t w =
+      owns (MutSlice (named 0) (μ ∷ []) usize ∷ MutSlice (named 0) (μ ∷ []) u8 ∷ MutSlice (named 0) (μ ∷ []) u8 ∷ ShrSlice (named 1) κ u8 ∷ S.the-row ∷ [])
+      (S₁ δ₁ xs, (S₂ δ₂ ys, (S₃ δ₃ zs, (s, (t, tt))))) (v₁ ∷ [], (v₂ ∷ [], (v₃ ∷ [], (v ∷ [], (w ∷ [], tt)))))
 
   goes-found : (μ : ℕ) (δ₁ δ₂ δ₃ : GName) (xs ys zs : List ℕ) (t : Next) (w : Val) → LiesIn (now s) t
       → ent 𝓤 (⋆ 𝓤 H A (‵ (flft (μ ∷ []) fullShare) ∷ ‵ (flft κ q) ∷ ‵ (Passed μ δ₁ δ₂ δ₃ xs ys zs t w) ∷ [])) (FoundC 𝓤 H A mem-at run .pre (to-found μ δ₁ δ₂ δ₃ xs ys zs t w))
@@ -261,10 +269,13 @@ module _ {M : Type 1} (𝓤 : URA M) (H : Heap 𝓤) (A : Atoms 𝓤) (W : Given
 
   -- what is had at a turn's beginning: what the reader owns, the log, the memories; the locals, with the reader's at its machine value
   abbrev Inv : (l₀ l₁ l₂ l₃ l₄ l₅ l₆ l₇ l₈ l₉ m₀ m₁ m₂ m₃ m₄ m₅ m₆ : ℕ) → X → List (Item 𝓤)
-  Inv l₀ l₁ l₂ l₃ l₄ l₅ l₆ l₇ l₈ l₉ m₀ m₁ m₂ m₃ m₄ m₅ m₆ x = ‵ (R .own (x .reader) (x .mach ∷ [])) ∷ ‵ (flft κ q) ∷ ‵ Own ∷ ‵ (M₁ (x .words)) ∷ ‵ (flft κ₁ q₁) ∷ ‵ (M₂ (x .streams)) ∷ ‵ (flft κ₂ q₂) ∷ ‵ (M₃ (x .messages)) ∷ ‵ (flft κ₃ q₃)
+  Inv l₀ l₁ l₂ l₃ l₄ l₅ l₆ l₇ l₈ l₉ m₀ m₁ m₂ m₃ m₄ m₅ m₆ x =
+      ‵ (R .own (x .reader) (x .mach ∷ [])) ∷ ‵ (flft κ q) ∷ ‵ Own ∷ ‵ (M₁ (x .words)) ∷ ‵ (flft κ₁ q₁) ∷ ‵ (M₂ (x .streams)) ∷ ‵ (flft κ₂ q₂) ∷ ‵ (M₃ (x .messages)) ∷ ‵ (flft κ₃ q₃)
       ∷ ‵ (froom tyBool m₆ 0) ∷ ‵ (fdies tyBool m₆) ∷ ‵ (froom (sliceTy (tyRef erased mut (tyInt w8))) m₅ 0) ∷ ‵ (fdies (sliceTy (tyRef erased mut (tyInt w8))) m₅)
-      ∷ ‵ (froom (tyRef erased mut (tyInt w8)) m₄ 0) ∷ ‵ (fdies (tyRef erased mut (tyInt w8)) m₄) ∷ ‵ (froom (sliceTy (tyRef erased mut (tyInt w8))) m₃ 0) ∷ ‵ (fdies (sliceTy (tyRef erased mut (tyInt w8))) m₃)
-      ∷ ‵ (froom (tyRef erased mut (tyInt w8)) m₂ 0) ∷ ‵ (fdies (tyRef erased mut (tyInt w8)) m₂) ∷ ‵ (froom (sliceTy (tyRef erased mut (tyInt w64))) m₁ 0) ∷ ‵ (fdies (sliceTy (tyRef erased mut (tyInt w64))) m₁)
+      ∷ ‵ (froom (tyRef erased mut (tyInt w8)) m₄ 0) ∷ ‵ (fdies (tyRef erased mut (tyInt w8)) m₄) ∷ ‵ (froom (sliceTy (tyRef erased mut (tyInt w8))) m₃ 0)
+      ∷ ‵ (fdies (sliceTy (tyRef erased mut (tyInt w8))) m₃)
+      ∷ ‵ (froom (tyRef erased mut (tyInt w8)) m₂ 0) ∷ ‵ (fdies (tyRef erased mut (tyInt w8)) m₂) ∷ ‵ (froom (sliceTy (tyRef erased mut (tyInt w64))) m₁ 0)
+      ∷ ‵ (fdies (sliceTy (tyRef erased mut (tyInt w64))) m₁)
       ∷ ‵ (froom (tyRef erased mut (tyInt w64)) m₀ 0) ∷ ‵ (fdies (tyRef erased mut (tyInt w64)) m₀) ∷ ‵ (froom tyBool l₉ 0) ∷ ‵ (fdies tyBool l₉)
       ∷ ‵ (froom (headTy (MutRef erased κ (T.the-row αᵉ) .mir)) l₈ 0) ∷ ‵ (fdies (headTy (MutRef erased κ (T.the-row αᵉ) .mir)) l₈) ∷ ‵ (froom (T′.mir erased) l₇ 0) ∷ ‵ (fdies (T′.mir erased) l₇)
       ∷ ‵ (froom nextTy l₆ 0) ∷ ‵ (fdies nextTy l₆) ∷ ‵ (fat fullShare (T′.mir erased) l₅ 0 (x .mach)) ∷ ‵ (fdies (T′.mir erased) l₅)
@@ -272,15 +283,19 @@ module _ {M : Type 1} (𝓤 : URA M) (H : Heap 𝓤) (A : Atoms 𝓤) (W : Given
       ∷ ‵ (fat fullShare slice₂ l₂ 0 v₂) ∷ ‵ (fdies slice₂ l₂) ∷ ‵ (fat fullShare slice₁ l₁ 0 v₁) ∷ ‵ (fdies slice₁ l₁)
       ∷ ‵ (froom tyUnit l₀ 0) ∷ ‵ (fdies tyUnit l₀) ∷ []
 
-  module _ (𝓣 : Tables 𝓤 H) (fm : FmC 𝓤 H (W .laws) (𝓣 .C)) (known-new : Triple 𝓤 (𝓣 .C #log-reader·new) (New 𝓤 H A mem-at run)) (known-next : Triple 𝓤 (𝓣 .C #log-reader·next) (NextC 𝓤 H A mem-at run)) (known-found : Triple 𝓤 (𝓣 .C #outside_responses·print-found) (FoundC 𝓤 H A mem-at run)) where
+  module _ (𝓣 : Tables 𝓤 H) (fm : FmC 𝓤 H (W .laws) (𝓣 .C)) (known-new : Triple 𝓤 (𝓣 .C #log-reader·new) (New 𝓤 H A mem-at run))
+      (known-next : Triple 𝓤 (𝓣 .C #log-reader·next) (NextC 𝓤 H A mem-at run)) (known-found : Triple 𝓤 (𝓣 .C #outside_responses·print-found) (FoundC 𝓤 H A mem-at run)) where
     walk : Room usize (length xs₀) → Room u8 (length ys₀) → Room u8 (length zs₀) → Is (ShrSlice (named 3) κ u8) s (v ∷ [])
         → ent 𝓤 (onEntry 𝓤 H A print-packets.signature κs (q₁, (q₂, (q₃, (q, tt)))) a vals) (WpFn 𝓤 H (𝓣 .C) (𝓣 .Λ) code.function (v₁ ∷ v₂ ∷ v₃ ∷ v ∷ []) Post)
     unfolding afterTurn
     walk room₁ room₂ room₃ p =
-        qed W ((‵ (flft κ₁ q₁) ⊛ ‵ (flft κ₂ q₂) ⊛ ‵ (flft κ₃ q₃) ⊛ ‵ (flft κ q) ⊛ ‵ ftrue) ∷ ‵ (owns (MutSlice (named 0) κ₁ usize ∷ MutSlice (named 1) κ₂ u8 ∷ MutSlice (named 2) κ₃ u8 ∷ ShrSlice (named 3) κ u8 ∷ []) a vals) ∷ []) ∵
+        qed W ((‵ (flft κ₁ q₁) ⊛ ‵ (flft κ₂ q₂) ⊛ ‵ (flft κ₃ q₃) ⊛ ‵ (flft κ q) ⊛ ‵ ftrue)
+        ∷ ‵ (owns (MutSlice (named 0) κ₁ usize ∷ MutSlice (named 1) κ₂ u8 ∷ MutSlice (named 2) κ₃ u8 ∷ ShrSlice (named 3) κ u8 ∷ []) a vals) ∷ []) ∵
         enter ! (𝓣 .C) (𝓣 .Λ) code.function (v₁ ∷ v₂ ∷ v₃ ∷ v ∷ []) _ $
-        alloc1 ! (λ l₀. alloc1 ! (λ l₁. alloc1 ! (λ l₂. alloc1 ! (λ l₃. alloc1 ! (λ l₄. alloc1 ! (λ l₅. alloc1 ! (λ l₆. alloc1 ! (λ l₇. alloc1 ! (λ l₈. alloc1 ! (λ l₉. alloc1 ! (λ m₀. alloc1 ! (λ m₁. alloc1 ! (λ m₂. alloc1 ! (λ m₃. alloc1 ! (λ m₄. alloc1 ! (λ m₅. alloc1 ! (λ m₆. alloc0 ! $ params1 ! $
-        pass1 ! (init ! 30 refl (tt, (tt, (record { fits = room₁ .0 }, tt)))) $ pass1 ! (init ! 28 refl (tt, (tt, (record { fits = room₂ .0 }, tt)))) $ pass1 ! (init ! 26 refl (tt, (tt, (record { fits = room₃ .0 }, tt)))) $
+        alloc1 ! (λ l₀. alloc1 ! (λ l₁. alloc1 ! (λ l₂. alloc1 ! (λ l₃. alloc1 ! (λ l₄. alloc1 ! (λ l₅. alloc1 ! (λ l₆. alloc1 ! (λ l₇. alloc1 ! (λ l₈. alloc1 ! (λ l₉.
+        alloc1 ! (λ m₀. alloc1 ! (λ m₁. alloc1 ! (λ m₂. alloc1 ! (λ m₃. alloc1 ! (λ m₄. alloc1 ! (λ m₅. alloc1 ! (λ m₆. alloc0 ! $ params1 ! $
+        pass1 ! (init ! 30 refl (tt, (tt, (record { fits = room₁ .0 }, tt)))) $ pass1 ! (init ! 28 refl (tt, (tt, (record { fits = room₂ .0 }, tt)))) $
+        pass1 ! (init ! 26 refl (tt, (tt, (record { fits = room₃ .0 }, tt)))) $
         pass1 ! (init ! 24 refl (shr-slice-lawful 𝓤 H A W (named 3) κ u8 .typed s (v ∷ []) p .0)) $ pass0 ! $
         move ! (34 ∷ []) $ split ! $ move ! (1 ∷ []) $ split ! $ move ! (1 ∷ []) $ split ! $ move ! (1 ∷ []) $ split ! $
         move ! (39 ∷ []) $ fsplit ! $ move ! (1 ∷ []) $ fsplit ! $ move ! (1 ∷ []) $ fsplit ! $ move ! (1 ∷ []) $ fsplit ! $
@@ -292,22 +307,28 @@ module _ {M : Type 1} (𝓤 : URA M) (H : Heap 𝓤) (A : Atoms 𝓤) (W : Given
         land ! (from ! (stop !)) (init ! 29 refl (LL.lawful (T.the-type αᵉ) (T′.the-laws αᵉ) 𝓤 H A W .typed r _ is .0)) $
         assigns ! (of-opd ! (load ! (from ! (stop !)) (look ! 29 refl))) (from ! (stop !)) (init ! 33 refl (LL.lawful (T.the-type αᵉ) (T′.the-laws αᵉ) 𝓤 H A W .typed r _ is .0)) $ forget ! 29 refl $
         first ! $ blocks ! $ move ! (1 ∷ []) $ split ! $
-        keep ! (2 ∷ 0 ∷ 3 ∷ 7 ∷ 11 ∷ 6 ∷ 10 ∷ 5 ∷ 9 ∷ 12 ∷ 13 ∷ 14 ∷ 15 ∷ 16 ∷ 17 ∷ 18 ∷ 19 ∷ 20 ∷ 21 ∷ 22 ∷ 23 ∷ 24 ∷ 25 ∷ 26 ∷ 27 ∷ 28 ∷ 29 ∷ 30 ∷ 31 ∷ 32 ∷ 33 ∷ 34 ∷ 35 ∷ 36 ∷ 37 ∷ 38 ∷ 39 ∷ 40 ∷ 41 ∷ 42 ∷ 43 ∷ 44 ∷ 45 ∷ []) $
+        keep ! (2 ∷ 0 ∷ 3 ∷ 7 ∷ 11 ∷ 6 ∷ 10 ∷ 5 ∷ 9 ∷ 12 ∷ 13 ∷ 14 ∷ 15 ∷ 16 ∷ 17 ∷ 18 ∷ 19 ∷ 20 ∷ 21 ∷ 22 ∷ 23 ∷ 24 ∷ 25 ∷ 26 ∷ 27 ∷ 28 ∷ 29 ∷ 30 ∷ 31 ∷ 32 ∷ 33 ∷ 34 ∷ 35 ∷ 36 ∷ 37 ∷ 38
+        ∷ 39 ∷ 40 ∷ 41 ∷ 42 ∷ 43 ∷ 44 ∷ 45 ∷ []) $
         loops ! 𝓣 Less less-wf (Inv l₀ l₁ l₂ l₃ l₄ l₅ l₆ l₇ l₈ l₉ m₀ m₁ m₂ m₃ m₄ m₅ m₆) (λ x.
         -- [what the reader owns; the log's token; the log; each memory and its token; _16; …]
         assigns ! (addr ! (from ! (stop !))) (from ! (stop !)) (init ! 25 refl (tt, tt)) $
         -- the reader's local is lent for the meet of a new lifetime ν and the log's
-        move ! (31 ∷ []) $ use1 W (‵ (cellAt fullShare (R .mir) (x .mach ∷ []) l₅ 0)) (W .laws .at-raw fullShare (T′.mir erased) l₅ 0 (x .mach)) $ use2 W (‵ (partAt R fullShare (x .reader) l₅ 0)) (laid (x .reader) (x .mach) l₅) $
+        move ! (31 ∷ []) $ use1 W (‵ (cellAt fullShare (R .mir) (x .mach ∷ []) l₅ 0)) (W .laws .at-raw fullShare (T′.mir erased) l₅ 0 (x .mach)) $
+        use2 W (‵ (partAt R fullShare (x .reader) l₅ 0)) (laid (x .reader) (x .mach) l₅) $
         lft-new ! tt (λ ν.
         use1 W (‵ (flft (ν ∷ []) ql) ⊛ raw (wand 𝓤 (A .lft (ν ∷ []) ql) (A .lft (ν ∷ []) fullShare))) (W .lfts .lft-carve ν ql) $ split ! $
         move ! (3 ∷ []) $ use1 W (‵ (flft κ ql) ⊛ ‵ (flft κ qr)) (W .lfts .lft-split κ q) $ split ! $
         move ! (2 ∷ 0 ∷ []) $ use2 W (‵ (flft (ν ∷ κ) ql)) (W .lfts .lft-meet (ν ∷ []) κ ql) $
-        move ! (3 ∷ []) $ use1 W (later (some (λ (δ : GName). ‵ (MutRef (named 0) (ν ∷ κ) R .own (lent (x .reader) l₅ δ) (vptr l₅ 0 ∷ [])) ⊛ ‵ (flent (ν ∷ κ) (Body (mem R) l₅ 0 δ))))) (lends-ref 𝓤 H A W R (named 0) (ν ∷ κ) (x .reader) l₅ 0) $ await ! tt $ pick ! (λ δ. split ! $
+        move ! (3 ∷ []) $ use1 W (later (some (λ (δ : GName). ‵ (MutRef (named 0) (ν ∷ κ) R .own (lent (x .reader) l₅ δ) (vptr l₅ 0 ∷ [])) ⊛ ‵ (flent (ν ∷ κ) (Body (mem R) l₅ 0 δ)))))
+        (lends-ref 𝓤 H A W R (named 0) (ν ∷ κ) (x .reader) l₅ 0) $ await ! tt $ pick ! (λ δ. split ! $
         move ! (0 ∷ 2 ∷ 3 ∷ []) $ use3 W (raw (NextC 𝓤 H A mem-at run .pre (to-next ν (x .reader) l₅ δ))) (goes-next ν (x .reader) l₅ δ) $
         -- [what `next` asks; the lender's part; the way back; the log; each memory and its token; _16; …]
         calls-at ! fm (NextC 𝓤 H A mem-at run) known-next (to-next ν (x .reader) l₅ δ) (and-then ! (load ! (from ! (stop !)) (look ! 26 refl)) (no-more !)) (λ w.
-        use1 W (later (some (λ (t : Next). ((‵ (flft (ν ∷ κ) ql) ⊛ ‵ (flft κ qr) ⊛ ‵ ftrue) ⊛ ‵ (S.the-row .own t (w ∷ []))) ⊛ raw (ensured 𝓤 H A next.ended (next.clauses 𝓤 H A mem-at run) (ν ∷ κ, (κ, tt)) (lent (x .reader) l₅ δ, tt) tt t)))) (id⊢ 𝓤 _) $ await ! tt $ pick ! (λ t.
-        split ! $ move ! (1 ∷ []) $ use1 W (some (λ (ws : LogReader × Unit {0}). ‵ (lasts next.ended (ν ∷ κ, (κ, tt)) (lent (x .reader) l₅ δ, tt) ws) ⊛ raw (fact 𝓤 ((t ≡ foundBy (x .reader)) × (ws .0 ≡ movedOn (x .reader)))))) (id⊢ 𝓤 _) $ pick ! (λ ws.
+        use1 W (later (some (λ (t : Next). ((‵ (flft (ν ∷ κ) ql) ⊛ ‵ (flft κ qr) ⊛ ‵ ftrue) ⊛ ‵ (S.the-row .own t (w ∷ [])))
+        ⊛ raw (ensured 𝓤 H A next.ended (next.clauses 𝓤 H A mem-at run) (ν ∷ κ, (κ, tt)) (lent (x .reader) l₅ δ, tt) tt t)))) (id⊢ 𝓤 _) $ await ! tt $ pick ! (λ t.
+        split ! $ move ! (1 ∷ []) $ use1 W (some
+        (λ (ws : LogReader × Unit {0}). ‵ (lasts next.ended (ν ∷ κ, (κ, tt)) (lent (x .reader) l₅ δ, tt) ws) ⊛ raw (fact 𝓤 ((t ≡ foundBy (x .reader)) × (ws .0 ≡ movedOn (x .reader))))))
+        (id⊢ 𝓤 _) $ pick ! (λ ws.
         split ! $ move ! (1 ∷ []) $ heard ! ((t ≡ foundBy (x .reader)) × (ws .0 ≡ movedOn (x .reader))) (λ e″. fsplit ! $ move ! (2 ∷ []) $ split ! $ move ! (1 ∷ []) $
         -- [what was found; the tokens; the last value; …; the lender's part; the way back; the log; each memory and its token; _16; …]
         peeks ! S.the-row (Is S.the-row) (shows 𝓤 H A S.the-row) t (w ∷ []) (λ is″.
@@ -324,35 +345,56 @@ module _ {M : Type 1} (𝓤 : URA M) (H : Heap 𝓤) (A : Atoms 𝓤) (W : Given
         move ! (3 ∷ []) $ drop ! $ move ! (4 ∷ []) $ drop ! $
         -- [_5; what the reader owns; the log's token; what was found; the log; each memory and its token; _16; …]
         assigns ! (addr ! (from ! (fld ! refl (hop ! (look-in ! 40 (sub ! 0 refl (whole !))) (stop !))))) (from ! (stop !)) (init ! 23 refl (tt, tt)) $
-        assigns ! (agg ! (and-then ! (load ! (from ! (stop !)) (look ! 23 refl)) (and-then ! (load ! (from ! (fld ! refl (stop !))) (look-in ! 40 (sub ! 1 refl (whole !)))) (no-more !)))) (from ! (stop !)) (init ! 21 refl (tt, (tt, (record { fits = room₁ .0 }, tt)))) $
+        assigns ! (agg ! (and-then ! (load ! (from ! (stop !)) (look ! 23 refl)) (and-then ! (load ! (from ! (fld ! refl (stop !))) (look-in ! 40 (sub ! 1 refl (whole !)))) (no-more !))))
+        (from ! (stop !)) (init ! 21 refl (tt, (tt, (record { fits = room₁ .0 }, tt)))) $
         assigns ! (addr ! (from ! (fld ! refl (hop ! (look-in ! 38 (sub ! 0 refl (whole !))) (stop !))))) (from ! (stop !)) (init ! 19 refl (tt, tt)) $
-        assigns ! (agg ! (and-then ! (load ! (from ! (stop !)) (look ! 19 refl)) (and-then ! (load ! (from ! (fld ! refl (stop !))) (look-in ! 38 (sub ! 1 refl (whole !)))) (no-more !)))) (from ! (stop !)) (init ! 17 refl (tt, (tt, (record { fits = room₂ .0 }, tt)))) $
+        assigns ! (agg ! (and-then ! (load ! (from ! (stop !)) (look ! 19 refl)) (and-then ! (load ! (from ! (fld ! refl (stop !))) (look-in ! 38 (sub ! 1 refl (whole !)))) (no-more !))))
+        (from ! (stop !)) (init ! 17 refl (tt, (tt, (record { fits = room₂ .0 }, tt)))) $
         assigns ! (addr ! (from ! (fld ! refl (hop ! (look-in ! 36 (sub ! 0 refl (whole !))) (stop !))))) (from ! (stop !)) (init ! 15 refl (tt, tt)) $
-        assigns ! (agg ! (and-then ! (load ! (from ! (stop !)) (look ! 15 refl)) (and-then ! (load ! (from ! (fld ! refl (stop !))) (look-in ! 36 (sub ! 1 refl (whole !)))) (no-more !)))) (from ! (stop !)) (init ! 13 refl (tt, (tt, (record { fits = room₃ .0 }, tt)))) $
+        assigns ! (agg ! (and-then ! (load ! (from ! (stop !)) (look ! 15 refl)) (and-then ! (load ! (from ! (fld ! refl (stop !))) (look-in ! 36 (sub ! 1 refl (whole !)))) (no-more !))))
+        (from ! (stop !)) (init ! 13 refl (tt, (tt, (record { fits = room₃ .0 }, tt)))) $
         -- the memories are lent again, for a lifetime μ of the call
         lft-new ! tt (λ μ.
-        move ! (6 ∷ 7 ∷ []) $ use2 W (later (some (λ (δ₁ : GName). ‵ (MutSlice (named 0) (μ ∷ []) usize .own (S₁ δ₁ (x .words)) (v₁ ∷ [])) ⊛ ‵ (LentAgain usize κ₁ (μ ∷ []) q₁ γ₁ b₁ o₁ δ₁ (x .words))))) (lends-at usize κ₁ (μ ∷ []) q₁ γ₁ b₁ o₁ 𝓤 H A W (named 0) (named 0) (x .words) (length xs₀) (x .long₁)) $ await ! tt $ pick ! (λ δ₁. split ! $
-        move ! (8 ∷ 9 ∷ []) $ use2 W (later (some (λ (δ₂ : GName). ‵ (MutSlice (named 0) (μ ∷ []) u8 .own (S₂ δ₂ (x .streams)) (v₂ ∷ [])) ⊛ ‵ (LentAgain u8 κ₂ (μ ∷ []) q₂ γ₂ b₂ o₂ δ₂ (x .streams))))) (lends-at u8 κ₂ (μ ∷ []) q₂ γ₂ b₂ o₂ 𝓤 H A W (named 1) (named 0) (x .streams) (length ys₀) (x .long₂)) $ await ! tt $ pick ! (λ δ₂. split ! $
-        move ! (10 ∷ 11 ∷ []) $ use2 W (later (some (λ (δ₃ : GName). ‵ (MutSlice (named 0) (μ ∷ []) u8 .own (S₃ δ₃ (x .messages)) (v₃ ∷ [])) ⊛ ‵ (LentAgain u8 κ₃ (μ ∷ []) q₃ γ₃ b₃ o₃ δ₃ (x .messages))))) (lends-at u8 κ₃ (μ ∷ []) q₃ γ₃ b₃ o₃ 𝓤 H A W (named 2) (named 0) (x .messages) (length zs₀) (x .long₃)) $ await ! tt $ pick ! (λ δ₃. split ! $
+        move ! (6 ∷ 7 ∷ []) $ use2 W (later (some
+        (λ (δ₁ : GName). ‵ (MutSlice (named 0) (μ ∷ []) usize .own (S₁ δ₁ (x .words)) (v₁ ∷ [])) ⊛ ‵ (LentAgain usize κ₁ (μ ∷ []) q₁ γ₁ b₁ o₁ δ₁ (x .words)))))
+        (lends-at usize κ₁ (μ ∷ []) q₁ γ₁ b₁ o₁ 𝓤 H A W (named 0) (named 0) (x .words) (length xs₀) (x .long₁)) $ await ! tt $ pick ! (λ δ₁. split ! $
+        move ! (8 ∷ 9 ∷ []) $ use2 W (later (some
+        (λ (δ₂ : GName). ‵ (MutSlice (named 0) (μ ∷ []) u8 .own (S₂ δ₂ (x .streams)) (v₂ ∷ [])) ⊛ ‵ (LentAgain u8 κ₂ (μ ∷ []) q₂ γ₂ b₂ o₂ δ₂ (x .streams)))))
+        (lends-at u8 κ₂ (μ ∷ []) q₂ γ₂ b₂ o₂ 𝓤 H A W (named 1) (named 0) (x .streams) (length ys₀) (x .long₂)) $ await ! tt $ pick ! (λ δ₂. split ! $
+        move ! (10 ∷ 11 ∷ []) $ use2 W (later (some
+        (λ (δ₃ : GName). ‵ (MutSlice (named 0) (μ ∷ []) u8 .own (S₃ δ₃ (x .messages)) (v₃ ∷ [])) ⊛ ‵ (LentAgain u8 κ₃ (μ ∷ []) q₃ γ₃ b₃ o₃ δ₃ (x .messages)))))
+        (lends-at u8 κ₃ (μ ∷ []) q₃ γ₃ b₃ o₃ 𝓤 H A W (named 2) (named 0) (x .messages) (length zs₀) (x .long₃)) $ await ! tt $ pick ! (λ δ₃. split ! $
         move ! (11 ∷ []) $ use1 W (‵ Own ⊛ ‵ Own) (shr-slice-copy 𝓤 H A W (named 3) κ u8 .twice s (v ∷ [])) $ split ! $
         move ! (12 ∷ []) $ nothing ! $ move ! (1 ∷ 0 ∷ []) $ fjoin ! $ move ! (1 ∷ 0 ∷ []) $ fjoin ! $ move ! (2 ∷ 0 ∷ []) $ fjoin ! $ move ! (3 ∷ 0 ∷ []) $ fjoin ! $ move ! (4 ∷ 0 ∷ []) $ fjoin ! $
         let at-place : nextRecord (now s) (x .reader .at) ≡ t = sym (e″ .0 ∙ ap (λ (l : RefT (List ℕ)). nextRecord (now l) (x .reader .at)) (x .holds)) in
-        move ! (5 ∷ 8 ∷ []) $ use3 W (raw (FoundC 𝓤 H A mem-at run .pre (to-found μ δ₁ δ₂ δ₃ (x .words) (x .streams) (x .messages) t w))) (goes-found μ δ₁ δ₂ δ₃ (x .words) (x .streams) (x .messages) t w (found-lies (now s) (x .reader .at) t at-place)) $
+        move ! (5 ∷ 8 ∷ []) $ use3 W (raw (FoundC 𝓤 H A mem-at run .pre (to-found μ δ₁ δ₂ δ₃ (x .words) (x .streams) (x .messages) t w)))
+        (goes-found μ δ₁ δ₂ δ₃ (x .words) (x .streams) (x .messages) t w (found-lies (now s) (x .reader .at) t at-place)) $
         -- [what `print_found` asks; the log; what the memories' owner keeps, the last first; _5; what the reader owns; _16; …]
         calls-at ! fm (FoundC 𝓤 H A mem-at run) known-found (to-found μ δ₁ δ₂ δ₃ (x .words) (x .streams) (x .messages) t w)
-        (and-then ! (load ! (from ! (stop !)) (look ! 17 refl)) (and-then ! (load ! (from ! (stop !)) (look ! 13 refl)) (and-then ! (load ! (from ! (stop !)) (look ! 9 refl)) (and-then ! (load ! (from ! (stop !)) (look ! 30 refl)) (and-then ! (load ! (from ! (stop !)) (look ! 27 refl)) (no-more !)))))) (λ y.
-        use1 W (later (some (λ (g : Bool). ((‵ (flft (μ ∷ []) fullShare) ⊛ ‵ (flft κ q) ⊛ ‵ ftrue) ⊛ ‵ (bool .own g (y ∷ []))) ⊛ raw (ensured 𝓤 H A print-found.ended (print-found.clauses 𝓤 H A mem-at run) (μ ∷ [], (κ, tt)) (S₁ δ₁ (x .words), (S₂ δ₂ (x .streams), (S₃ δ₃ (x .messages), (s, (t, tt))))) tt g)))) (id⊢ 𝓤 _) $ await ! tt $ pick ! (λ g.
-        split ! $ move ! (1 ∷ []) $ use1 W (some (λ (ls : List ℕ × (List ℕ × (List ℕ × (Unit {0} × (Unit {0} × Unit {0}))))). ‵ (lasts print-found.ended (μ ∷ [], (κ, tt)) (S₁ δ₁ (x .words), (S₂ δ₂ (x .streams), (S₃ δ₃ (x .messages), (s, (t, tt))))) ls) ⊛ raw (fact 𝓤 (g ≡ isRecord t)))) (id⊢ 𝓤 _) $ pick ! (λ ls.
+        (and-then ! (load ! (from ! (stop !)) (look ! 17 refl))
+        (and-then ! (load ! (from ! (stop !)) (look ! 13 refl))
+        (and-then ! (load ! (from ! (stop !)) (look ! 9 refl)) (and-then ! (load ! (from ! (stop !)) (look ! 30 refl)) (and-then ! (load ! (from ! (stop !)) (look ! 27 refl)) (no-more !)))))) (λ y.
+        use1 W (later (some (λ (g : Bool). ((‵ (flft (μ ∷ []) fullShare) ⊛ ‵ (flft κ q) ⊛ ‵ ftrue) ⊛ ‵ (bool .own g (y ∷ [])))
+        ⊛ raw (ensured 𝓤 H A print-found.ended (print-found.clauses 𝓤 H A mem-at run) (μ ∷ [], (κ, tt)) (S₁ δ₁ (x .words), (S₂ δ₂ (x .streams), (S₃ δ₃ (x .messages), (s, (t, tt))))) tt g))))
+        (id⊢ 𝓤 _) $ await ! tt $ pick ! (λ g.
+        split ! $ move ! (1 ∷ []) $ use1 W (some
+        (λ (ls : List ℕ × (List ℕ × (List ℕ × (Unit {0} × (Unit {0} × Unit {0}))))). ‵
+        (lasts print-found.ended (μ ∷ [], (κ, tt)) (S₁ δ₁ (x .words), (S₂ δ₂ (x .streams), (S₃ δ₃ (x .messages), (s, (t, tt))))) ls) ⊛ raw (fact 𝓤 (g ≡ isRecord t)))) (id⊢ 𝓤 _) $ pick ! (λ ls.
         split ! $ move ! (1 ∷ []) $ heard ! (g ≡ isRecord t) (λ more.
-        fsplit ! $ fsplit ! $ move ! (1 ∷ []) $ feqL ! (λ k₁. move ! (1 ∷ []) $ fsplit ! $ fsplit ! $ move ! (1 ∷ []) $ feqL ! (λ k₂. move ! (1 ∷ []) $ fsplit ! $ fsplit ! $ move ! (1 ∷ []) $ feqL ! (λ k₃.
+        fsplit ! $ fsplit ! $ move ! (1 ∷ []) $ feqL ! (λ k₁. move ! (1 ∷ []) $ fsplit ! $ fsplit ! $ move ! (1 ∷ []) $
+        feqL ! (λ k₂. move ! (1 ∷ []) $ fsplit ! $ fsplit ! $ move ! (1 ∷ []) $ feqL ! (λ k₃.
         -- [the last lists, the last first; the tokens and the answer; the log; …]
         move ! (4 ∷ []) $ split ! $ move ! (1 ∷ []) $ peeks ! bool (Is bool) (shows 𝓤 H A bool) g (y ∷ []) (λ isg.
         land ! (from ! (stop !)) (init ! 26 refl (bool-lawful 𝓤 H A W .typed g _ isg .0)) $ rewrite ! 26 (λ (z : Val). ‵ (fat fullShare tyBool l₉ 0 z)) (ap only isg) refl $ drop ! $ split ! $
         -- the lifetime is ended, and the memories come back at their last lists
-        lft-end ! tt $ use1 W (‵ (fdead (μ ∷ [])) ⊛ ‵ (fdead (μ ∷ []))) (W .lfts .dead-dup (μ ∷ [])) $ split ! $ use1 W (‵ (fdead (μ ∷ [])) ⊛ ‵ (fdead (μ ∷ []))) (W .lfts .dead-dup (μ ∷ [])) $ split ! $
-        move ! (0 ∷ 11 ∷ 7 ∷ []) $ use3 W (later (‵ (M₁ (ls .0)) ⊛ ‵ (flft κ₁ q₁))) (back-at usize κ₁ (μ ∷ []) q₁ γ₁ b₁ o₁ 𝓤 H A W (named 0) (named 0) (x .words) (length xs₀) (x .long₁) δ₁ (ls .0) room₁ k₁) $ await ! tt $ split ! $
-        move ! (2 ∷ 10 ∷ 7 ∷ []) $ use3 W (later (‵ (M₂ (ls .1 .0)) ⊛ ‵ (flft κ₂ q₂))) (back-at u8 κ₂ (μ ∷ []) q₂ γ₂ b₂ o₂ 𝓤 H A W (named 1) (named 0) (x .streams) (length ys₀) (x .long₂) δ₂ (ls .1 .0) room₂ k₂) $ await ! tt $ split ! $
-        move ! (4 ∷ 9 ∷ 6 ∷ []) $ use3 W (later (‵ (M₃ (ls .1 .1 .0)) ⊛ ‵ (flft κ₃ q₃))) (back-at u8 κ₃ (μ ∷ []) q₃ γ₃ b₃ o₃ 𝓤 H A W (named 2) (named 0) (x .messages) (length zs₀) (x .long₃) δ₃ (ls .1 .1 .0) room₃ k₃) $ await ! tt $ split ! $
+        lft-end ! tt $ use1 W (‵ (fdead (μ ∷ [])) ⊛ ‵ (fdead (μ ∷ []))) (W .lfts .dead-dup (μ ∷ [])) $ split ! $
+        use1 W (‵ (fdead (μ ∷ [])) ⊛ ‵ (fdead (μ ∷ []))) (W .lfts .dead-dup (μ ∷ [])) $ split ! $
+        move ! (0 ∷ 11 ∷ 7 ∷ []) $ use3 W (later (‵ (M₁ (ls .0)) ⊛ ‵ (flft κ₁ q₁)))
+        (back-at usize κ₁ (μ ∷ []) q₁ γ₁ b₁ o₁ 𝓤 H A W (named 0) (named 0) (x .words) (length xs₀) (x .long₁) δ₁ (ls .0) room₁ k₁) $ await ! tt $ split ! $
+        move ! (2 ∷ 10 ∷ 7 ∷ []) $ use3 W (later (‵ (M₂ (ls .1 .0)) ⊛ ‵ (flft κ₂ q₂)))
+        (back-at u8 κ₂ (μ ∷ []) q₂ γ₂ b₂ o₂ 𝓤 H A W (named 1) (named 0) (x .streams) (length ys₀) (x .long₂) δ₂ (ls .1 .0) room₂ k₂) $ await ! tt $ split ! $
+        move ! (4 ∷ 9 ∷ 6 ∷ []) $ use3 W (later (‵ (M₃ (ls .1 .1 .0)) ⊛ ‵ (flft κ₃ q₃)))
+        (back-at u8 κ₃ (μ ∷ []) q₃ γ₃ b₃ o₃ 𝓤 H A W (named 2) (named 0) (x .messages) (length zs₀) (x .long₃) δ₃ (ls .1 .1 .0) room₃ k₃) $ await ! tt $ split ! $
         move ! (6 ∷ []) $ split ! $
         -- [the log's token; …; each memory and its token, the last first; …; the log; _5; what the reader owns; _16; …]
         assigns ! (un ! (load ! (from ! (stop !)) (look ! 26 refl)) tt) (from ! (stop !)) (init ! 12 refl (tt, tt)) $
@@ -362,36 +404,60 @@ module _ {M : Type 1} (𝓤 : URA M) (H : Heap 𝓤) (A : Atoms 𝓤) (W : Given
         branches ! (load ! (from ! (stop !)) (look ! 12 refl))
         (λ _.
         assigns ! (of-opd ! (unit-lit !)) (from ! (stop !)) (init ! 43 refl (tt, tt)) $ returns-within ! Post refl (look ! 43 refl) $
-        forget ! 10 refl $ forget ! 12 refl $ forget ! 14 refl $ forget ! 16 refl $ forget ! 18 refl $ forget ! 20 refl $ forget ! 22 refl $ forget ! 24 refl $ forget ! 26 refl $ forget ! 28 refl $ forget ! 32 refl $ forget ! 35 refl $ forget ! 37 refl $ forget ! 39 refl $ forget ! 41 refl $ forget ! 43 refl $
-        move ! (43 ∷ 44 ∷ []) $ free1 ! $ move ! (41 ∷ 42 ∷ []) $ free1 ! $ move ! (39 ∷ 40 ∷ []) $ free1 ! $ move ! (37 ∷ 38 ∷ []) $ free1 ! $ move ! (35 ∷ 36 ∷ []) $ free1 ! $ move ! (10 ∷ 34 ∷ []) $ free1 ! $
-        move ! (31 ∷ 32 ∷ []) $ free1 ! $ move ! (29 ∷ 30 ∷ []) $ free1 ! $ move ! (27 ∷ 28 ∷ []) $ free1 ! $ move ! (25 ∷ 26 ∷ []) $ free1 ! $ move ! (23 ∷ 24 ∷ []) $ free1 ! $ move ! (21 ∷ 22 ∷ []) $ free1 ! $ move ! (19 ∷ 20 ∷ []) $ free1 ! $ move ! (17 ∷ 18 ∷ []) $ free1 ! $ move ! (15 ∷ 16 ∷ []) $ free1 ! $ move ! (13 ∷ 14 ∷ []) $ free1 ! $ move ! (11 ∷ 12 ∷ []) $ free1 ! $ free0 ! $
+        forget ! 10 refl $ forget ! 12 refl $ forget ! 14 refl $ forget ! 16 refl $ forget ! 18 refl $ forget ! 20 refl $ forget ! 22 refl $ forget ! 24 refl $ forget ! 26 refl $
+        forget ! 28 refl $ forget ! 32 refl $ forget ! 35 refl $ forget ! 37 refl $ forget ! 39 refl $ forget ! 41 refl $ forget ! 43 refl $
+        move ! (43 ∷ 44 ∷ []) $ free1 ! $ move ! (41 ∷ 42 ∷ []) $ free1 ! $ move ! (39 ∷ 40 ∷ []) $ free1 ! $ move ! (37 ∷ 38 ∷ []) $ free1 ! $ move ! (35 ∷ 36 ∷ []) $ free1 ! $
+        move ! (10 ∷ 34 ∷ []) $ free1 ! $
+        move ! (31 ∷ 32 ∷ []) $ free1 ! $ move ! (29 ∷ 30 ∷ []) $ free1 ! $ move ! (27 ∷ 28 ∷ []) $ free1 ! $ move ! (25 ∷ 26 ∷ []) $ free1 ! $ move ! (23 ∷ 24 ∷ []) $ free1 ! $
+        move ! (21 ∷ 22 ∷ []) $ free1 ! $ move ! (19 ∷ 20 ∷ []) $ free1 ! $ move ! (17 ∷ 18 ∷ []) $ free1 ! $ move ! (15 ∷ 16 ∷ []) $ free1 ! $ move ! (13 ∷ 14 ∷ []) $ free1 ! $
+        move ! (11 ∷ 12 ∷ []) $ free1 ! $ free0 ! $
         keep ! (7 ∷ 5 ∷ 3 ∷ 0 ∷ 6 ∷ 4 ∷ 2 ∷ 9 ∷ []) $ by ! (exits (ls .0) (ls .1 .0) (ls .1 .1 .0) same₁ same₂ same₃))
         (λ h.
-        skips ! $ forget ! 12 refl $ forget ! 14 refl $ forget ! 16 refl $ forget ! 18 refl $ forget ! 20 refl $ forget ! 22 refl $ forget ! 24 refl $ forget ! 26 refl $ forget ! 28 refl $ forget ! 32 refl $
-        keep ! (11 ∷ 0 ∷ 9 ∷ 6 ∷ 7 ∷ 4 ∷ 5 ∷ 2 ∷ 3 ∷ 12 ∷ 13 ∷ 14 ∷ 15 ∷ 16 ∷ 17 ∷ 18 ∷ 19 ∷ 20 ∷ 21 ∷ 22 ∷ 23 ∷ 24 ∷ 25 ∷ 26 ∷ 27 ∷ 28 ∷ 29 ∷ 30 ∷ 31 ∷ 32 ∷ 33 ∷ 10 ∷ 34 ∷ 35 ∷ 36 ∷ 37 ∷ 38 ∷ 39 ∷ 40 ∷ 41 ∷ 42 ∷ 43 ∷ 44 ∷ []) $
+        skips ! $ forget ! 12 refl $ forget ! 14 refl $ forget ! 16 refl $ forget ! 18 refl $ forget ! 20 refl $ forget ! 22 refl $ forget ! 24 refl $ forget ! 26 refl $ forget ! 28 refl $
+        forget ! 32 refl $
+        keep ! (11 ∷ 0 ∷ 9 ∷ 6 ∷ 7 ∷ 4 ∷ 5 ∷ 2 ∷ 3 ∷ 12 ∷ 13 ∷ 14 ∷ 15 ∷ 16 ∷ 17 ∷ 18 ∷ 19 ∷ 20 ∷ 21 ∷ 22 ∷ 23 ∷ 24 ∷ 25 ∷ 26 ∷ 27 ∷ 28 ∷ 29 ∷ 30 ∷ 31 ∷ 32 ∷ 33 ∷ 10 ∷ 34 ∷ 35 ∷ 36 ∷ 37
+        ∷ 38 ∷ 39 ∷ 40 ∷ 41 ∷ 42 ∷ 43 ∷ 44 ∷ []) $
         let onward : ws .0 .at ≡ placeBehind t (x .reader .at) = ap (λ (y : LogReader). y .at) (e″ .1) ∙ ap (λ (n : Next). placeBehind n (x .reader .at)) (sym (e″ .0)) in
         again ! Less (Inv l₀ l₁ l₂ l₃ l₄ l₅ l₆ l₇ l₈ l₉ m₀ m₁ m₂ m₃ m₄ m₅ m₆) x
-        (record { reader = ws .0; mach = T′.lowered (ws .0); words = ls .0; streams = ls .1 .0; messages = ls .1 .1 .0; holds = ap (λ (y : LogReader). y .log) (e″ .1) ∙ x .holds; long₁ = same₁; long₂ = same₂; long₃ = same₃ })
+        (record {
+          reader = ws .0;
+          mach = T′.lowered (ws .0);
+          words = ls .0;
+          streams = ls .1 .0;
+          messages = ls .1 .1 .0;
+          holds = ap (λ (y : LogReader). y .log) (e″ .1)
+              ∙ x .holds;
+          long₁ = same₁;
+          long₂ = same₂;
+          long₃ = same₃;
+        })
         (subst (λ (n : ℕ). length (now s) - n < left x) (sym onward) (falls (now s) (x .reader .at) t at-place (sym more ∙ held g h))))
         )))))))))))))))))))))
         (record { reader = r; mach = u; words = xs₀; streams = ys₀; messages = zs₀; holds = ap (λ (y : LogReader). y .log) e; long₁ = refl; long₂ = refl; long₃ = refl })
         )))))))))))))))))))
 
 module _ {M : Type 1} (𝓤 : URA M) (H : Heap 𝓤) (A : Atoms 𝓤) (W : Given 𝓤 H A) (mem-at : Memory → SProp 𝓤) (run : Routine → Fun 𝓤) where
-  print-packets-walks : (𝓣 : Tables 𝓤 H) → FmC 𝓤 H (W .laws) (𝓣 .C) → Triple 𝓤 (𝓣 .C #log-reader·new) (New 𝓤 H A mem-at run) → Triple 𝓤 (𝓣 .C #log-reader·next) (NextC 𝓤 H A mem-at run) → Triple 𝓤 (𝓣 .C #outside_responses·print-found) (FoundC 𝓤 H A mem-at run)
+  print-packets-walks : (𝓣 : Tables 𝓤 H) → FmC 𝓤 H (W .laws) (𝓣 .C) → Triple 𝓤 (𝓣 .C #log-reader·new) (New 𝓤 H A mem-at run) → Triple 𝓤 (𝓣 .C #log-reader·next) (NextC 𝓤 H A mem-at run)
+      → Triple 𝓤 (𝓣 .C #outside_responses·print-found) (FoundC 𝓤 H A mem-at run)
       → Walks 𝓤 H A print-packets.ended stayed (WpFn 𝓤 H (𝓣 .C) (𝓣 .Λ) code.function) (print-packets.clauses 𝓤 H A mem-at run)
-  print-packets-walks 𝓣 fm known-new known-next known-found = walked 𝓤 H A print-packets.ended stayed (print-packets.clauses 𝓤 H A mem-at run) (WpFn 𝓤 H (𝓣 .C) (𝓣 .Λ) code.function) (λ κs. (slice-vals, (slice-vals, (slice-vals, (slice-vals, tt)))))
+  print-packets-walks 𝓣 fm known-new known-next known-found =
+      walked 𝓤 H A print-packets.ended stayed (print-packets.clauses 𝓤 H A mem-at run) (WpFn 𝓤 H (𝓣 .C) (𝓣 .Λ) code.function) (λ κs. (slice-vals, (slice-vals, (slice-vals, (slice-vals, tt)))))
       (λ κs. (mut-slice-tells (named 0) (κs .0) usize, (mut-slice-tells (named 1) (κs .1 .0) u8, (mut-slice-tells (named 2) (κs .1 .1 .0) u8, (shr-slice-tells (named 3) (κs .1 .1 .1 .0) u8, tt)))))
       (λ κs qs bounds a g are. via 𝓤 _ (fst∗ 𝓤 _ (emp 𝓤))
       (walk 𝓤 H A W mem-at run (κs .0) (κs .1 .0) (κs .1 .1 .0) (κs .1 .1 .1 .0) (qs .0) (qs .1 .0) (qs .1 .1 .0) (qs .1 .1 .1 .0)
-      (a .0 .ptr .0) (a .0 .ptr .1) (a .0 .name) (a .0 .now) (a .1 .0 .ptr .0) (a .1 .0 .ptr .1) (a .1 .0 .name) (a .1 .0 .now) (a .1 .1 .0 .ptr .0) (a .1 .1 .0 .ptr .1) (a .1 .1 .0 .name) (a .1 .1 .0 .now) (a .1 .1 .1 .0)
+      (a .0 .ptr .0) (a .0 .ptr .1) (a .0 .name) (a .0 .now) (a .1 .0 .ptr .0) (a .1 .0 .ptr .1) (a .1 .0 .name) (a .1 .0 .now) (a .1 .1 .0 .ptr .0) (a .1 .1 .0 .ptr .1) (a .1 .1 .0 .name)
+      (a .1 .1 .0 .now) (a .1 .1 .1 .0)
       𝓣 fm known-new known-next known-found (are .0 .0 .1) (are .1 .0 .0 .1) (are .1 .1 .0 .0 .1) (are .1 .1 .1 .0)))
 
 print-packets-meets : {M : Type 1} (𝓤 : URA M) (H : Heap 𝓤) (A : Atoms 𝓤) (W : Given 𝓤 H A) (mem-at : Memory → SProp 𝓤) (run : Routine → Fun 𝓤) (𝓣 : Tables 𝓤 H)
     → Triple 𝓤 (𝓣 .C #log-reader·new) (New 𝓤 H A mem-at run) → Triple 𝓤 (𝓣 .C #log-reader·next) (NextC 𝓤 H A mem-at run) → Triple 𝓤 (𝓣 .C #outside_responses·print-found) (FoundC 𝓤 H A mem-at run)
     → Meets 𝓤 H A print-packets.signature (WpFn 𝓤 H (𝓣 .C) (𝓣 .Λ) code.function) (print-packets.spec 𝓤 H A mem-at run)
 print-packets-meets 𝓤 H A W mem-at run 𝓣 known-new known-next known-found =
-    walk-meets 𝓤 H A print-packets.ended stayed W (goes-slice 𝓤 H A W 4 0 tt (plain (λ _. usize)), (goes-slice 𝓤 H A W 4 1 tt (plain (λ _. u8)), (goes-slice 𝓤 H A W 4 2 tt (plain (λ _. u8)), (goes-none-slice 𝓤 H A W 4 (3 ∷ []) tt (plain (λ _. u8)) yes, tt)))) (print-packets.clauses 𝓤 H A mem-at run)
+    walk-meets 𝓤 H A print-packets.ended stayed W (
+      goes-slice 𝓤 H A W 4 0 tt (plain (λ _. usize)),
+      (goes-slice 𝓤 H A W 4 1 tt (plain (λ _. u8)), (goes-slice 𝓤 H A W 4 2 tt (plain (λ _. u8)), (goes-none-slice 𝓤 H A W 4 (3 ∷ []) tt (plain (λ _. u8)) yes, tt))),
+    )
+    (print-packets.clauses 𝓤 H A mem-at run)
     (WpFn 𝓤 H (𝓣 .C) (𝓣 .Λ) code.function) (WpFn-mono 𝓤 H (W .laws) 𝓣 code.function) (print-packets-walks 𝓤 H A W mem-at run 𝓣 (fmOf 𝓤 H (W .laws) 𝓣) known-new known-next known-found)
 
 pub print-packets-spec : {M : Type 1} → stated.statement M
