@@ -1,0 +1,2 @@
+pub mod Mail
+pub mod Run
