@@ -1,7 +1,7 @@
 -- A message's packet is read as its segment.
 use Prim.Native.Nat.{ℕ, zero, suc, _+_, _-_, _*_, _/_, _%_, _≤_, _<_}
 use mathlib.Core.Path.{_≡_, refl, ap, sym, _∙_}
-use mathlib.Core.List.{List, [], _∷_}
+use mathlib.Core.List.{List, [], _∷_, _++_}
 use mathlib.Core.Bool.{Bool, true, false, cond, not, _||_, _&&_}
 use native.Mathlib.Omega.{arith}
 use native.Mathlib.Decide.{ℕ-discrete}
@@ -9,6 +9,7 @@ use lib.ListN.{length, take, drop}
 use lib.Dec.{eqb, leb, ltb}
 use borrow.Author.Tests.{eq-eqb, ne-eqb, le-ltb, le-leb}
 use Rattle.lists.specs.Bytes.{high, low}
+use Rattle.lists.specs.Each.{Each}
 use Rattle.wire.specs.Packet.{packetType, destination, tt as ttOf}
 use Rattle.wire.specs.declared.MessageSegment.{MessageSegment}
 use Rattle.wire.specs.declared.Parsed.the-variants.{Message}
@@ -34,12 +35,6 @@ first-byte q h = omega arith
 
 two-bytes : (n : ℕ) → n < 65536 → high n * 256 + low n ≡ n
 two-bytes n h = omega arith
-
-high-byte : (n : ℕ) → high n < 256
-high-byte n = omega arith
-
-low-byte : (n : ℕ) → low n < 256
-low-byte n = omega arith
 
 -- two fields of four bits
 record Halves (a c b : ℕ) : Type 0 where
@@ -78,6 +73,10 @@ bytes-drop : (n : ℕ) (l : List ℕ) → AreBytes l → AreBytes (drop n l)
 bytes-drop zero l h = h
 bytes-drop (suc n) [] h = no-bytes
 bytes-drop (suc n) (b ∷ bs) h = bytes-drop n bs (λ i. h (suc i))
+
+bytes-behind : (head l : List ℕ) → Each (λ (b : ℕ). b < 256) head → AreBytes l → AreBytes (head ++ l)
+bytes-behind [] l e h = h
+bytes-behind (b ∷ bs) l e h = bytes-cons b (bs ++ l) (e .0) (bytes-behind bs l (e .1) h)
 
 -- ---- The packet
 
@@ -166,14 +165,16 @@ module _ (device : ℕ) (x : Posted) (k : ℕ) (p : Postable device x) (below : 
   all-bytes : AreBytes (mailPacket device x k)
   unfolding mailPacket dataAt
   all-bytes =
-      bytes-cons _ _ (first .is-byte)
-      (bytes-cons _ _ (high-byte device)
-      (bytes-cons _ _ (low-byte device)
-      (bytes-cons _ _ (high-byte (x .mail .source))
-      (bytes-cons _ _ (low-byte (x .mail .source))
-      (bytes-cons _ _ (sizes .is-byte)
-      (bytes-cons _ _ (name .is-byte)
-      (bytes-take (segmentSize x) (drop (k * segmentSize x) (x .mail .bytes)) (bytes-drop (k * segmentSize x) (x .mail .bytes) (p .bytes)))))))))
+      bytes-behind
+      ((priorityAt x k * 64 + 16 + 11)
+      ∷ high device ∷ low device
+      ∷ high (x .mail .source) ∷ low (x .mail .source)
+      ∷ (msglenOf x * 16 + x .ssize)
+      ∷ (x .mail .letter * 64 + mboxOf x * 16 + lastField x k)
+      ∷ [])
+      (dataAt x k)
+      (first .is-byte, (omega arith, (omega arith, (omega arith, (omega arith, (sizes .is-byte, (name .is-byte, tt)))))))
+      (bytes-take (segmentSize x) (drop (k * segmentSize x) (x .mail .bytes)) (bytes-drop (k * segmentSize x) (x .mail .bytes) (p .bytes)))
 
 pub mail-read : MailReadBySegment
 unfolding mailPacket
