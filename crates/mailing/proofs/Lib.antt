@@ -4,3 +4,4 @@ pub mod Awaited
 pub mod Rooms
 pub mod Contexts
 pub mod Segments
+pub mod Others
