@@ -5,3 +5,5 @@ pub mod Rooms
 pub mod Contexts
 pub mod Segments
 pub mod Others
+pub mod Streams
+pub mod Boards
