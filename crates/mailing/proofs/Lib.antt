@@ -7,3 +7,4 @@ pub mod Segments
 pub mod Others
 pub mod Streams
 pub mod Boards
+pub mod Runs
