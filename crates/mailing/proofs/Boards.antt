@@ -2,7 +2,7 @@
 use Prim.Native.Nat.{ℕ, _+_, _*_, _<_}
 use mathlib.Core.Path.{_≡_, refl, ap, ap₂, sym, _∙_, subst, subst₂}
 use mathlib.Core.List.{List, []}
-use mathlib.Core.Bool.{false}
+use mathlib.Core.Bool.{true, false}
 use native.Mathlib.Omega.{arith}
 use lib.ListN.{length}
 use Rattle.answers.specs.Answers.{Said}
@@ -11,7 +11,9 @@ use Rattle.wire.specs.declared.Segment.{Segment}
 use Rattle.wire.specs.declared.Parsed.{Parsed}
 use Rattle.wire.specs.declared.Parsed.the-variants.{Refused, Stream, Message}
 use Rattle.wire.specs.Parsed.{parsed}
-use Rattle.contexts.specs.State.{State}
+use Rattle.lists.specs.First.{firstOf}
+use Rattle.lists.proofs.First.{first-passes}
+use Rattle.contexts.specs.State.{State, messageIn, closedMessage, messageContext}
 use Rattle.contexts.specs.Words.{stateOf, wordsOf, stateWords}
 use Rattle.contexts.proofs.Words.{sixteen, eight, state-of}
 use Rattle.refusal19.specs.Refusal19.{namedBy19}
@@ -32,6 +34,8 @@ use Rattle.flows.specs.ByFlow.{AreBytes}
 use Rattle.flows.proofs.Quiet.{Quiet, quiet-stepped}
 use Rattle.mailing.specs.Mail.{Posted}
 use Rattle.mailing.specs.Run.{isOfMail, stateOnBoard, deviceOf, mailBy, ofName}
+use Rattle.mailing.specs.ReadBack.{OthersLeaveMail}
+use Rattle.mailing.proofs.Contexts.{isMine}
 use Rattle.mailing.proofs.Others.{Stays, all-stays, Leaves, leaves-stepped}
 use Rattle.mailing.proofs.Streams.{Beside, beside-stepped}
 
@@ -154,3 +158,14 @@ module _ (device : ℕ) (b : Board) (p : List ℕ) (r : Ready device b) (bytes :
         go (Refused number) e other = by-refused number e
         go (Stream g) e other = by-stream g e
         go (Message m) e other = by-message m e other
+
+-- ---- The statement
+
+pub others-leave-mail : OthersLeaveMail
+unfolding messageContext
+others-leave-mail b x p n g found below bytes other =
+    let ready : Ready (deviceOf b) b = record { whole = g .good .whole; good = g .good .good; own-device = refl; lends = g .lends } in
+    let t : Stays x (stateOnBoard b) (b .messageMemory) (stateOnBoard (after b p)) (after b p .messageMemory) = read-other (deviceOf b) b p ready bytes x other .stays in
+    let inside : firstOf (isMine x) (stateOnBoard b .messages) < length (stateOnBoard b .messages) = omega (arith, found, eight (b .words)) in
+    let mine : isMine x (messageIn (stateOnBoard b) n) ≡ true = ap (λ (i : ℕ). isMine x (messageIn (stateOnBoard b) i)) (sym found) ∙ first-passes (isMine x) (stateOnBoard b .messages) closedMessage inside in
+    record { found = t .found ∙ found; context = t .context n mine; bytes = t .room n (n * 4096) 4096 mine (omega arith) (omega arith) }

@@ -18,7 +18,8 @@ use Rattle.message_rooms.specs.Placing.{MessageJoined}
 use Rattle.messages.specs.Step.{messageStepped}
 use Rattle.flows.specs.Board.{Board, read, after, inRoom}
 use Rattle.mailing.specs.Mail.{Mail, Posted, segmentSize, msglenOf, dataAt, isAlone, mboxOf, mailPacket, mailSegment, Postable, ReadsAsMail}
-use Rattle.mailing.specs.Run.{MailTurn, segment, other, turnPacket, arrivals, isName, FairMailTurn, stateOnBoard, deviceOf, boardAtFirst, contextAtFirst, SegmentCall, segmentCalls, saidAt, DoneAt, mailBy, mailIn, ofName, MailRun, MailReadsBack, MessageReadBack}
+use Rattle.mailing.specs.Run.{MailTurn, segment, other, turnPacket, arrivals, isName, FairMailTurn, stateOnBoard, deviceOf, boardAtFirst, contextAtFirst, SegmentCall, segmentCalls, saidAt, DoneAt, mailBy, mailIn, ofName}
+use Rattle.mailing.specs.ReadBack.{MailRun, MessageReadBack}
 use Rattle.mailing.proofs.Sizes.{Sized, sized}
 use Rattle.mailing.proofs.Packets.{mail-read}
 use Rattle.mailing.proofs.Awaited.{Awaits, awaits-all, next-awaited, then-awaited, some-awaited, none-awaited, all-come, as-many}
@@ -224,7 +225,7 @@ module _ (device : ℕ) (x : Posted) (post : Postable device x) where
 
 module _ (b : Board) (x : Posted) (turns : List MailTurn) (run : MailRun b x turns) where
   ready : Ready (deviceOf b) b
-  ready = record { whole = run .good .whole; good = run .good .good; own-device = refl; lends = run .lends }
+  ready = record { whole = run .start .good .whole; good = run .start .good .good; own-device = refl; lends = run .start .lends }
 
   awaits : Awaits (msglenOf x) 0 (arrivals turns)
   awaits = awaits-all (msglenOf x) (arrivals turns) (run .each-once)

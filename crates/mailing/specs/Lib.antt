@@ -1,2 +1,3 @@
 pub mod Mail
 pub mod Run
+pub mod ReadBack

@@ -6,6 +6,7 @@ use mathlib.Core.Bool.{Bool, true, cond}
 use lib.ListN.{length, getD, take, drop}
 use lib.Dec.{eqb}
 use Rattle.lists.specs.Bytes.{high, low}
+use Rattle.answers.specs.Answers.{Said, message}
 use Rattle.wire.specs.Packet as packet
 use Rattle.wire.specs.declared.MessageSegment.{MessageSegment}
 use Rattle.wire.specs.declared.Parsed.the-variants.{Message}
@@ -104,6 +105,10 @@ pub record ReadsAsMail (device : ℕ) (x : Posted) (k : ℕ) : Type 0 where
   -- and every entry is a byte
   pub are-bytes : AreBytes (mailPacket device x k)
 
--- every segment of a message that can be sent
+-- so it is with every segment of a message that can be sent
 abbrev pub MailReadBySegment : Type 0
 MailReadBySegment = (device : ℕ) (x : Posted) (k : ℕ) → Postable device x → k ≤ msglenOf x → ReadsAsMail device x k
+
+-- the answer that delivers the message from a context: source, letter, mailbox, length
+abbrev pub mailAnswer : Posted → (context : ℕ) → Said
+mailAnswer x context = message context (x .mail .source) (x .mail .letter) (x .mail .mailbox) (length (x .mail .bytes))

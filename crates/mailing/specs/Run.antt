@@ -1,26 +1,23 @@
--- A message's segments come among other packets: what they are answered, and what is delivered.
-use Prim.Native.Nat.{ℕ, _+_, _%_, _<_}
+-- A run: a message's segments come among other packets, and the endpoint reads them all.
+use Prim.Native.Nat.{ℕ, _+_, _%_}
 use mathlib.Core.Path.{_≡_}
-use mathlib.Core.List.{List, [], _∷_, _++_, map}
+use mathlib.Core.List.{List, [], _∷_, _++_}
 use mathlib.Core.Bool.{Bool, false, cond, _&&_}
-use lib.ListN.{length, replicate}
-use lib.Dec.{eqb, leb}
-use Rattle.lists.specs.Each.{Each}
+use lib.Dec.{eqb}
 use Rattle.answers.specs.Answers.{Said, held, delivered, message, refused, ready, closed, free, wrote}
 use Rattle.wire.specs.declared.Parsed.{Parsed}
 use Rattle.wire.specs.declared.Parsed.the-variants.{Refused, Stream, Message}
 use Rattle.wire.specs.Parsed.{parsed}
 use Rattle.responses.specs.Type13.{DONE, answered}
-use Rattle.contexts.specs.State.{State, messageContext, freeMessage}
+use Rattle.contexts.specs.State.{State, freeMessage}
 use Rattle.contexts.specs.Words.{stateOf}
-use Rattle.reading.specs.Good.{GoodWords}
-use Rattle.flows.specs.Board.{Board, read, after, room, inRoom, Lends}
+use Rattle.flows.specs.Board.{Board, read, after, inRoom}
 use Rattle.flows.specs.ByFlow.{AreBytes}
-use Rattle.mailing.specs.Mail.{Mail, Posted, msglenOf, mboxOf, mailPacket, Postable}
+use Rattle.mailing.specs.Mail.{Mail, Posted, mboxOf, mailPacket}
 
 -- ---- What comes
 
--- segment k of the message, or any other packet
+-- a turn: segment k of the message comes, or any other packet
 pub data MailTurn : Type 0 where
   segment : ℕ → MailTurn
   other : List ℕ → MailTurn
@@ -50,7 +47,7 @@ isOfMail x (Refused number) = false
 isOfMail x (Stream g) = false
 isOfMail x (Message m) = isName x (m .source) (m .letter) (m .mbox)
 
--- any other packet is none of these, and made of bytes
+-- any other packet: made of bytes, and none of these
 abbrev pub FairMailTurn : ℕ → Posted → MailTurn → Type 0
 FairMailTurn device x (segment k) = Unit {0}
 FairMailTurn device x (other p) = AreBytes p × (isOfMail x (parsed device p) ≡ false)
@@ -111,35 +108,3 @@ mailIn b (p ∷ ps) = mailBy (after b p .messageMemory) (read b p .says) ++ mail
 abbrev pub ofName : Posted → List Mail → List Mail
 ofName x [] = []
 ofName x (y ∷ ys) = cond (isName x (y .source) (y .letter) (y .mailbox % 4)) (y ∷ ofName x ys) (ofName x ys)
-
--- ---- The statement
-
--- The premises. Other packets may come before, between and behind the segments. They may take contexts too; so what is asked of the
--- contexts is asked at two moments: none is open for the message when the run begins, and one is free when its first segment comes.
-pub record MailRun (b : Board) (x : Posted) (turns : List MailTurn) : Type 0 where
-  -- a good state, and memories that 12 allows, whatever is in them
-  pub good : GoodWords (b .words)
-  pub lends : Lends (room b) (b .streamMemory) (b .messageMemory) (b .response)
-  -- a message that can be sent to this endpoint
-  pub postable : Postable (deviceOf b) x
-  -- segments 0 to msglen, each once, in any order
-  pub each-once : (k : ℕ) → times k (arrivals turns) ≡ cond (leb k (msglenOf x)) 1 0
-  -- any other packets, but none of its source, letter and mbox
-  pub others : Each (FairMailTurn (deviceOf b) x) turns
-  -- none is open for it; of one segment, it is never compared with open ones
-  pub none-open : 0 < msglenOf x → messageContext (stateOnBoard b) (x .mail .source) (x .mail .letter) (mboxOf x) ≡ 8
-  -- a context is free for it
-  pub one-free : contextAtFirst b turns < 8
-
-pub record MailReadsBack (b : Board) (x : Posted) (turns : List MailTurn) : Type 0 where
-  -- its segments are held, and the last that comes is answered with the message: context, source, letter, mailbox, length
-  pub answers : map saidAt (segmentCalls (deviceOf b) x b turns)
-      ≡ replicate (msglenOf x) held ++ (message (contextAtFirst b turns) (x .mail .source) (x .mail .letter) (x .mail .mailbox) (length (x .mail .bytes)) ∷ [])
-  -- each of them writes DONE
-  pub responses : Each DoneAt (segmentCalls (deviceOf b) x b turns)
-  -- of all messages of its source, letter and mbox that the run delivers, it is the only one: once, and its room then holds exactly its bytes
-  pub delivers : ofName x (mailIn b (map (turnPacket (deviceOf b) x) turns)) ≡ x .mail ∷ []
-
--- for every ssize and msglen at once
-abbrev pub MessageReadBack : Type 0
-MessageReadBack = (b : Board) (x : Posted) (turns : List MailTurn) → MailRun b x turns → MailReadsBack b x turns
