@@ -8,3 +8,4 @@ pub mod Others
 pub mod Streams
 pub mod Boards
 pub mod Runs
+pub mod Eleven
