@@ -36,7 +36,7 @@ use Rattle.mailing.specs.Mail.{Posted}
 use Rattle.mailing.specs.Run.{isOfMail, stateOnBoard, deviceOf, mailBy, ofName}
 use Rattle.mailing.specs.ReadBack.{OthersLeaveMail}
 use Rattle.mailing.proofs.Contexts.{isMine}
-use Rattle.mailing.proofs.Others.{Stays, all-stays, Leaves, leaves-stepped}
+use Rattle.mailing.proofs.Others.{Stays, all-stays, leaves-stepped}
 use Rattle.mailing.proofs.Streams.{Beside, beside-stepped}
 
 -- a good state of that device, and memories that 12 allows
@@ -164,8 +164,9 @@ module _ (device : ℕ) (b : Board) (p : List ℕ) (r : Ready device b) (bytes :
 pub others-leave-mail : OthersLeaveMail
 unfolding messageContext
 others-leave-mail b x p n g found below bytes other =
+    let s : State = stateOnBoard b in
     let ready : Ready (deviceOf b) b = record { whole = g .good .whole; good = g .good .good; own-device = refl; lends = g .lends } in
-    let t : Stays x (stateOnBoard b) (b .messageMemory) (stateOnBoard (after b p)) (after b p .messageMemory) = read-other (deviceOf b) b p ready bytes x other .stays in
-    let inside : firstOf (isMine x) (stateOnBoard b .messages) < length (stateOnBoard b .messages) = omega (arith, found, eight (b .words)) in
-    let mine : isMine x (messageIn (stateOnBoard b) n) ≡ true = ap (λ (i : ℕ). isMine x (messageIn (stateOnBoard b) i)) (sym found) ∙ first-passes (isMine x) (stateOnBoard b .messages) closedMessage inside in
+    let t = read-other (deviceOf b) b p ready bytes x other .stays in
+    let inside : firstOf (isMine x) (s .messages) < length (s .messages) = omega (arith, found, eight (b .words)) in
+    let mine : isMine x (messageIn s n) ≡ true = ap (λ (i : ℕ). isMine x (messageIn s i)) (sym found) ∙ first-passes (isMine x) (s .messages) closedMessage inside in
     record { found = t .found ∙ found; context = t .context n mine; bytes = t .room n (n * 4096) 4096 mine (omega arith) (omega arith) }

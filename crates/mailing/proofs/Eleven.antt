@@ -68,7 +68,11 @@ one-once (suc k) = rw (ne-eqb (suc k) 0 (λ e. omega arith), lt-leb (suc k) 0 (o
 
 -- the context that example 11 gets: fromThree has context 0
 first-is : contextAtFirst paperBoard elevenTurns ≡ 1
-unfolding written firstOf any rows joined verdict badMTU messageOf bytesOf inEights responseTo answered isFreeStream isFreeMessage isOfMessage messageContext freeMessage stateOf wordsOf badRoom badStream badMessage namedBy19 reservedSize badLength pastLast messageRows.messageFound messageRows.otherMessage messageRows.alreadyMarked messageRows.neededNoneFree boxes.messagePlaced message.messageAccepted allMarked marked wrongSizes table reading segmentOf malformed streamRows.missized streamRows.notOpen streamRows.passesRoom streamRows.noneFree streamRows.lengthDiffers
+unfolding written firstOf any rows joined verdict badMTU messageOf bytesOf inEights responseTo answered isFreeStream isFreeMessage isOfMessage
+    messageContext freeMessage stateOf wordsOf badRoom badStream badMessage namedBy19 reservedSize badLength pastLast messageRows.messageFound
+    messageRows.otherMessage messageRows.alreadyMarked messageRows.neededNoneFree boxes.messagePlaced message.messageAccepted allMarked marked
+    wrongSizes table reading segmentOf malformed streamRows.missized streamRows.notOpen streamRows.passesRoom streamRows.noneFree
+    streamRows.lengthDiffers
 first-is = refl
 
 run-eleven : MailRun paperBoard eleven elevenTurns
@@ -114,5 +118,10 @@ unfolding bytesOf msglenOf dataAt mailPacket
 mail-runs-not-empty = record { two-segments = run-eleven; one-segment = run-log; packets = refl; log-packet = refl }
 
 pub eleven-delivered : ElevenDelivered
-unfolding written firstOf any rows joined verdict badMTU messageOf bytesOf inEights responseTo answered isFreeStream isFreeMessage isOfMessage messageContext freeMessage stateOf wordsOf badRoom badStream badMessage namedBy19 reservedSize badLength pastLast messageRows.messageFound messageRows.otherMessage messageRows.alreadyMarked messageRows.neededNoneFree boxes.messagePlaced message.messageAccepted allMarked marked wrongSizes table reading segmentOf malformed streamRows.missized streamRows.notOpen streamRows.passesRoom streamRows.noneFree streamRows.lengthDiffers sameFlow segmentAt pduLength dataLength isOfFlow flowContext freeStream placing.placed stream.accepted badLast badMarks msglenOf dataAt mailPacket
+unfolding written firstOf any rows joined verdict badMTU messageOf bytesOf inEights responseTo answered isFreeStream isFreeMessage isOfMessage
+    messageContext freeMessage stateOf wordsOf badRoom badStream badMessage namedBy19 reservedSize badLength pastLast messageRows.messageFound
+    messageRows.otherMessage messageRows.alreadyMarked messageRows.neededNoneFree boxes.messagePlaced message.messageAccepted allMarked marked
+    wrongSizes table reading segmentOf malformed streamRows.missized streamRows.notOpen streamRows.passesRoom streamRows.noneFree
+    streamRows.lengthDiffers sameFlow segmentAt pduLength dataLength isOfFlow flowContext freeStream placing.placed stream.accepted badLast badMarks
+    msglenOf dataAt mailPacket
 eleven-delivered = record { answers = refl; delivers = refl }

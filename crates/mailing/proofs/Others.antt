@@ -1,6 +1,6 @@
 -- A packet of another message leaves this one's context and room as they are, by the state and the message memory alone: it writes into a
 -- context that is free or of its own message, and into that context's room.
-use Prim.Native.Nat.{ℕ, suc, _+_, _*_, _%_, _≤_, _<_}
+use Prim.Native.Nat.{ℕ, _+_, _*_, _%_, _≤_, _<_}
 use mathlib.Core.Path.{_≡_, refl, ap, sym, _∙_, subst}
 use mathlib.Core.List.{List, []}
 use mathlib.Core.Bool.{Bool, true, false, cond, not, _&&_, true≢false}
@@ -14,7 +14,7 @@ use borrow.Author.Tests.{ltb-true, eqb-true, not-false}
 use Rattle.lists.specs.Bytes.{written}
 use Rattle.lists.specs.First.{firstOf}
 use Rattle.lists.proofs.First.{first-passes}
-use Rattle.answers.specs.Answers.{Said, held, message}
+use Rattle.answers.specs.Answers.{held, message}
 use Rattle.wire.specs.declared.MessageSegment.{MessageSegment}
 use Rattle.wire.specs.Type11.{isSingle, mailbox}
 use Rattle.sizes.specs.Sizes.{bytesOf}
@@ -31,7 +31,7 @@ use Rattle.messages.specs.Joining.{deliveredAtOnce, messageAccepted}
 use Rattle.messages.specs.Step.{refusedWith, matched, messageStepped}
 use Rattle.reading.proofs.Cases.{by-test}
 use Rattle.flows.proofs.Contexts.{first-set}
-use Rattle.mailing.specs.Mail.{Posted, mboxOf}
+use Rattle.mailing.specs.Mail.{Posted}
 use Rattle.mailing.specs.Run.{isName, mailBy, ofName}
 use Rattle.mailing.proofs.Rooms.{before-stays, behind-stays}
 use Rattle.mailing.proofs.Contexts.{isMine, free-none, closed-none, kept-other, found-other}
@@ -48,12 +48,9 @@ pub record Stays (x : Posted) (s : State) (memory : List ℕ) (s′ : State) (me
 pub all-stays : (x : Posted) (s s′ : State) (memory : List ℕ) → s′ .messages ≡ s .messages → Stays x s memory s′ memory
 all-stays x s s′ memory e = record {
   found = ap (firstOf (isMine x)) e;
-  context = λ n h. ap (λ (cs : List MessageContext). at cs n) e;
+  context = λ n h. ap (λ (cs : List MessageContext). getD cs n closedMessage) e;
   room = λ n from size h a b. refl;
 }
-  where
-    at : List MessageContext → ℕ → MessageContext
-    at cs n = getD cs n closedMessage
 
 -- ---- A context that is not the message's, and bytes written into its room
 
@@ -141,9 +138,9 @@ module _ (x : Posted) (s : State) (eight : length (s .messages) ≡ 8) (memory :
   own-not : isSingle m ≡ false → messageFound s m < 8 → isMine x (messageIn s (messageFound s m)) ≡ false
   unfolding messageFound messageContext
   own-not t h =
-      rw t
-      (found-other x m other (messageIn s (firstOf (isOfMessage (m .source) (m .letter) (m .mbox)) (s .messages)))
-      (first-passes (isOfMessage (m .source) (m .letter) (m .mbox)) (s .messages) closedMessage (let b : firstOf (isOfMessage (m .source) (m .letter) (m .mbox)) (s .messages) < 8 = rw t at h in omega arith)))
+      let n : ℕ = firstOf (isOfMessage (m .source) (m .letter) (m .mbox)) (s .messages) in
+      let below : n < 8 = rw t at h in
+      rw t (found-other x m other (messageIn s n) (first-passes (isOfMessage (m .source) (m .letter) (m .mbox)) (s .messages) closedMessage (omega arith)))
 
   -- a context is free where one is needed
   free-there : neededNoneFree s m ≡ false → messageOpen s m ≡ false → freeMessage s < 8

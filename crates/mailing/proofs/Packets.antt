@@ -1,19 +1,19 @@
 -- A message's packet is read as its segment.
 use Prim.Native.Nat.{ℕ, zero, suc, _+_, _-_, _*_, _/_, _%_, _≤_, _<_}
-use mathlib.Core.Path.{_≡_, refl, ap, sym, _∙_}
+use mathlib.Core.Path.{_≡_, refl, ap, _∙_}
 use mathlib.Core.List.{List, [], _∷_, _++_}
 use mathlib.Core.Bool.{Bool, true, false, cond, not, _||_, _&&_}
 use native.Mathlib.Omega.{arith}
 use native.Mathlib.Decide.{ℕ-discrete}
 use lib.ListN.{length, take, drop}
-use lib.Dec.{eqb, leb, ltb}
+use lib.Dec.{eqb, ltb}
 use borrow.Author.Tests.{eq-eqb, ne-eqb, le-ltb, le-leb}
 use Rattle.lists.specs.Bytes.{high, low}
 use Rattle.lists.specs.Each.{Each}
 use Rattle.wire.specs.Packet.{packetType, destination, tt as ttOf}
 use Rattle.wire.specs.declared.MessageSegment.{MessageSegment}
 use Rattle.wire.specs.declared.Parsed.the-variants.{Message}
-use Rattle.wire.specs.Type11.{isSingle, mailbox, messageOf}
+use Rattle.wire.specs.Type11.{mailbox, messageOf}
 use Rattle.wire.specs.Parsed.{parsed, parsedByType}
 use Rattle.sizes.specs.Sizes.{inEights}
 use Rattle.rules.specs.Messages.{judged, reservedSize, badLength, pastLast}

@@ -1,6 +1,6 @@
 -- The segments of a message in its room: each lies in its own part, and all of them together are the message.
-use Prim.Native.Nat.{ℕ, zero, suc, _+_, _-_, _*_, _≤_, _<_}
-use mathlib.Core.Path.{_≡_, refl, ap, ap₂, sym, _∙_}
+use Prim.Native.Nat.{ℕ, zero, suc, _+_, _*_, _≤_, _<_}
+use mathlib.Core.Path.{_≡_, ap, ap₂, sym, _∙_}
 use mathlib.Core.List.{List, _++_}
 use mathlib.Core.Bool.{true, false}
 use native.Mathlib.Omega.{arith}

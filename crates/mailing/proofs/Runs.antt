@@ -5,21 +5,20 @@ use mathlib.Core.List.{List, [], _∷_, _++_, map}
 use mathlib.Core.Bool.{Bool, true, false, cond}
 use native.Mathlib.Omega.{arith}
 use lib.ListN.{length, replicate}
+use lib.Dec.{eqb}
 use borrow.Author.Tests.{eq-eqb, ne-eqb}
 use Rattle.lists.specs.Each.{Each}
-use Rattle.lists.specs.First.{firstOf}
-use Rattle.answers.specs.Answers.{Said, held, message}
+use Rattle.answers.specs.Answers.{Said, held}
 use Rattle.contexts.specs.State.{State, messageIn, messageContext, freeMessage}
-use Rattle.contexts.specs.Words.{stateOf}
 use Rattle.contexts.specs.Marks.{marked, withMark, allMarked}
 use Rattle.contexts.proofs.Words.{eight}
 use Rattle.responses.specs.Type13.{DONE, answered}
 use Rattle.message_rooms.specs.Placing.{MessageJoined}
 use Rattle.messages.specs.Step.{messageStepped}
 use Rattle.flows.specs.Board.{Board, read, after, inRoom}
-use Rattle.mailing.specs.Mail.{Mail, Posted, segmentSize, msglenOf, dataAt, isAlone, mboxOf, mailPacket, mailSegment, Postable, ReadsAsMail}
-use Rattle.mailing.specs.Run.{MailTurn, segment, other, turnPacket, arrivals, isName, FairMailTurn, stateOnBoard, deviceOf, boardAtFirst, contextAtFirst, SegmentCall, segmentCalls, saidAt, DoneAt, mailBy, mailIn, ofName}
-use Rattle.mailing.specs.ReadBack.{MailRun, MessageReadBack}
+use Rattle.mailing.specs.Mail.{Mail, Posted, segmentSize, msglenOf, dataAt, isAlone, mboxOf, mailPacket, mailSegment, Postable, ReadsAsMail, mailAnswer}
+use Rattle.mailing.specs.Run.{MailTurn, segment, other, turnPacket, arrivals, isName, FairMailTurn, stateOnBoard, deviceOf, contextAtFirst, segmentCalls, saidAt, DoneAt, mailBy, mailIn, ofName}
+use Rattle.mailing.specs.ReadBack.{contextOf, MailRun, MessageReadBack}
 use Rattle.mailing.proofs.Sizes.{Sized, sized}
 use Rattle.mailing.proofs.Packets.{mail-read}
 use Rattle.mailing.proofs.Awaited.{Awaits, awaits-all, next-awaited, then-awaited, some-awaited, none-awaited, all-come, as-many}
@@ -70,8 +69,7 @@ module _ (device : ℕ) (x : Posted) (post : Postable device x) where
 
   -- c segments are held and one more delivers the message from context n
   record Result (b : Board) (ts : List MailTurn) (n c : ℕ) : Type 0 where
-    answers : map saidAt (segmentCalls device x b ts)
-        ≡ replicate c held ++ (message n (x .mail .source) (x .mail .letter) (x .mail .mailbox) (length (x .mail .bytes)) ∷ [])
+    answers : map saidAt (segmentCalls device x b ts) ≡ replicate c held ++ (mailAnswer x n ∷ [])
     responses : Each DoneAt (segmentCalls device x b ts)
     delivers : ofName x (mailIn b (packetsOfRun ts)) ≡ x .mail ∷ []
 
@@ -103,7 +101,7 @@ module _ (device : ℕ) (x : Posted) (post : Postable device x) where
       delivers = ap (λ (a : Said). ofName x (mailBy (after b p .messageMemory) a ++ mailIn (after b p) (packetsOfRun ts))) says ∙ h .delivers;
     }
 
-    final-result : read b p .says ≡ message n (x .mail .source) (x .mail .letter) (x .mail .mailbox) (length (x .mail .bytes))
+    final-result : read b p .says ≡ mailAnswer x n
         → inRoom 4096 (after b p .messageMemory) n (length (x .mail .bytes)) ≡ x .mail .bytes
         → after b p .response ≡ answered (b .response) p DONE → Over (after b p) ts → Result b (segment k ∷ ts) n 0
     final-result says room done h = record {
@@ -136,28 +134,55 @@ module _ (device : ℕ) (x : Posted) (post : Postable device x) where
 
   -- segment k is read by the state and the memory
   module _ (b : Board) (k : ℕ) (r : Ready device b) (below : k ≤ msglenOf x) where
+    abbrev packet : List ℕ
+    packet = mailPacket device x k
+
     says-it : ReadsAsMail device x k
     says-it = mail-read device x k post below
 
     abbrev step : MessageJoined
-    step = messageStepped (stateOnBoard b) (b .messageMemory) (b .response) (mailPacket device x k) (mailSegment x k)
+    step = messageStepped (stateOnBoard b) (b .messageMemory) (b .response) packet (mailSegment x k)
 
-    by-step : Read11 device b (mailPacket device x k) step
-    by-step = read-11 device b (mailPacket device x k) r (says-it .are-bytes) (mailSegment x k) (says-it .read)
+    -- the kept length of the last segment, with this one
+    abbrev lastAfter : ℕ → ℕ
+    lastAfter last = cond (eqb k (msglenOf x)) (length (dataAt x k)) last
+
+    by-step : Read11 device b packet step
+    by-step = read-11 device b packet r (says-it .are-bytes) (mailSegment x k) (says-it .read)
+
+    -- what it leaves, by what is known of the message
+    only-here : isAlone x ≡ true → freeMessage (stateOnBoard b) < 8 → Delivers x (b .response) packet (freeMessage (stateOnBoard b)) step
+    only-here = only x z (stateOnBoard b) (eight (b .words)) (b .messageMemory) (r .lends .boxes) (b .response) packet k below (says-it .mailbox-is) (says-it .data-are) (says-it .well-formed)
+
+    first-here : isAlone x ≡ false → contextOf x b ≡ 8 → freeMessage (stateOnBoard b) < 8 → allMarked (withMark 0 k) (msglenOf x + 1) ≡ false
+        → Holds x (b .response) packet (freeMessage (stateOnBoard b)) (withMark 0 k) (lastAfter 0) step
+    first-here = first x z (stateOnBoard b) (eight (b .words)) (b .messageMemory) (r .lends .boxes) (b .response) packet k below (says-it .mailbox-is) (says-it .data-are) (says-it .well-formed)
+
+    module _ (several : isAlone x ≡ false) (n marks last : ℕ) (o : Open x (stateOnBoard b) (b .messageMemory) n marks last) (unset : marked marks k ≡ false) where
+      next-here : allMarked (withMark marks k) (msglenOf x + 1) ≡ false → Holds x (b .response) packet n (withMark marks k) (lastAfter last) step
+      next-here =
+          next x z (stateOnBoard b) (eight (b .words)) (b .messageMemory) (r .lends .boxes) (b .response) packet k below (says-it .mailbox-is) (says-it .data-are) (says-it .well-formed)
+          several n marks last o unset
+
+      final-here : Awaits (msglenOf x) (withMark marks k) [] → Delivers x (b .response) packet n step
+      final-here rest =
+          final x z (stateOnBoard b) (eight (b .words)) (b .messageMemory) (r .lends .boxes) (b .response) packet k below (says-it .mailbox-is) (says-it .data-are) (says-it .well-formed)
+          several n marks last o unset (none-awaited (msglenOf x) (withMark marks k) rest) (all-come (msglenOf x) (withMark marks k) rest)
 
     -- it is held
-    then-open : {n marks last : ℕ} → Holds x (b .response) (mailPacket device x k) n marks last step
-        → Open x (stateOnBoard (after b (mailPacket device x k))) (after b (mailPacket device x k) .messageMemory) n marks last
+    then-open : {n marks last : ℕ} → Holds x (b .response) packet n marks last step
+        → Open x (stateOnBoard (after b packet)) (after b packet .messageMemory) n marks last
     then-open {n} {marks} {last} h = subst₂ (λ (s : State) (memory : List ℕ). Open x s memory n marks last) (sym (by-step .state)) (sym (by-step .memory)) (h .stands)
 
-    held-then : (ts : List MailTurn) (n marks last c : ℕ) → Holds x (b .response) (mailPacket device x k) n marks last step → Result (after b (mailPacket device x k)) ts n c → Result b (segment k ∷ ts) n (suc c)
+    held-then : (ts : List MailTurn) (n marks last c : ℕ) → Holds x (b .response) packet n marks last step
+        → Result (after b packet) ts n c → Result b (segment k ∷ ts) n (suc c)
     held-then ts n marks last c h rest = held-result b k ts n c (by-step .says ∙ h .says) (by-step .response ∙ h .done) rest
 
     -- it delivers the message
-    final-then : (ts : List MailTurn) (n : ℕ) → Delivers x (b .response) (mailPacket device x k) n step → arrivals ts ≡ [] → Each (FairMailTurn device x) ts → Result b (segment k ∷ ts) n 0
+    final-then : (ts : List MailTurn) (n : ℕ) → Delivers x (b .response) packet n step → arrivals ts ≡ [] → Each (FairMailTurn device x) ts → Result b (segment k ∷ ts) n 0
     final-then ts n d e fair =
         final-result b k ts n (by-step .says ∙ d .says) (ap (λ (memory : List ℕ). inRoom 4096 memory n (length (x .mail .bytes))) (by-step .memory) ∙ d .room) (by-step .response ∙ d .done)
-        (over ts (after b (mailPacket device x k)) (by-step .ready) e fair)
+        (over ts (after b packet) (by-step .ready) e fair)
 
   -- none is open for it, still
   still-none : {s s′ : State} {memory memory′ : List ℕ} → Stays x s memory s′ memory′
@@ -175,24 +200,18 @@ module _ (device : ℕ) (x : Posted) (post : Postable device x) where
         other-result b p ts q n c (joining ts (after b p) n marks last c (q .ready) (stays-open x z (q .stays) o) w count (fair .1))
     joining (segment k ∷ ts) b n marks last zero r o w count fair =
         let a = next-awaited (msglenOf x) marks k (arrivals ts) w in
-        let i = says-it b k r (a .0) in
         let none : arrivals ts ≡ [] = nothing-left (arrivals ts) (omega arith) in
-        let rest : Awaits (msglenOf x) (withMark marks k) [] = subst (Awaits (msglenOf x) (withMark marks k)) none (then-awaited (msglenOf x) marks k (arrivals ts) w) in
-        final-then b k r (a .0) ts n
-        (final x z (stateOnBoard b) (eight (b .words)) (b .messageMemory) (r .lends .boxes) (b .response) (mailPacket device x k) k (a .0) (i .mailbox-is) (i .data-are) (i .well-formed) several n marks last o (a .1)
-        (none-awaited (msglenOf x) (withMark marks k) rest) (all-come (msglenOf x) (withMark marks k) rest))
-        none (fair .1)
+        let rest = subst (Awaits (msglenOf x) (withMark marks k)) none (then-awaited (msglenOf x) marks k (arrivals ts) w) in
+        final-then b k r (a .0) ts n (final-here b k r (a .0) several n marks last o (a .1) rest) none (fair .1)
     joining (segment k ∷ ts) b n marks last (suc c) r o w count fair =
         let a = next-awaited (msglenOf x) marks k (arrivals ts) w in
-        let i = says-it b k r (a .0) in
         let rest = then-awaited (msglenOf x) marks k (arrivals ts) w in
-        let h = next x z (stateOnBoard b) (eight (b .words)) (b .messageMemory) (r .lends .boxes) (b .response) (mailPacket device x k) k (a .0) (i .mailbox-is) (i .data-are) (i .well-formed) several n marks last o (a .1)
-        (more-awaited (arrivals ts) (withMark marks k) rest (omega arith)) in
+        let h = next-here b k r (a .0) several n marks last o (a .1) (more-awaited (arrivals ts) (withMark marks k) rest (omega arith)) in
         held-then b k r (a .0) ts n _ _ c h
         (joining ts (after b (mailPacket device x k)) n _ _ c (by-step b k r (a .0) .ready) (then-open b k r (a .0) h) rest (omega arith) (fair .1))
 
     -- none is open for it, and c + 2 segments are to come
-    waiting : (ts : List MailTurn) (b : Board) (c : ℕ) → Ready device b → messageContext (stateOnBoard b) (x .mail .source) (x .mail .letter) (mboxOf x) ≡ 8 → contextAtFirst b ts < 8
+    waiting : (ts : List MailTurn) (b : Board) (c : ℕ) → Ready device b → contextOf x b ≡ 8 → contextAtFirst b ts < 8
         → Awaits (msglenOf x) 0 (arrivals ts) → length (arrivals ts) ≡ suc (suc c) → Each (FairMailTurn device x) ts → Result b ts (contextAtFirst b ts) (suc c)
     waiting [] b c r none free w count fair = absurd (omega arith)
     waiting (other p ∷ ts) b c r none free w count fair =
@@ -200,12 +219,11 @@ module _ (device : ℕ) (x : Posted) (post : Postable device x) where
         other-result b p ts q (contextAtFirst (after b p) ts) (suc c) (waiting ts (after b p) c (q .ready) (still-none (q .stays) none) free w count (fair .1))
     waiting (segment k ∷ ts) b c r none free w count fair =
         let a = next-awaited (msglenOf x) 0 k (arrivals ts) w in
-        let i = says-it b k r (a .0) in
         let rest = then-awaited (msglenOf x) 0 k (arrivals ts) w in
-        let h = first x z (stateOnBoard b) (eight (b .words)) (b .messageMemory) (r .lends .boxes) (b .response) (mailPacket device x k) k (a .0) (i .mailbox-is) (i .data-are) (i .well-formed) several none free
-        (more-awaited (arrivals ts) (withMark 0 k) rest (omega arith)) in
-        held-then b k r (a .0) ts (freeMessage (stateOnBoard b)) _ _ c h
-        (joining ts (after b (mailPacket device x k)) (freeMessage (stateOnBoard b)) _ _ c (by-step b k r (a .0) .ready) (then-open b k r (a .0) h) rest (omega arith) (fair .1))
+        let n : ℕ = freeMessage (stateOnBoard b) in
+        let h = first-here b k r (a .0) several none free (more-awaited (arrivals ts) (withMark 0 k) rest (omega arith)) in
+        held-then b k r (a .0) ts n _ _ c h
+        (joining ts (after b (mailPacket device x k)) n _ _ c (by-step b k r (a .0) .ready) (then-open b k r (a .0) h) rest (omega arith) (fair .1))
 
   -- it has one segment, which is to come
   alone : isAlone x ≡ true → (ts : List MailTurn) (b : Board) → Ready device b → contextAtFirst b ts < 8
@@ -216,10 +234,7 @@ module _ (device : ℕ) (x : Posted) (post : Postable device x) where
       other-result b p ts q (contextAtFirst (after b p) ts) 0 (alone t ts (after b p) (q .ready) free w count (fair .1))
   alone t (segment k ∷ ts) b r free w count fair =
       let a = next-awaited (msglenOf x) 0 k (arrivals ts) w in
-      let i = says-it b k r (a .0) in
-      final-then b k r (a .0) ts (freeMessage (stateOnBoard b))
-      (only x z (stateOnBoard b) (eight (b .words)) (b .messageMemory) (r .lends .boxes) (b .response) (mailPacket device x k) k (a .0) (i .mailbox-is) (i .data-are) (i .well-formed) t free)
-      (nothing-left (arrivals ts) (omega arith)) (fair .1)
+      final-then b k r (a .0) ts (freeMessage (stateOnBoard b)) (only-here b k r (a .0) t free) (nothing-left (arrivals ts) (omega arith)) (fair .1)
 
 -- ---- The statement
 

@@ -1,39 +1,38 @@
 -- A segment of the message, by the state and the message memory alone. The invariant of an open message: the segments that came are marked
 -- in its context, each lies in its part of the room, and the kept length is the last segment's once that is marked.
-use Prim.Native.Nat.{ℕ, _+_, _-_, _*_, _%_, _≤_, _<_}
-use mathlib.Core.Path.{_≡_, refl, ap, sym, _∙_, subst}
+use Prim.Native.Nat.{ℕ, _+_, _*_, _≤_, _<_}
+use mathlib.Core.Path.{_≡_, refl, ap, sym, _∙_}
 use mathlib.Core.List.{List}
 use mathlib.Core.Bool.{true, false, cond, true≢false}
 use native.Mathlib.Omega.{arith}
 use native.Mathlib.Decide.{ℕ-discrete}
-use lib.ListN.{length, getD, take, drop, set}
+use lib.ListN.{length, take, drop, set}
 use lib.Seq.{getD-set-same, take-all}
 use lib.Dec.{eqb}
 use native.Mathlib.Nat.{zero-mul}
-use borrow.Author.Tests.{eq-eqb, ne-eqb, eqb-false, eqb-true}
+use borrow.Author.Tests.{eq-eqb, ne-eqb, eqb-true}
 use Rattle.lists.specs.Bytes.{written}
 use Rattle.lists.specs.First.{firstOf}
-use Rattle.lists.proofs.First.{first-passes}
 use Rattle.lists.proofs.Written.{part-written}
-use Rattle.answers.specs.Answers.{Said, held, message}
+use Rattle.answers.specs.Answers.{held, message}
 use Rattle.wire.specs.declared.MessageSegment.{MessageSegment}
 use Rattle.wire.specs.Type11.{mailbox}
 use Rattle.responses.specs.Type13.{DONE, answered}
 use Rattle.contexts.specs.declared.MessageContext.{MessageContext}
-use Rattle.contexts.specs.State.{State, messageIn, withMessage, closedMessage, isFreeMessage, messageContext, freeMessage}
+use Rattle.contexts.specs.State.{State, messageIn, withMessage, closedMessage, messageContext, freeMessage}
 use Rattle.contexts.specs.Marks.{marked, withMark, allMarked}
-use Rattle.contexts.proofs.Bits.{mark-set, mark-other}
+use Rattle.contexts.proofs.Bits.{mark-other}
 use Rattle.contexts.proofs.Marks.{nothing-marked}
-use Rattle.rules.specs.Messages.{judged, lastWith}
+use Rattle.rules.specs.Messages.{judged}
 use Rattle.message_rooms.specs.Placing.{MessageJoined, messageJoining, messageData, kept, messagePlaced}
 use Rattle.messages.specs.Joining.{deliveredAtOnce}
 use Rattle.messages.specs.Step.{messageStepped}
 use Rattle.messages.proofs.Laws.{alone-taken, begin-placed, join-placed, step-matched}
 use Rattle.flows.proofs.Contexts.{first-set}
-use Rattle.mailing.specs.Mail.{Posted, segmentSize, msglenOf, dataAt, isAlone, mboxOf, mailSegment}
+use Rattle.mailing.specs.Mail.{Posted, segmentSize, msglenOf, dataAt, isAlone, mboxOf, mailSegment, mailAnswer}
 use Rattle.mailing.proofs.Sizes.{Sized, length-last}
-use Rattle.mailing.proofs.Rooms.{Filled, filled-next, all-filled, inside, fits-room}
-use Rattle.mailing.proofs.Contexts.{isMine, kept-mine, free-none, first-new}
+use Rattle.mailing.proofs.Rooms.{Filled, filled-next, all-filled, fits-room}
+use Rattle.mailing.proofs.Contexts.{isMine, kept-mine, first-new}
 
 -- ---- The invariant
 
@@ -58,7 +57,7 @@ Finds x s n = (c : MessageContext) → isMine x c ≡ true → firstOf (isMine x
 
 -- the message is delivered from context n, and DONE written
 pub record Delivers (x : Posted) (response p : List ℕ) (n : ℕ) (j : MessageJoined) : Type 0 where
-  pub says : j .says ≡ message n (x .mail .source) (x .mail .letter) (x .mail .mailbox) (length (x .mail .bytes))
+  pub says : j .says ≡ mailAnswer x n
   pub room : take (length (x .mail .bytes)) (drop (n * 4096) (j .memory)) ≡ x .mail .bytes
   pub done : j .response ≡ answered response p DONE
 

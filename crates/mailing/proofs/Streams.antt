@@ -1,6 +1,6 @@
 -- A type 9 packet leaves the message contexts, delivers no message, and leaves its memory as long as it was, in any good state.
 use Prim.Native.Nat.{ℕ, _+_, _*_, _≤_, _<_}
-use mathlib.Core.Path.{_≡_, refl, ap, sym, _∙_}
+use mathlib.Core.Path.{_≡_, refl}
 use mathlib.Core.List.{List, []}
 use mathlib.Core.Bool.{Bool, true, false, cond, not, _&&_, true≢false}
 use native.Mathlib.Omega.{arith}
@@ -10,7 +10,7 @@ use borrow.Author.Tests.{ltb-true, ltb-false, not-false}
 use Rattle.answers.specs.Answers.{held, delivered}
 use Rattle.wire.specs.declared.Segment.{Segment}
 use Rattle.sizes.specs.Sizes.{dataLength}
-use Rattle.contexts.specs.State.{State, streamIn, freeStream}
+use Rattle.contexts.specs.State.{State, freeStream}
 use Rattle.refusal19.specs.Refusal19.{namedBy19}
 use Rattle.refusal19.proofs.Good.{good}
 use Rattle.rules.specs.Segments.{malformed}
