@@ -13,9 +13,10 @@ ROOT = pathlib.Path(__file__).resolve().parents[2]
 # Rows from above. A crate: from which of twelve columns on, and over how many. Below it in its columns stands much of what it uses;
 # it uses nothing beside or above it.
 ROWS = [
-    {"tour": (0, 1.4), "outside_responses": (1.4, 2.2), "outside_segments": (3.6, 2.2), "racklog": (5.8, 1.4), "outside_logs": (7.2, 1.8), "c_promises": (9.2, 2.8)},
-    {"kaiverohm": (0, 5.8), "log_print": (5.8, 3.2), "promises": (9.2, 2.8)},
-    {"c_bursts": (0, 2.4), "c_places": (2.4, 2.4), "printing": (4.8, 2), "log_run": (6.8, 2.2), "sending": (9.2, 1.4), "paper_examples": (10.6, 1.4)},
+    {"c_promises": (9.2, 2.8)},
+    {"tour": (0, 1.4), "outside_responses": (1.4, 2.2), "outside_segments": (3.6, 2.2), "racklog": (5.8, 1.4), "outside_logs": (7.2, 1.8), "promises": (9.2, 2.8)},
+    {"kaiverohm": (0, 5.8), "log_print": (5.8, 3.2), "sending": (9.2, 1.4), "mailing": (10.6, 1.4)},
+    {"c_bursts": (0, 2.4), "c_places": (2.4, 2.4), "printing": (4.8, 2), "log_run": (6.8, 2.2), "paper_examples": (9.2, 2.8)},
     {"endpoint": (0, 4.8), "segments": (4.8, 2), "log_reader": (6.8, 2.2), "flows": (9.2, 2.8)},
     {"reading": (0, 4.8), "c_reports": (4.8, 2), "log_records": (6.8, 1.1), "log_lines": (7.9, 1.1)},
     {"streams": (0, 2.4), "messages": (2.4, 2.4)},
@@ -28,7 +29,7 @@ ROWS = [
 ]
 HEADS = [(0, 4.8, "reading packets"), (4.8, 2, "writing segments"), (6.8, 2.2, "the log"), (9.2, 2.8, "theorems")]
 PUBLIC = {"endpoint", "segments", "log_records", "log_lines", "log_run", "log_reader", "kaiverohm"}
-THEOREMS = {"promises", "c_promises", "sending", "paper_examples", "flows"}
+THEOREMS = {"promises", "c_promises", "sending", "mailing", "paper_examples", "flows"}
 PROGRAMS = {"racklog", "tour", "outside_logs", "outside_responses", "outside_segments"}
 
 WIDTH, ROW, TOP, LEFT, COLUMN = 900, 46, 48, 18, 72
