@@ -17,6 +17,7 @@ use Rattle.wire.specs.Type11.{mailbox, messageOf}
 use Rattle.wire.specs.Parsed.{parsed, parsedByType}
 use Rattle.sizes.specs.Sizes.{inEights}
 use Rattle.rules.specs.Messages.{judged, reservedSize, badLength, pastLast}
+use Rattle.reading.proofs.Cases.{by-test}
 use Rattle.flows.specs.ByFlow.{AreBytes}
 use Rattle.mailing.specs.Mail.{Posted, priorityAt, segmentSize, msglenOf, dataAt, isAlone, mboxOf, lastField, mailPacket, Postable, mailSegment, MailReadBySegment}
 use Rattle.mailing.proofs.Sizes.{Sized, sized, length-full, length-last}
@@ -93,11 +94,10 @@ module _ (device : ℕ) (x : Posted) (k : ℕ) (p : Postable device x) (below : 
 
   -- the last field has four bits
   field-fits : lastField x k < 16
-  field-fits = go (isAlone x) (p .mailbox)
-    where
-      go : (b : Bool) → x .mail .mailbox < cond b 64 4 → cond b (x .mail .mailbox / 4) k < 16
-      go true h = omega arith
-      go false h = omega (arith, z .most)
+  field-fits =
+      by-test (isAlone x)
+      (λ t. let h = rw t at (p .mailbox) in rw t (omega arith))
+      (λ t. rw t (omega (arith, z .most)))
 
   first : FirstByte (priorityAt x k) (priorityAt x k * 64 + 16 + 11)
   first = first-byte (priorityAt x k) (p .priorities k)
@@ -156,11 +156,10 @@ module _ (device : ℕ) (x : Posted) (k : ℕ) (p : Postable device x) (below : 
       go false = rw (le-ltb (msglenOf x) k below)
 
   is-mailbox : mailbox (mailSegment x k) ≡ x .mail .mailbox
-  is-mailbox = go (isAlone x) (p .mailbox)
-    where
-      go : (b : Bool) → x .mail .mailbox < cond b 64 4 → cond b (4 * cond b (x .mail .mailbox / 4) k + mboxOf x) (mboxOf x) ≡ x .mail .mailbox
-      go true h = omega arith
-      go false h = omega arith
+  is-mailbox =
+      by-test (isAlone x)
+      (λ t. rw t (omega arith))
+      (λ t. let h = rw t at (p .mailbox) in rw t (omega arith))
 
   all-bytes : AreBytes (mailPacket device x k)
   unfolding mailPacket dataAt

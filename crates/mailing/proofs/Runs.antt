@@ -248,11 +248,16 @@ module _ (b : Board) (x : Posted) (turns : List MailTurn) (run : MailRun b x tur
   count : length (arrivals turns) ≡ suc (msglenOf x)
   count = as-many (msglenOf x) (arrivals turns) (run .each-once)
 
+  left-free : contextAtFirst b turns < 8
+  left-free = omega (arith, run .one-free)
+
+  none-there : 0 < msglenOf x → contextOf x b ≡ 8
+  none-there h = omega (arith, run .none-open h)
+
   by-segments : (n : ℕ) → msglenOf x ≡ n → Result (deviceOf b) x (run .postable) b turns (contextAtFirst b turns) n
-  by-segments zero e =
-      alone (deviceOf b) x (run .postable) (eq-eqb (msglenOf x) 0 e) turns b ready (run .one-free) awaits (omega (arith, count)) (run .others)
+  by-segments zero e = alone (deviceOf b) x (run .postable) (eq-eqb (msglenOf x) 0 e) turns b ready left-free awaits (omega (arith, count)) (run .others)
   by-segments (suc c) e =
-      waiting (deviceOf b) x (run .postable) (ne-eqb (msglenOf x) 0 (λ none. omega arith)) turns b c ready (run .none-open (omega arith)) (run .one-free) awaits (omega (arith, count)) (run .others)
+      waiting (deviceOf b) x (run .postable) (ne-eqb (msglenOf x) 0 (λ none. omega arith)) turns b c ready (none-there (omega arith)) left-free awaits (omega (arith, count)) (run .others)
 
   result : Result (deviceOf b) x (run .postable) b turns (contextAtFirst b turns) (msglenOf x)
   result = by-segments (msglenOf x) refl
