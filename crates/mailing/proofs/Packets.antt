@@ -19,7 +19,7 @@ use Rattle.sizes.specs.Sizes.{inEights}
 use Rattle.rules.specs.Messages.{judged, reservedSize, badLength, pastLast}
 use Rattle.reading.proofs.Cases.{by-test}
 use Rattle.flows.specs.ByFlow.{AreBytes}
-use Rattle.mailing.specs.Mail.{Posted, priorityAt, segmentSize, msglenOf, dataAt, isAlone, mboxOf, lastField, mailPacket, Postable, mailSegment, MailReadBySegment}
+use Rattle.mailing.specs.Mail.{Posted, priorityAt, segmentSize, msglenOf, dataAt, isAlone, mboxOf, lastField, mailPacket, Postable, mailSegment, MailSegmentsReadBack}
 use Rattle.mailing.proofs.Sizes.{Sized, sized, length-full, length-last}
 
 -- ---- Numbers
@@ -175,7 +175,7 @@ module _ (device : ℕ) (x : Posted) (k : ℕ) (p : Postable device x) (below : 
       (first .is-byte, (omega arith, (omega arith, (omega arith, (omega arith, (sizes .is-byte, (name .is-byte, tt)))))))
       (bytes-take (segmentSize x) (drop (k * segmentSize x) (x .mail .bytes)) (bytes-drop (k * segmentSize x) (x .mail .bytes) (p .bytes)))
 
-pub mail-read : MailReadBySegment
+pub mail-read : MailSegmentsReadBack
 unfolding mailPacket
 mail-read device x k p below = record {
   read = is-parsed device x k p below;

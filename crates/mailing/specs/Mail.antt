@@ -94,7 +94,7 @@ mailSegment x k = record {
   raw = length (dataAt x k);
 }
 
--- the packet of segment k, read
+-- the packet of segment k is read as that segment
 pub record ReadsAsMail (device : ℕ) (x : Posted) (k : ℕ) : Type 0 where
   pub read : parsed device (mailPacket device x k) ≡ Message (mailSegment x k)
   pub priority : packet.priority (mailPacket device x k) ≡ priorityAt x k
@@ -105,9 +105,9 @@ pub record ReadsAsMail (device : ℕ) (x : Posted) (k : ℕ) : Type 0 where
   -- and every entry is a byte
   pub are-bytes : AreBytes (mailPacket device x k)
 
--- so it is with every segment of a message that can be sent
-abbrev pub MailReadBySegment : Type 0
-MailReadBySegment = (device : ℕ) (x : Posted) (k : ℕ) → Postable device x → k ≤ msglenOf x → ReadsAsMail device x k
+-- so is every segment of a message that can be sent
+abbrev pub MailSegmentsReadBack : Type 0
+MailSegmentsReadBack = (device : ℕ) (x : Posted) (k : ℕ) → Postable device x → k ≤ msglenOf x → ReadsAsMail device x k
 
 -- the answer that delivers the message from a context: source, letter, mailbox, length
 abbrev pub mailAnswer : Posted → (context : ℕ) → Said

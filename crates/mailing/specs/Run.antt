@@ -60,7 +60,7 @@ stateOnBoard b = stateOf (b .words)
 abbrev pub deviceOf : Board → ℕ
 deviceOf b = stateOnBoard b .device
 
--- the board at the moment when the first segment comes
+-- the board at the moment when the first segment comes: where the run begins with a segment, the board itself
 abbrev pub boardAtFirst : Board → List MailTurn → Board
 boardAtFirst b [] = b
 boardAtFirst b (segment k ∷ ts) = b
