@@ -1,0 +1,4 @@
+pub mod Mail
+pub mod Run
+pub mod ReadBack
+pub mod Eleven
