@@ -11,7 +11,7 @@ use borrow.Author.Tests.{ltb-true, ne-eqb, lt-leb}
 use Rattle.lists.specs.Bytes.{byte, written}
 use Rattle.lists.specs.First.{firstOf, any}
 use Rattle.lists.specs.Rows.{rows, joined}
-use Rattle.answers.specs.Refusals.{verdict}
+use Rattle.tables.specs.Refusals.{verdict}
 use Rattle.wire.specs.Type9.{sameFlow, segmentAt, segmentOf}
 use Rattle.wire.specs.Type11.{messageOf}
 use Rattle.wire.specs.Parsed.{parsed, parsedByType, parsedStream, parsedFielded}
@@ -31,12 +31,12 @@ use Rattle.message_rooms.specs.Placing as boxes
 use Rattle.messages.specs.Joining as message
 use Rattle.reading.specs.Table.{wrongSizes, table}
 use Rattle.reading.specs.Read.{reading}
-use Rattle.flows.specs.Board.{paperBoard}
+use Rattle.flows.specs.Fresh.{Fresh, paperSetup, paperDesk}
 use Rattle.flows.specs.ByFlow.{AreBytes}
 use Rattle.flows.proofs.Fine.{fresh-fine}
 use Rattle.mailing.specs.Mail.{msglenOf, dataAt, mailPacket}
 use Rattle.mailing.specs.Run.{times, contextAtFirst, segment}
-use Rattle.mailing.specs.ReadBack.{GoodBoard, MailRun}
+use Rattle.mailing.specs.ReadBack.{GoodDesk, MailRun}
 use Rattle.mailing.specs.Eleven.{eleven, fromThree, startBetween, elevenTurns, logMail, MailRunsNotEmpty, ElevenDelivered}
 
 -- a list of bytes, by computation
@@ -49,11 +49,16 @@ are-bytes (b ∷ bs) e i = go (ltb b 256) refl e i (are-bytes bs)
     go true h e (suc i) rest = rest e i
     go false h e i rest = absurd (false≢true e)
 
-good-paper : GoodBoard paperBoard
-unfolding stateOf wordsOf badMTU badRoom
-good-paper =
+paper-fresh : Fresh paperSetup paperDesk
+unfolding badMTU badRoom
+paper-fresh =
     let size : length (replicate 32768 zero) ≡ 32768 = length-replicate 32768 zero in
-    let f = fresh-fine 1 32 2048 (replicate 32768 0) (replicate 32768 0) (replicate 7 0) [] (record { rooms = size; boxes = size; reply = omega arith }) refl refl in
+    record { allowed = record { device-ID = omega arith; allowed-MTU = refl; allowed-R = refl }; words = refl; lends = record { rooms = size; boxes = size; reply = omega arith } }
+
+good-paper : GoodDesk paperDesk
+unfolding stateOf wordsOf
+good-paper =
+    let f = fresh-fine paperSetup paperDesk paper-fresh [] in
     record { good = record { whole = f .whole; good = f .good }; lends = f .lends }
 
 -- each number once
@@ -67,7 +72,7 @@ one-once zero = refl
 one-once (suc k) = rw (ne-eqb (suc k) 0 (λ e. omega arith), lt-leb (suc k) 0 (omega arith))
 
 -- the context that example 11 gets: fromThree has context 0
-first-is : contextAtFirst paperBoard elevenTurns ≡ 1
+first-is : contextAtFirst paperDesk elevenTurns ≡ 1
 unfolding written firstOf any rows joined verdict badMTU messageOf bytesOf inEights responseTo answered isFreeStream isFreeMessage isOfMessage
     messageContext freeMessage stateOf wordsOf badRoom badStream badMessage namedBy19 reservedSize badLength pastLast messageRows.messageFound
     messageRows.otherMessage messageRows.alreadyMarked messageRows.neededNoneFree boxes.messagePlaced message.messageAccepted allMarked marked
@@ -75,7 +80,7 @@ unfolding written firstOf any rows joined verdict badMTU messageOf bytesOf inEig
     streamRows.lengthDiffers
 first-is = refl
 
-run-eleven : MailRun paperBoard eleven elevenTurns
+run-eleven : MailRun paperDesk eleven elevenTurns
 unfolding firstOf rows joined stateOf wordsOf isFreeMessage isOfMessage messageContext bytesOf inEights msglenOf parsed parsedByType parsedStream parsedFielded messageOf segmentOf segmentAt
 run-eleven = record {
   start = good-paper;
@@ -94,7 +99,7 @@ run-eleven = record {
   one-free = omega (arith, first-is);
 }
 
-run-log : MailRun paperBoard logMail (segment 0 ∷ [])
+run-log : MailRun paperDesk logMail (segment 0 ∷ [])
 unfolding firstOf rows joined stateOf wordsOf isFreeMessage freeMessage bytesOf inEights msglenOf
 run-log = record {
   start = good-paper;

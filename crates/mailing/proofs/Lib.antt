@@ -6,6 +6,6 @@ pub mod Contexts
 pub mod Segments
 pub mod Others
 pub mod Streams
-pub mod Boards
+pub mod Desks
 pub mod Runs
 pub mod Eleven

@@ -35,7 +35,7 @@ pub record Beside (s : State) (memory : List ℕ) (j : Joined) : Type 0 where
   -- and no message is delivered
   pub silent : (messages : List ℕ) → mailBy messages (j .says) ≡ []
 
-module _ (s : State) (memory p : List ℕ) (g : Segment) (fine : namedBy19 s ≡ false) (rooms : length memory ≡ 16 * s .room) (whole : g .from + g .raw ≡ length p) where
+module _ (s : State) (memory p : List ℕ) (g : Segment) (fine : namedBy19 s ≡ false) (rooms : length memory ≡ 16 * s .setup .room) (whole : g .from + g .raw ≡ length p) where
   beside-staying : (number : ℕ) → Beside s memory (refusedStaying s memory number)
   unfolding refusedStaying
   beside-staying number = record { messages = refl; streams = refl; rooms = refl; silent = λ messages. refl }
@@ -48,16 +48,16 @@ module _ (s : State) (memory p : List ℕ) (g : Segment) (fine : namedBy19 s ≡
   data-length = simp (length-take, length-drop) (omega (arith, data-le g))
 
   -- the data end inside the room
-  beside-accepted : contextFor s g < 16 → total s g ≤ s .room → Beside s memory (accepted s memory p g)
+  beside-accepted : contextFor s g < 16 → total s g ≤ s .setup .room → Beside s memory (accepted s memory p g)
   unfolding accepted placed
   beside-accepted lt fits = record {
     messages = refl;
     streams = simp length-set;
-    rooms = stored-length (s .room) memory rooms (contextFor s g) lt (heldBefore s g) (dataOf p g) (omega (arith, data-length));
+    rooms = stored-length (s .setup .room) memory rooms (contextFor s g) lt (heldBefore s g) (dataOf p g) (omega (arith, data-length));
     silent = λ messages. told (g .ends) messages _ _ _;
   }
     where
-      told : (b : Bool) (messages : List ℕ) (n stream count : ℕ) → mailBy messages (cond b (delivered n (g .flow .source) (g .flow .cos) stream count) held) ≡ []
+      told : (b : Bool) (messages : List ℕ) (n stream count : ℕ) → mailBy messages (cond b (delivered n (g .flow) stream count) held) ≡ []
       told true messages n stream count = refl
       told false messages n stream count = refl
 
@@ -66,7 +66,7 @@ module _ (s : State) (memory p : List ℕ) (g : Segment) (fine : namedBy19 s ≡
   unfolding begun noneFree missized
   beside-begun t e =
       by-test (noneFree s g) (λ a. rw a (beside-staying 10))
-      (λ a. rw a (beside-accepted (go (flowOpen s g) refl (rw t at a)) (omega (arith, none-held, size-le (g .ends) (dataLength g) (s .mtu) e, good s fine .holds))))
+      (λ a. rw a (beside-accepted (go (flowOpen s g) refl (rw t at a)) (omega (arith, none-held, size-le (g .ends) (dataLength g) (s .setup .mtu) e, good s fine .holds))))
     where
       none-held : heldBefore s g ≡ 0
       none-held = rw t
@@ -90,8 +90,8 @@ module _ (s : State) (memory p : List ℕ) (g : Segment) (fine : namedBy19 s ≡
           go true e h = ltb-true (foundFor s g) 16 e
           go false e h = absurd (true≢false h)
 
-      within : passesRoom s g ≡ false → total s g ≤ s .room
-      within b = unfold passesRoom in ltb-false (s .room) (total s g) b
+      within : passesRoom s g ≡ false → total s g ≤ s .setup .room
+      within b = unfold passesRoom in ltb-false (s .setup .room) (total s g) b
 
   pub beside-stepped : Beside s memory (stepped s memory p g)
   unfolding stepped

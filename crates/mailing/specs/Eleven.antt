@@ -4,7 +4,7 @@ use mathlib.Core.Path.{_≡_}
 use mathlib.Core.List.{List, [], _∷_, _++_, map}
 use lib.ListN.{replicate}
 use Rattle.answers.specs.Answers.{held, message}
-use Rattle.flows.specs.Board.{paperBoard}
+use Rattle.flows.specs.Fresh.{paperDesk}
 use Rattle.mailing.specs.Mail.{Posted, mailPacket}
 use Rattle.mailing.specs.Run.{MailTurn, segment, other, turnPacket, segmentCalls, saidAt, mailIn}
 use Rattle.mailing.specs.ReadBack.{MailRun}
@@ -38,8 +38,8 @@ logMail = record {
 
 -- both are runs, and these are their packets, to the byte
 pub record MailRunsNotEmpty : Type 0 where
-  pub two-segments : MailRun paperBoard eleven elevenTurns
-  pub one-segment : MailRun paperBoard logMail (segment 0 ∷ [])
+  pub two-segments : MailRun paperDesk eleven elevenTurns
+  pub one-segment : MailRun paperDesk logMail (segment 0 ∷ [])
   pub packets : map (turnPacket 1 eleven) elevenTurns
       ≡ fromThree
       ∷ (0x1B ∷ 0x00 ∷ 0x01 ∷ 0x00 ∷ 0x02 ∷ 0x1C ∷ 0x61 ∷ replicate 8 9)
@@ -51,6 +51,6 @@ pub record MailRunsNotEmpty : Type 0 where
 
 -- and what is computed from the definitions, with no law between, is what the theorem says
 pub record ElevenDelivered : Type 0 where
-  pub answers : map saidAt (segmentCalls 1 eleven paperBoard elevenTurns) ≡ held ∷ message 1 2 1 2 72 ∷ []
-  pub delivers : mailIn paperBoard (map (turnPacket 1 eleven) elevenTurns)
+  pub answers : map saidAt (segmentCalls 1 eleven paperDesk elevenTurns) ≡ held ∷ message 1 2 1 2 72 ∷ []
+  pub delivers : mailIn paperDesk (map (turnPacket 1 eleven) elevenTurns)
       ≡ record { source = 2; letter = 1; mailbox = 2; bytes = replicate 64 7 ++ replicate 8 9 } ∷ []

@@ -10,61 +10,63 @@ use Rattle.answers.specs.Answers.{held}
 use Rattle.wire.specs.Parsed.{parsed}
 use Rattle.contexts.specs.State.{messageIn, messageContext}
 use Rattle.reading.specs.Good.{GoodWords}
-use Rattle.flows.specs.Board.{Board, after, room, inRoom, Lends}
+use Rattle.reading.specs.Desk.{Desk, stateOn}
+use Rattle.flows.specs.Deliveries.{after, inRoom}
+use Rattle.flows.specs.Fresh.{Lends}
 use Rattle.flows.specs.ByFlow.{AreBytes}
 use Rattle.mailing.specs.Mail.{Posted, msglenOf, mboxOf, Postable, mailAnswer}
-use Rattle.mailing.specs.Run.{MailTurn, turnPacket, arrivals, times, isOfMail, FairMailTurn, stateOnBoard, deviceOf, contextAtFirst, segmentCalls, saidAt, DoneAt, mailIn, ofName}
+use Rattle.mailing.specs.Run.{MailTurn, turnPacket, arrivals, times, isOfMail, FairMailTurn, deviceOf, contextAtFirst, segmentCalls, saidAt, DoneAt, mailIn, ofName}
 
 -- a good state, and memories that 12 allows, whatever is in them
-pub record GoodBoard (b : Board) : Type 0 where
-  pub good : GoodWords (b .words)
-  pub lends : Lends (room b) (b .streamMemory) (b .messageMemory) (b .response)
+pub record GoodDesk (d : Desk) : Type 0 where
+  pub good : GoodWords (d .words)
+  pub lends : Lends (stateOn d .setup) d
 
 -- the open context of a message's source, letter and mbox; 8: none
-abbrev pub contextOf : Posted → Board → ℕ
-contextOf x b = messageContext (stateOnBoard b) (x .mail .source) (x .mail .letter) (mboxOf x)
+abbrev pub contextOf : Posted → Desk → ℕ
+contextOf x d = messageContext (stateOn d) (x .mail .source) (x .mail .letter) (mboxOf x)
 
 -- ---- The premises
 
 -- Other packets may come before, between and behind the segments. They may take contexts too, so what is asked of the contexts is asked
 -- at two moments: none is open for the message when the run begins, and one is free when its first segment comes.
-pub record MailRun (b : Board) (x : Posted) (turns : List MailTurn) : Type 0 where
-  pub start : GoodBoard b
+pub record MailRun (d : Desk) (x : Posted) (turns : List MailTurn) : Type 0 where
+  pub start : GoodDesk d
   -- a message that can be sent to this endpoint
-  pub postable : Postable (deviceOf b) x
+  pub postable : Postable (deviceOf d) x
   -- segments 0 to msglen come, each once, in any order
   pub each-once : (k : ℕ) → times k (arrivals turns) ≡ cond (leb k (msglenOf x)) 1 0
   -- and any other packets, but none of its source, letter and mbox
-  pub others : Each (FairMailTurn (deviceOf b) x) turns
+  pub others : Each (FairMailTurn (deviceOf d) x) turns
   -- none is open for it. (A message of one segment is never compared with open ones.)
-  pub none-open : 0 < msglenOf x → contextOf x b ≡ 8
+  pub none-open : 0 < msglenOf x → contextOf x d ≡ 8
   -- a context is left for it
-  pub one-free : contextAtFirst b turns < 8
+  pub one-free : contextAtFirst d turns < 8
 
 -- ---- What holds then
 
-pub record MailReadsBack (b : Board) (x : Posted) (turns : List MailTurn) : Type 0 where
+pub record MailReadsBack (d : Desk) (x : Posted) (turns : List MailTurn) : Type 0 where
   -- its segments are held, but the last that comes is answered with the message
-  pub answers : map saidAt (segmentCalls (deviceOf b) x b turns) ≡ replicate (msglenOf x) held ++ (mailAnswer x (contextAtFirst b turns) ∷ [])
+  pub answers : map saidAt (segmentCalls (deviceOf d) x d turns) ≡ replicate (msglenOf x) held ++ (mailAnswer x (contextAtFirst d turns) ∷ [])
   -- each of them writes DONE
-  pub responses : Each DoneAt (segmentCalls (deviceOf b) x b turns)
+  pub responses : Each DoneAt (segmentCalls (deviceOf d) x d turns)
   -- of its source, letter and mbox the whole run delivers one message, once, and it is this: its room then holds exactly its bytes
-  pub delivers : ofName x (mailIn b (map (turnPacket (deviceOf b) x) turns)) ≡ x .mail ∷ []
+  pub delivers : ofName x (mailIn d (map (turnPacket (deviceOf d) x) turns)) ≡ x .mail ∷ []
 
 -- for every ssize and msglen at once
 abbrev pub MessageReadBack : Type 0
-MessageReadBack = (b : Board) (x : Posted) (turns : List MailTurn) → MailRun b x turns → MailReadsBack b x turns
+MessageReadBack = (d : Desk) (x : Posted) (turns : List MailTurn) → MailRun d x turns → MailReadsBack d x turns
 
 -- ---- Why nothing between disturbs it
 
 -- an open message stays in context n, with all fields of the context and all bytes of its room
-pub record MailStays (x : Posted) (n : ℕ) (b b′ : Board) : Type 0 where
-  pub found : contextOf x b′ ≡ n
-  pub context : messageIn (stateOnBoard b′) n ≡ messageIn (stateOnBoard b) n
-  pub bytes : inRoom 4096 (b′ .messageMemory) n 4096 ≡ inRoom 4096 (b .messageMemory) n 4096
+pub record MailStays (x : Posted) (n : ℕ) (d d′ : Desk) : Type 0 where
+  pub found : contextOf x d′ ≡ n
+  pub context : messageIn (stateOn d′) n ≡ messageIn (stateOn d) n
+  pub bytes : inRoom 4096 (d′ .messageMemory) n 4096 ≡ inRoom 4096 (d .messageMemory) n 4096
 
 -- a packet that is not of its source, letter and mbox leaves it so
 abbrev pub OthersLeaveMail : Type 0
 OthersLeaveMail =
-    (b : Board) (x : Posted) (p : List ℕ) (n : ℕ) → GoodBoard b → contextOf x b ≡ n → n < 8 → AreBytes p → isOfMail x (parsed (deviceOf b) p) ≡ false
-    → MailStays x n b (after b p)
+    (d : Desk) (x : Posted) (p : List ℕ) (n : ℕ) → GoodDesk d → contextOf x d ≡ n → n < 8 → AreBytes p → isOfMail x (parsed (deviceOf d) p) ≡ false
+    → MailStays x n d (after d p)

@@ -4,14 +4,14 @@ use mathlib.Core.Path.{_≡_}
 use mathlib.Core.List.{List, [], _∷_, _++_}
 use mathlib.Core.Bool.{Bool, false, cond, _&&_}
 use lib.Dec.{eqb}
-use Rattle.answers.specs.Answers.{Said, held, delivered, message, refused, ready, closed, free, wrote}
+use Rattle.answers.specs.Answers.{Said, held, delivered, message, refused}
 use Rattle.wire.specs.declared.Parsed.{Parsed}
 use Rattle.wire.specs.declared.Parsed.the-variants.{Refused, Stream, Message}
 use Rattle.wire.specs.Parsed.{parsed}
 use Rattle.responses.specs.Type13.{DONE, answered}
-use Rattle.contexts.specs.State.{State, freeMessage}
-use Rattle.contexts.specs.Words.{stateOf}
-use Rattle.flows.specs.Board.{Board, read, after, inRoom}
+use Rattle.contexts.specs.State.{freeMessage}
+use Rattle.reading.specs.Desk.{Desk, stateOn}
+use Rattle.flows.specs.Deliveries.{read, after, inRoom}
 use Rattle.flows.specs.ByFlow.{AreBytes}
 use Rattle.mailing.specs.Mail.{Mail, Posted, mboxOf, mailPacket}
 
@@ -52,33 +52,30 @@ abbrev pub FairMailTurn : ℕ → Posted → MailTurn → Type 0
 FairMailTurn device x (segment k) = Unit {0}
 FairMailTurn device x (other p) = AreBytes p × (isOfMail x (parsed device p) ≡ false)
 
--- ---- What the endpoint does: a call for each packet, with the board that the call before left
+-- ---- What the endpoint does: a call for each packet, with the desk that the call before left
 
-abbrev pub stateOnBoard : Board → State
-stateOnBoard b = stateOf (b .words)
+abbrev pub deviceOf : Desk → ℕ
+deviceOf d = stateOn d .setup .device
 
-abbrev pub deviceOf : Board → ℕ
-deviceOf b = stateOnBoard b .device
-
--- the board at the moment when the first segment comes: where the run begins with a segment, the board itself
-abbrev pub boardAtFirst : Board → List MailTurn → Board
-boardAtFirst b [] = b
-boardAtFirst b (segment k ∷ ts) = b
-boardAtFirst b (other p ∷ ts) = boardAtFirst (after b p) ts
+-- the desk at the moment when the first segment comes: where the run begins with a segment, the desk itself
+abbrev pub deskAtFirst : Desk → List MailTurn → Desk
+deskAtFirst d [] = d
+deskAtFirst d (segment k ∷ ts) = d
+deskAtFirst d (other p ∷ ts) = deskAtFirst (after d p) ts
 
 -- the lowest context that is free then; 8: none
-abbrev pub contextAtFirst : Board → List MailTurn → ℕ
-contextAtFirst b ts = freeMessage (stateOnBoard (boardAtFirst b ts))
+abbrev pub contextAtFirst : Desk → List MailTurn → ℕ
+contextAtFirst d ts = freeMessage (stateOn (deskAtFirst d ts))
 
--- the calls that read the segments: the board that is lent, and the packet
+-- the calls that read the segments: the desk that is lent, and the packet
 pub record SegmentCall : Type 0 where
-  pub lent : Board
+  pub lent : Desk
   pub packet : List ℕ
 
-abbrev pub segmentCalls : ℕ → Posted → Board → List MailTurn → List SegmentCall
-segmentCalls device x b [] = []
-segmentCalls device x b (segment k ∷ ts) = record { lent = b; packet = mailPacket device x k } ∷ segmentCalls device x (after b (mailPacket device x k)) ts
-segmentCalls device x b (other p ∷ ts) = segmentCalls device x (after b p) ts
+abbrev pub segmentCalls : ℕ → Posted → Desk → List MailTurn → List SegmentCall
+segmentCalls device x d [] = []
+segmentCalls device x d (segment k ∷ ts) = record { lent = d; packet = mailPacket device x k } ∷ segmentCalls device x (after d (mailPacket device x k)) ts
+segmentCalls device x d (other p ∷ ts) = segmentCalls device x (after d p) ts
 
 abbrev pub saidAt : SegmentCall → Said
 saidAt c = read (c .lent) (c .packet) .says
@@ -92,17 +89,13 @@ abbrev pub mailBy : List ℕ → Said → List Mail
 mailBy memory (message context source letter mailbox size) =
     record { source = source; letter = letter; mailbox = mailbox; bytes = inRoom 4096 memory context size } ∷ []
 mailBy memory held = []
-mailBy memory (delivered context source cos stream size) = []
+mailBy memory (delivered context flow stream size) = []
 mailBy memory (refused number) = []
-mailBy memory ready = []
-mailBy memory closed = []
-mailBy memory free = []
-mailBy memory (wrote size) = []
 
 -- all messages that these packets deliver
-abbrev pub mailIn : Board → List (List ℕ) → List Mail
-mailIn b [] = []
-mailIn b (p ∷ ps) = mailBy (after b p .messageMemory) (read b p .says) ++ mailIn (after b p) ps
+abbrev pub mailIn : Desk → List (List ℕ) → List Mail
+mailIn d [] = []
+mailIn d (p ∷ ps) = mailBy (after d p .messageMemory) (read d p .says) ++ mailIn (after d p) ps
 
 -- those of that source, letter and mbox
 abbrev pub ofName : Posted → List Mail → List Mail
