@@ -1,5 +1,5 @@
--- Which message context is the message's, and which is free.
-use Prim.Native.Nat.{ℕ, zero, suc, _<_}
+-- Which message context is the message's, which is free, and which answers are of it.
+use Prim.Native.Nat.{ℕ, zero, suc, _%_, _<_}
 use mathlib.Core.Path.{_≡_, refl, ap}
 use mathlib.Core.List.{List, [], _∷_}
 use mathlib.Core.Bool.{Bool, true, false, cond, not, and-false}
@@ -8,6 +8,7 @@ use lib.ListN.{length, set}
 use lib.Dec.{eqb}
 use borrow.Author.Tests.{eq-eqb, eqb-true}
 use Rattle.lists.specs.First.{firstOf}
+use Rattle.answers.specs.Answers.{Said, held, delivered, message, refused}
 use Rattle.wire.specs.declared.MessageSegment.{MessageSegment}
 use Rattle.contexts.specs.declared.MessageContext.{MessageContext}
 use Rattle.contexts.specs.State.{closedMessage, isFreeMessage, isOfMessage}
@@ -19,6 +20,13 @@ use Rattle.mailing.specs.Run.{isName}
 -- an open context of the message
 abbrev pub isMine : Posted → MessageContext → Bool
 isMine x = isOfMessage (x .mail .source) (x .mail .letter) (mboxOf x)
+
+-- an answer that delivers a message of its source, letter and mbox
+abbrev pub isToldOf : Posted → Said → Bool
+isToldOf x (message context source letter mailbox size) = isName x source letter (mailbox % 4)
+isToldOf x held = false
+isToldOf x (delivered context flow stream size) = false
+isToldOf x (refused number) = false
 
 module _ (x : Posted) where
   -- as the message's segments keep it

@@ -8,36 +8,19 @@ use lib.ListN.{length, replicate, length-replicate}
 use lib.Dec.{ltb, leb}
 use lib.Pow.{areBytes}
 use borrow.Author.Tests.{ltb-true, ne-eqb, lt-leb}
-use Rattle.lists.specs.Bytes.{byte, written}
-use Rattle.lists.specs.First.{firstOf, any}
-use Rattle.lists.specs.Rows.{rows, joined}
-use Rattle.tables.specs.Refusals.{verdict}
-use Rattle.wire.specs.Type9.{sameFlow, segmentAt, segmentOf}
-use Rattle.wire.specs.Type11.{messageOf}
-use Rattle.wire.specs.Parsed.{parsed, parsedByType, parsedStream, parsedFielded}
-use Rattle.sizes.specs.Sizes.{badMTU, bytesOf, dataLength, inEights, pduLength}
-use Rattle.responses.specs.Type13.{responseTo, answered}
-use Rattle.contexts.specs.State.{isFreeStream, isFreeMessage, isOfFlow, isOfMessage, flowContext, freeStream, messageContext, freeMessage}
-use Rattle.contexts.specs.Marks.{marked, allMarked}
-use Rattle.contexts.specs.Words.{stateOf, wordsOf}
-use Rattle.refusal19.specs.Refusal19.{badRoom, badStream, badLast, badMarks, badMessage, namedBy19}
-use Rattle.rules.specs.Segments.{malformed}
-use Rattle.rules.specs.Messages.{reservedSize, badLength, pastLast}
-use Rattle.streams.specs.Rows as streamRows
-use Rattle.stream_rooms.specs.Placing as placing
-use Rattle.streams.specs.Joining as stream
-use Rattle.messages.specs.Rows as messageRows
-use Rattle.message_rooms.specs.Placing as boxes
-use Rattle.messages.specs.Joining as message
-use Rattle.reading.specs.Table.{wrongSizes, table}
-use Rattle.reading.specs.Read.{reading}
+use Rattle.lists.specs.Bytes.{byte}
+use Rattle.endpoint.specs.Calls.{noState, roomPart, messageRoom}
 use Rattle.flows.specs.Fresh.{Fresh, paperSetup, paperDesk}
 use Rattle.flows.specs.ByFlow.{AreBytes}
 use Rattle.flows.proofs.Fine.{fresh-fine}
 use Rattle.mailing.specs.Mail.{msglenOf, dataAt, mailPacket}
-use Rattle.mailing.specs.Run.{times, contextAtFirst, segment}
-use Rattle.mailing.specs.ReadBack.{GoodDesk, MailRun}
-use Rattle.mailing.specs.Eleven.{eleven, fromThree, startBetween, elevenTurns, logMail, MailRunsNotEmpty, ElevenDelivered}
+use Rattle.mailing.specs.Run.{segment, runPackets, times, ofSegments, contextAtFirst}
+use Rattle.mailing.specs.ReadBack.{GoodDesk, deviceOf, MailRun, definedCalls}
+use Rattle.mailing.specs.OfCalls.{MailCalls}
+use Rattle.mailing.specs.Eleven.{eleven, fromThree, startBetween, elevenTurns, elevenCalls, logMail, MailRunsNotEmpty, ElevenDelivered}
+use Rattle.mailing.proofs.Computing.{reads}
+use Rattle.mailing.proofs.Fetched.{room-call}
+use Rattle.mailing.proofs.Calls.{defined-made}
 
 -- a list of bytes, by computation
 are-bytes : (l : List ℕ) → areBytes l ≡ true → AreBytes l
@@ -50,13 +33,13 @@ are-bytes (b ∷ bs) e i = go (ltb b 256) refl e i (are-bytes bs)
     go false h e i rest = absurd (false≢true e)
 
 paper-fresh : Fresh paperSetup paperDesk
-unfolding badMTU badRoom
+unfolding reads
 paper-fresh =
     let size : length (replicate 32768 zero) ≡ 32768 = length-replicate 32768 zero in
     record { allowed = record { device-ID = omega arith; allowed-MTU = refl; allowed-R = refl }; words = refl; lends = record { rooms = size; boxes = size; reply = omega arith } }
 
 good-paper : GoodDesk paperDesk
-unfolding stateOf wordsOf
+unfolding reads
 good-paper =
     let f = fresh-fine paperSetup paperDesk paper-fresh [] in
     record { good = record { whole = f .whole; good = f .good }; lends = f .lends }
@@ -72,16 +55,12 @@ one-once zero = refl
 one-once (suc k) = rw (ne-eqb (suc k) 0 (λ e. omega arith), lt-leb (suc k) 0 (omega arith))
 
 -- the context that example 11 gets: fromThree has context 0
-first-is : contextAtFirst paperDesk elevenTurns ≡ 1
-unfolding written firstOf any rows joined verdict badMTU messageOf bytesOf inEights responseTo answered isFreeStream isFreeMessage isOfMessage
-    messageContext freeMessage stateOf wordsOf badRoom badStream badMessage namedBy19 reservedSize badLength pastLast messageRows.messageFound
-    messageRows.otherMessage messageRows.alreadyMarked messageRows.neededNoneFree boxes.messagePlaced message.messageAccepted allMarked marked
-    wrongSizes table reading segmentOf malformed streamRows.missized streamRows.notOpen streamRows.passesRoom streamRows.noneFree
-    streamRows.lengthDiffers
+first-is : contextAtFirst (ofSegments elevenTurns elevenCalls) ≡ 1
+unfolding reads
 first-is = refl
 
-run-eleven : MailRun paperDesk eleven elevenTurns
-unfolding firstOf rows joined stateOf wordsOf isFreeMessage isOfMessage messageContext bytesOf inEights msglenOf parsed parsedByType parsedStream parsedFielded messageOf segmentOf segmentAt
+run-eleven : MailRun paperDesk eleven elevenTurns elevenCalls
+unfolding reads msglenOf
 run-eleven = record {
   start = good-paper;
   postable = record {
@@ -99,8 +78,8 @@ run-eleven = record {
   one-free = omega (arith, first-is);
 }
 
-run-log : MailRun paperDesk logMail (segment 0 ∷ [])
-unfolding firstOf rows joined stateOf wordsOf isFreeMessage freeMessage bytesOf inEights msglenOf
+run-log : MailRun paperDesk logMail (segment 0 ∷ []) (definedCalls paperDesk logMail (segment 0 ∷ []))
+unfolding reads msglenOf
 run-log = record {
   start = good-paper;
   postable = record {
@@ -118,15 +97,15 @@ run-log = record {
   one-free = omega arith;
 }
 
+-- the last call delivers 72 bytes from context 1, and `message_room` hands them back
+made-eleven : MailCalls paperDesk (runPackets (deviceOf paperDesk) eleven elevenTurns) elevenCalls
+unfolding reads msglenOf dataAt mailPacket messageRoom noState roomPart
+made-eleven = defined-made (runPackets (deviceOf paperDesk) eleven elevenTurns) paperDesk (omega arith) (refl, (refl, (refl, ((_, room-call _ 1 72 refl, refl), tt))))
+
 pub mail-runs-not-empty : MailRunsNotEmpty
-unfolding bytesOf msglenOf dataAt mailPacket
-mail-runs-not-empty = record { two-segments = run-eleven; one-segment = run-log; packets = refl; log-packet = refl }
+unfolding reads msglenOf dataAt mailPacket
+mail-runs-not-empty = record { two-segments = run-eleven; one-segment = run-log; calls-made = made-eleven; packets = refl; log-packet = refl }
 
 pub eleven-delivered : ElevenDelivered
-unfolding written firstOf any rows joined verdict badMTU messageOf bytesOf inEights responseTo answered isFreeStream isFreeMessage isOfMessage
-    messageContext freeMessage stateOf wordsOf badRoom badStream badMessage namedBy19 reservedSize badLength pastLast messageRows.messageFound
-    messageRows.otherMessage messageRows.alreadyMarked messageRows.neededNoneFree boxes.messagePlaced message.messageAccepted allMarked marked
-    wrongSizes table reading segmentOf malformed streamRows.missized streamRows.notOpen streamRows.passesRoom streamRows.noneFree
-    streamRows.lengthDiffers sameFlow segmentAt pduLength dataLength isOfFlow flowContext freeStream placing.placed stream.accepted badLast badMarks
-    msglenOf dataAt mailPacket
+unfolding reads msglenOf dataAt mailPacket
 eleven-delivered = record { answers = refl; delivers = refl }

@@ -7,5 +7,8 @@ pub mod Segments
 pub mod Others
 pub mod Streams
 pub mod Desks
+pub mod Fetched
+pub mod Calls
 pub mod Runs
+pub mod Computing
 pub mod Eleven

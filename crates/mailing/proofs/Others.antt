@@ -2,7 +2,7 @@
 -- context that is free or of its own message, and into that context's room.
 use Prim.Native.Nat.{ℕ, _+_, _*_, _%_, _≤_, _<_}
 use mathlib.Core.Path.{_≡_, refl, ap, sym, _∙_, subst}
-use mathlib.Core.List.{List, []}
+use mathlib.Core.List.{List}
 use mathlib.Core.Bool.{Bool, true, false, cond, not, _&&_, true≢false}
 use native.Mathlib.Omega.{arith}
 use native.Mathlib.Nat.{add-zero}
@@ -32,9 +32,9 @@ use Rattle.messages.specs.Step.{refusedWith, matched, messageStepped}
 use Rattle.reading.proofs.Cases.{by-test}
 use Rattle.flows.proofs.Contexts.{first-set}
 use Rattle.mailing.specs.Mail.{Posted}
-use Rattle.mailing.specs.Run.{isName, mailBy, ofName}
+use Rattle.mailing.specs.Run.{isName}
 use Rattle.mailing.proofs.Rooms.{before-stays, behind-stays}
-use Rattle.mailing.proofs.Contexts.{isMine, free-none, closed-none, kept-other, found-other}
+use Rattle.mailing.proofs.Contexts.{isMine, isToldOf, free-none, closed-none, kept-other, found-other}
 
 -- ---- What stays
 
@@ -79,7 +79,7 @@ module _ (x : Posted) (s : State) (memory : List ℕ) (size : length memory ≡ 
 -- nothing of the message changes, and no message of its source, letter and mbox is delivered
 pub record Leaves (x : Posted) (s : State) (memory : List ℕ) (j : MessageJoined) : Type 0 where
   pub stays : Stays x s memory (j .state) (j .memory)
-  pub silent : ofName x (mailBy (j .memory) (j .says)) ≡ []
+  pub silent : isToldOf x (j .says) ≡ false
 
 module _ (x : Posted) (s : State) (eight : length (s .messages) ≡ 8) (memory : List ℕ) (size : length memory ≡ 32768) (response p : List ℕ) (m : MessageSegment)
     (other : isName x (m .source) (m .letter) (m .mbox) ≡ false) (whole : 7 + m .raw ≡ length p) (number : m .msgseg < 16) (mbox : m .mbox < 4) where
@@ -95,8 +95,8 @@ module _ (x : Posted) (s : State) (eight : length (s .messages) ≡ 8) (memory :
       go true = omega arith
       go false = omega arith
 
-  own-name : (memory′ : List ℕ) (n count : ℕ) → ofName x (mailBy memory′ (message n (m .source) (m .letter) (mailbox m) count)) ≡ []
-  own-name memory′ n count = rw (own-mbox, other)
+  own-name : (n count : ℕ) → isToldOf x (message n (m .source) (m .letter) (mailbox m) count) ≡ false
+  own-name n count = rw own-mbox other
 
   data-length : length (messageData p) ≡ m .raw
   data-length = length-drop 7 p ∙ omega arith
@@ -108,7 +108,7 @@ module _ (x : Posted) (s : State) (eight : length (s .messages) ≡ 8) (memory :
       stays =
           subst (λ (at : ℕ). Stays x s memory (withMessage s n closedMessage) (written memory at (messageData p))) (add-zero (n * 4096))
           (put-stays x s memory size n lt not-mine closedMessage (closed-none x) 0 (messageData p) (omega (arith, data-length, bytes-le (m .ssize))) (withMessage s n closedMessage) refl);
-      silent = own-name (written memory (n * 4096) (messageData p)) n (m .raw);
+      silent = own-name n (m .raw);
     }
 
     leaves-placed : (marks last : ℕ) → Leaves x s memory (messagePlaced s memory response p m n marks last)
@@ -119,16 +119,16 @@ module _ (x : Posted) (s : State) (eight : length (s .messages) ≡ 8) (memory :
           stays =
               put-stays x s memory size n lt not-mine context (not-kept (complete m (marksWith m marks)) (marksWith m marks) (lastWith m last)) (m .msgseg * bytesOf (m .ssize)) (messageData p)
               (omega (arith, data-length, product-le (m .msgseg) (bytesOf (m .ssize)) number (bytes-le (m .ssize)), bytes-le (m .ssize))) (withMessage s n context) refl;
-          silent = told (complete m (marksWith m marks)) _ _;
+          silent = told (complete m (marksWith m marks)) _;
         }
       where
         not-kept : (b : Bool) (marks last : ℕ) → isMine x (cond b closedMessage (kept m marks last)) ≡ false
         not-kept true marks last = closed-none x
         not-kept false marks last = kept-other x m other marks last
 
-        told : (b : Bool) (memory′ : List ℕ) (count : ℕ) → ofName x (mailBy memory′ (cond b (message n (m .source) (m .letter) (mailbox m) count) held)) ≡ []
-        told true memory′ count = own-name memory′ n count
-        told false memory′ count = refl
+        told : (b : Bool) (count : ℕ) → isToldOf x (cond b (message n (m .source) (m .letter) (mailbox m) count) held) ≡ false
+        told true count = own-name n count
+        told false count = refl
 
   -- where it is put: a free context, or one of its own message
   free-not : freeMessage s < 8 → isMine x (messageIn s (freeMessage s)) ≡ false

@@ -1,7 +1,7 @@
 -- A type 9 packet leaves the message contexts, delivers no message, and leaves its memory as long as it was, in any good state.
 use Prim.Native.Nat.{ℕ, _+_, _*_, _≤_, _<_}
 use mathlib.Core.Path.{_≡_, refl}
-use mathlib.Core.List.{List, []}
+use mathlib.Core.List.{List}
 use mathlib.Core.Bool.{Bool, true, false, cond, not, _&&_, true≢false}
 use native.Mathlib.Omega.{arith}
 use lib.ListN.{length, length-take, length-drop, length-set}
@@ -21,7 +21,8 @@ use Rattle.streams.specs.Step.{refusedStaying, begun, continued, stepped}
 use Rattle.streams.proofs.Laws.{data-le, size-le}
 use Rattle.reading.proofs.Cases.{by-test}
 use Rattle.flows.proofs.Rooms.{stored-length}
-use Rattle.mailing.specs.Run.{mailBy}
+use Rattle.mailing.specs.Mail.{Posted}
+use Rattle.mailing.proofs.Contexts.{isToldOf}
 
 -- what holds of either holds of the one that is chosen
 chosen : {A : Type 0} (P : A → Type 0) (b : Bool) (x y : A) → (b ≡ true → P x) → (b ≡ false → P y) → P (cond b x y)
@@ -33,16 +34,16 @@ pub record Beside (s : State) (memory : List ℕ) (j : Joined) : Type 0 where
   pub streams : length (j .state .streams) ≡ length (s .streams)
   pub rooms : length (j .memory) ≡ length memory
   -- and no message is delivered
-  pub silent : (messages : List ℕ) → mailBy messages (j .says) ≡ []
+  pub silent : (x : Posted) → isToldOf x (j .says) ≡ false
 
 module _ (s : State) (memory p : List ℕ) (g : Segment) (fine : namedBy19 s ≡ false) (rooms : length memory ≡ 16 * s .setup .room) (whole : g .from + g .raw ≡ length p) where
   beside-staying : (number : ℕ) → Beside s memory (refusedStaying s memory number)
   unfolding refusedStaying
-  beside-staying number = record { messages = refl; streams = refl; rooms = refl; silent = λ messages. refl }
+  beside-staying number = record { messages = refl; streams = refl; rooms = refl; silent = λ x. refl }
 
   beside-closing : (number : ℕ) → Beside s memory (refusedClosing s memory g number)
   unfolding refusedClosing
-  beside-closing number = record { messages = refl; streams = simp length-set; rooms = refl; silent = λ messages. refl }
+  beside-closing number = record { messages = refl; streams = simp length-set; rooms = refl; silent = λ x. refl }
 
   data-length : length (dataOf p g) ≡ dataLength g
   data-length = simp (length-take, length-drop) (omega (arith, data-le g))
@@ -54,12 +55,12 @@ module _ (s : State) (memory p : List ℕ) (g : Segment) (fine : namedBy19 s ≡
     messages = refl;
     streams = simp length-set;
     rooms = stored-length (s .setup .room) memory rooms (contextFor s g) lt (heldBefore s g) (dataOf p g) (omega (arith, data-length));
-    silent = λ messages. told (g .ends) messages _ _ _;
+    silent = λ x. told x (g .ends) _ _ _;
   }
     where
-      told : (b : Bool) (messages : List ℕ) (n stream count : ℕ) → mailBy messages (cond b (delivered n (g .flow) stream count) held) ≡ []
-      told true messages n stream count = refl
-      told false messages n stream count = refl
+      told : (x : Posted) (b : Bool) (n stream count : ℕ) → isToldOf x (cond b (delivered n (g .flow) stream count) held) ≡ false
+      told x true n stream count = refl
+      told x false n stream count = refl
 
   -- a start or single: row 10 left a context, row 7 at most MTU bytes
   beside-begun : g .begins ≡ true → missized s g ≡ false → Beside s memory (begun s memory p g)

@@ -15,12 +15,15 @@ use Rattle.flows.specs.Deliveries.{after, inRoom}
 use Rattle.flows.specs.Fresh.{Lends}
 use Rattle.flows.specs.ByFlow.{AreBytes}
 use Rattle.mailing.specs.Mail.{Posted, msglenOf, mboxOf, Postable, mailAnswer}
-use Rattle.mailing.specs.Run.{MailTurn, turnPacket, arrivals, times, isOfMail, FairMailTurn, deviceOf, contextAtFirst, segmentCalls, saidAt, DoneAt, mailIn, ofName}
+use Rattle.mailing.specs.Run.{MailTurn, runPackets, arrivals, times, isOfMail, FairMailTurn, MailCall, ofSegments, contextAtFirst, saidAt, DoneAt, mailIn, ofName, callsOf}
 
 -- a good state, and memories that 12 allows, whatever is in them
 pub record GoodDesk (d : Desk) : Type 0 where
   pub good : GoodWords (d .words)
   pub lends : Lends (stateOn d .setup) d
+
+abbrev pub deviceOf : Desk → ℕ
+deviceOf d = stateOn d .setup .device
 
 -- the open context of a message's source, letter and mbox; 8: none
 abbrev pub contextOf : Posted → Desk → ℕ
@@ -30,7 +33,7 @@ contextOf x d = messageContext (stateOn d) (x .mail .source) (x .mail .letter) (
 
 -- Other packets may come before, between and behind the segments. They may take contexts too, so what is asked of the contexts is asked
 -- at two moments: none is open for the message when the run begins, and one is free when its first segment comes.
-pub record MailRun (d : Desk) (x : Posted) (turns : List MailTurn) : Type 0 where
+pub record MailRun (d : Desk) (x : Posted) (turns : List MailTurn) (calls : List MailCall) : Type 0 where
   pub start : GoodDesk d
   -- a message that can be sent to this endpoint
   pub postable : Postable (deviceOf d) x
@@ -41,21 +44,25 @@ pub record MailRun (d : Desk) (x : Posted) (turns : List MailTurn) : Type 0 wher
   -- none is open for it. (A message of one segment is never compared with open ones.)
   pub none-open : 0 < msglenOf x → contextOf x d ≡ 8
   -- a context is left for it
-  pub one-free : contextAtFirst d turns < 8
+  pub one-free : contextAtFirst (ofSegments turns calls) < 8
 
 -- ---- What holds then
 
-pub record MailReadsBack (d : Desk) (x : Posted) (turns : List MailTurn) : Type 0 where
+pub record MailReadsBack (x : Posted) (turns : List MailTurn) (calls : List MailCall) : Type 0 where
   -- its segments are held, but the last that comes is answered with the message
-  pub answers : map saidAt (segmentCalls (deviceOf d) x d turns) ≡ replicate (msglenOf x) held ++ (mailAnswer x (contextAtFirst d turns) ∷ [])
+  pub answers : map saidAt (ofSegments turns calls) ≡ replicate (msglenOf x) held ++ (mailAnswer x (contextAtFirst (ofSegments turns calls)) ∷ [])
   -- each of them writes DONE
-  pub responses : Each DoneAt (segmentCalls (deviceOf d) x d turns)
-  -- of its source, letter and mbox the whole run delivers one message, once, and it is this: its room then holds exactly its bytes
-  pub delivers : ofName x (mailIn d (map (turnPacket (deviceOf d) x) turns)) ≡ x .mail ∷ []
+  pub responses : Each DoneAt (ofSegments turns calls)
+  -- of its source, letter and mbox the whole run delivers one message, once, and it is this, with exactly its bytes
+  pub delivers : ofName x (mailIn calls) ≡ x .mail ∷ []
 
--- for every ssize and msglen at once
+-- the calls of a run, as the definitions have them
+abbrev pub definedCalls : Desk → Posted → List MailTurn → List MailCall
+definedCalls d x turns = callsOf d (runPackets (deviceOf d) x turns)
+
+-- for every ssize and msglen at once. Of the calls that people make: OfCalls.antt
 abbrev pub MessageReadBack : Type 0
-MessageReadBack = (d : Desk) (x : Posted) (turns : List MailTurn) → MailRun d x turns → MailReadsBack d x turns
+MessageReadBack = (d : Desk) (x : Posted) (turns : List MailTurn) → MailRun d x turns (definedCalls d x turns) → MailReadsBack x turns (definedCalls d x turns)
 
 -- ---- Why nothing between disturbs it
 

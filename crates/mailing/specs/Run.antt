@@ -1,7 +1,7 @@
--- A run: a message's segments come among other packets, and the endpoint reads them all.
+-- A run: a message's segments come among other packets, and the endpoint reads them all, a call for each packet.
 use Prim.Native.Nat.{ℕ, _+_, _%_}
 use mathlib.Core.Path.{_≡_}
-use mathlib.Core.List.{List, [], _∷_, _++_}
+use mathlib.Core.List.{List, [], _∷_, _++_, map}
 use mathlib.Core.Bool.{Bool, false, cond, _&&_}
 use lib.Dec.{eqb}
 use Rattle.answers.specs.Answers.{Said, held, delivered, message, refused}
@@ -25,6 +25,9 @@ pub data MailTurn : Type 0 where
 abbrev pub turnPacket : ℕ → Posted → MailTurn → List ℕ
 turnPacket device x (segment k) = mailPacket device x k
 turnPacket device x (other p) = p
+
+abbrev pub runPackets : ℕ → Posted → List MailTurn → List (List ℕ)
+runPackets device x = map (turnPacket device x)
 
 -- the segments' numbers, in the order in which they come
 abbrev pub arrivals : List MailTurn → List ℕ
@@ -52,37 +55,47 @@ abbrev pub FairMailTurn : ℕ → Posted → MailTurn → Type 0
 FairMailTurn device x (segment k) = Unit {0}
 FairMailTurn device x (other p) = AreBytes p × (isOfMail x (parsed device p) ≡ false)
 
--- ---- What the endpoint does: a call for each packet, with the desk that the call before left
+-- ---- The calls
 
-abbrev pub deviceOf : Desk → ℕ
-deviceOf d = stateOn d .setup .device
-
--- the desk at the moment when the first segment comes: where the run begins with a segment, the desk itself
-abbrev pub deskAtFirst : Desk → List MailTurn → Desk
-deskAtFirst d [] = d
-deskAtFirst d (segment k ∷ ts) = d
-deskAtFirst d (other p ∷ ts) = deskAtFirst (after d p) ts
-
--- the lowest context that is free then; 8: none
-abbrev pub contextAtFirst : Desk → List MailTurn → ℕ
-contextAtFirst d ts = freeMessage (stateOn (deskAtFirst d ts))
-
--- the calls that read the segments: the desk that is lent, and the packet
-pub record SegmentCall : Type 0 where
+-- a call of `read`: the desk that is lent, the packet, what is said, and the desk as it is left; and the messages that the caller then has,
+-- one where it delivers one, else none
+pub record MailCall : Type 0 where
   pub lent : Desk
   pub packet : List ℕ
+  pub says : Said
+  pub left : Desk
+  pub mail : List Mail
 
-abbrev pub segmentCalls : ℕ → Posted → Desk → List MailTurn → List SegmentCall
-segmentCalls device x d [] = []
-segmentCalls device x d (segment k ∷ ts) = record { lent = d; packet = mailPacket device x k } ∷ segmentCalls device x (after d (mailPacket device x k)) ts
-segmentCalls device x d (other p ∷ ts) = segmentCalls device x (after d p) ts
+-- those that read the segments
+abbrev pub ofSegments : List MailTurn → List MailCall → List MailCall
+ofSegments [] cs = []
+ofSegments (t ∷ ts) [] = []
+ofSegments (segment k ∷ ts) (c ∷ cs) = c ∷ ofSegments ts cs
+ofSegments (other p ∷ ts) (c ∷ cs) = ofSegments ts cs
 
-abbrev pub saidAt : SegmentCall → Said
-saidAt c = read (c .lent) (c .packet) .says
+-- the lowest context that is free when the first of them is made; 8: none
+abbrev pub contextAtFirst : List MailCall → ℕ
+contextAtFirst [] = 8
+contextAtFirst (c ∷ cs) = freeMessage (stateOn (c .lent))
+
+abbrev pub saidAt : MailCall → Said
+saidAt c = c .says
 
 -- DONE is written in the first bytes of the response buffer, and nothing else there
-abbrev pub DoneAt : SegmentCall → Type 0
-DoneAt c = after (c .lent) (c .packet) .response ≡ answered (c .lent .response) (c .packet) DONE
+abbrev pub DoneAt : MailCall → Type 0
+DoneAt c = c .left .response ≡ answered (c .lent .response) (c .packet) DONE
+
+-- all messages that calls deliver
+abbrev pub mailIn : List MailCall → List Mail
+mailIn [] = []
+mailIn (c ∷ cs) = c .mail ++ mailIn cs
+
+-- those of that source, letter and mbox
+abbrev pub ofName : Posted → List Mail → List Mail
+ofName x [] = []
+ofName x (y ∷ ys) = cond (isName x (y .source) (y .letter) (y .mailbox % 4)) (y ∷ ofName x ys) (ofName x ys)
+
+-- ---- The calls as the definitions have them: each with the desk that the call before left
 
 -- the message that an answer delivers, if one: its bytes are those that its room holds at that moment
 abbrev pub mailBy : List ℕ → Said → List Mail
@@ -92,12 +105,15 @@ mailBy memory held = []
 mailBy memory (delivered context flow stream size) = []
 mailBy memory (refused number) = []
 
--- all messages that these packets deliver
-abbrev pub mailIn : Desk → List (List ℕ) → List Mail
-mailIn d [] = []
-mailIn d (p ∷ ps) = mailBy (after d p .messageMemory) (read d p .says) ++ mailIn (after d p) ps
+abbrev pub callOf : Desk → List ℕ → MailCall
+callOf d p = record {
+  lent = d;
+  packet = p;
+  says = read d p .says;
+  left = after d p;
+  mail = mailBy (after d p .messageMemory) (read d p .says);
+}
 
--- those of that source, letter and mbox
-abbrev pub ofName : Posted → List Mail → List Mail
-ofName x [] = []
-ofName x (y ∷ ys) = cond (isName x (y .source) (y .letter) (y .mailbox % 4)) (y ∷ ofName x ys) (ofName x ys)
+abbrev pub callsOf : Desk → List (List ℕ) → List MailCall
+callsOf d [] = []
+callsOf d (p ∷ ps) = callOf d p ∷ callsOf (after d p) ps

@@ -1,0 +1,35 @@
+-- A proof by computation looks through every definition of reading: this names them all, once.
+use Rattle.lists.specs.Bytes.{written}
+use Rattle.lists.specs.First.{firstOf, any}
+use Rattle.lists.specs.Rows.{rows, joined}
+use Rattle.tables.specs.Refusals.{verdict}
+use Rattle.wire.specs.Type9.{sameFlow, segmentAt, segmentOf}
+use Rattle.wire.specs.Type11.{messageOf}
+use Rattle.wire.specs.Parsed.{parsed, parsedByType, parsedStream, parsedFielded}
+use Rattle.sizes.specs.Sizes.{badMTU, pduLength, dataLength, bytesOf, inEights}
+use Rattle.responses.specs.Type13.{responseTo, answered}
+use Rattle.rules.specs.Segments.{malformed}
+use Rattle.rules.specs.Messages.{reservedSize, badLength, pastLast}
+use Rattle.contexts.specs.Marks.{marked, allMarked}
+use Rattle.contexts.specs.State.{isFreeStream, isFreeMessage, isOfFlow, isOfMessage, flowContext, freeStream, messageContext, freeMessage}
+use Rattle.contexts.specs.Words.{stateOf, wordsOf}
+use Rattle.refusal19.specs.Refusal19.{badRoom, badStream, badLast, badMarks, badMessage, namedBy19}
+use Rattle.stream_rooms.specs.Placing as streamRooms
+use Rattle.streams.specs.Joining as stream
+use Rattle.streams.specs.Rows.{missized, notOpen, passesRoom, noneFree, lengthDiffers}
+use Rattle.message_rooms.specs.Placing as messageRooms
+use Rattle.messages.specs.Joining as message
+use Rattle.messages.specs.Rows.{messageFound, otherMessage, alreadyMarked, neededNoneFree}
+use Rattle.reading.specs.Table.{wrongSizes, table}
+use Rattle.reading.specs.Read.{reading}
+
+unfoldable pub reads : Unit {0}
+unfolding written firstOf any rows joined verdict
+    sameFlow segmentAt segmentOf messageOf parsed parsedByType parsedStream parsedFielded badMTU pduLength dataLength bytesOf inEights responseTo answered
+    malformed reservedSize badLength pastLast
+    marked allMarked isFreeStream isFreeMessage isOfFlow isOfMessage flowContext freeStream messageContext freeMessage stateOf wordsOf
+    badRoom badStream badLast badMarks badMessage namedBy19
+    streamRooms.placed stream.accepted stream.refusedClosing missized notOpen passesRoom noneFree lengthDiffers
+    message.deliveredAtOnce messageRooms.messagePlaced message.messageAccepted messageFound otherMessage alreadyMarked neededNoneFree
+    wrongSizes table reading
+reads = tt
