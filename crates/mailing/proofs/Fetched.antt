@@ -23,6 +23,7 @@ use Rattle.mailing.proofs.Contexts.{isToldOf}
 
 -- ---- `message_room`
 
+-- on a good desk it is asked for the room itself, for every context and every length that a room has
 pub room-itself : (d : Desk) (n l : ℕ) → GoodDesk d → n < 8 → l ≤ 4096 → messageRoom (d .words) (length (d .messageMemory)) n l ≡ part (n * 4096) l
 unfolding messageRoom noState roomPart
 room-itself d n l g h fits =
