@@ -1,0 +1,13 @@
+pub mod Sizes
+pub mod Packets
+pub mod Awaited
+pub mod Rooms
+pub mod Contexts
+pub mod Segments
+pub mod Others
+pub mod Streams
+pub mod Desks
+pub mod Fetched
+pub mod Calls
+pub mod Runs
+pub mod Eleven

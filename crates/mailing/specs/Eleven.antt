@@ -1,0 +1,62 @@
+-- The premises can be met: document 01's example 11 with other packets around it, and the message of document 01's log.
+use Prim.Native.Nat.{ℕ}
+use mathlib.Core.Path.{_≡_}
+use mathlib.Core.List.{List, [], _∷_, _++_, map}
+use lib.ListN.{replicate}
+use Rattle.answers.specs.Answers.{held, message}
+use Rattle.flows.specs.Fresh.{paperDesk}
+use Rattle.mailing.specs.Mail.{Posted, mailPacket}
+use Rattle.mailing.specs.Run.{MailTurn, segment, other, runPackets, MailCall, ofSegments, saidAt, mailIn}
+use Rattle.mailing.specs.ReadBack.{deviceOf, MailRun, definedCalls}
+use Rattle.mailing.specs.OfCalls.{MailCalls}
+
+-- ssize 64, two segments: 64 bytes of 7 and 8 bytes of 9, from source 2 under letter 1 to mailbox 2
+abbrev pub eleven : Posted
+eleven = record {
+  mail = record { source = 2; letter = 1; mailbox = 2; bytes = replicate 64 7 ++ replicate 8 9 };
+  ssize = 0b1100;
+  priorities = [];
+}
+
+-- a segment of another message, from source 3, which takes context 0; and a start from source 2
+abbrev pub fromThree : List ℕ
+fromThree = 0x1B ∷ 0x00 ∷ 0x01 ∷ 0x00 ∷ 0x03 ∷ 0x19 ∷ 0x60 ∷ replicate 8 1
+
+abbrev pub startBetween : List ℕ
+startBetween = 0x19 ∷ 0x00 ∷ 0x01 ∷ 0x00 ∷ 0x02 ∷ 0x05 ∷ 0x80 ∷ 0x00 ∷ 0x07 ∷ replicate 32 5
+
+-- segment 1 comes first
+abbrev pub elevenTurns : List MailTurn
+elevenTurns = other fromThree ∷ segment 1 ∷ other startBetween ∷ segment 0 ∷ []
+
+abbrev pub elevenCalls : List MailCall
+elevenCalls = definedCalls paperDesk eleven elevenTurns
+
+-- the message of document 01's log: 8 bytes, one segment
+abbrev pub logMail : Posted
+logMail = record {
+  mail = record { source = 2; letter = 1; mailbox = 2; bytes = 0x11 ∷ 0x12 ∷ 0x13 ∷ 0x14 ∷ 0x15 ∷ 0x16 ∷ 0x17 ∷ 0x18 ∷ [] };
+  ssize = 0b1001;
+  priorities = [];
+}
+
+-- both are runs, and these are their packets, to the byte
+pub record MailRunsNotEmpty : Type 0 where
+  pub two-segments : MailRun paperDesk eleven elevenTurns elevenCalls
+  pub one-segment : MailRun paperDesk logMail (segment 0 ∷ []) (definedCalls paperDesk logMail (segment 0 ∷ []))
+  -- the calls of the first can be made: they are outcomes that the promises of `read` and `message_room` allow
+  pub calls-made : MailCalls paperDesk (runPackets (deviceOf paperDesk) eleven elevenTurns) elevenCalls
+  pub packets : runPackets (deviceOf paperDesk) eleven elevenTurns
+      ≡ fromThree
+      ∷ (0x1B ∷ 0x00 ∷ 0x01 ∷ 0x00 ∷ 0x02 ∷ 0x1C ∷ 0x61 ∷ replicate 8 9)
+      ∷ startBetween
+      ∷ (0x1B ∷ 0x00 ∷ 0x01 ∷ 0x00 ∷ 0x02 ∷ 0x1C ∷ 0x60 ∷ replicate 64 7)
+      ∷ []
+  pub log-packet : mailPacket (deviceOf paperDesk) logMail 0
+      ≡ 0x1B ∷ 0x00 ∷ 0x01 ∷ 0x00 ∷ 0x02 ∷ 0x09 ∷ 0x60 ∷ 0x11 ∷ 0x12 ∷ 0x13 ∷ 0x14 ∷ 0x15 ∷ 0x16 ∷ 0x17 ∷ 0x18 ∷ []
+
+-- and what is computed from the definitions, with no law between, is what the theorem says
+pub record ElevenDelivered : Type 0 where
+  pub answers : map saidAt (ofSegments elevenTurns elevenCalls) ≡ held ∷ message 1 2 1 2 72 ∷ []
+  pub delivers : mailIn elevenCalls
+      ≡ record { source = 2; letter = 1; mailbox = 2; bytes = replicate 64 7 ++ replicate 8 9 } ∷ []

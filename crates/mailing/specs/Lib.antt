@@ -1,0 +1,5 @@
+pub mod Mail
+pub mod Run
+pub mod ReadBack
+pub mod OfCalls
+pub mod Eleven

@@ -1,0 +1,1 @@
+// Messages, sent and read back: definitions and theorems, no code.
