@@ -10,7 +10,7 @@ use Rattle.cutting.specs.Cutting.{packetOf}
 use Rattle.flows.specs.OneFlow.{PDU}
 use Rattle.contexts.specs.State.{Setup}
 use Rattle.reading.specs.Desk.{Desk, stateOn}
-use Rattle.flows.specs.Deliveries.{read, after, deliveries, inRoom, view}
+use Rattle.flows.specs.Deliveries.{Endpoint, read, after, deliveries, inRoom, view}
 use Rattle.flows.specs.Fresh.{Allowed, Fresh}
 use Rattle.flows.specs.ByFlow.{ByFlow}
 use Rattle.sending.specs.Sending.{Sent, packetCount, headingFor, FairPDU, Ranges, Sending, flowsOf, packets, whole, Fair, FairAnyLoss}
@@ -65,10 +65,13 @@ SamePacketsSameWhole =
 abbrev pub packetAt : Setup → Flow → Sent → ℕ → List ℕ
 packetAt setup flow s k = packetOf (headingFor (setup .device) flow s k) (setup .mtu) (s .pdu .bytes) k
 
--- the desk after the first k packets
-abbrev pub deskAt : Setup → Flow → Sent → Desk → ℕ → Desk
-deskAt setup flow s b zero = b
-deskAt setup flow s b (suc k) = after (deskAt setup flow s b k) (packetAt setup flow s k)
+-- the desk after the first k packets, and what packet k gets there
+abbrev pub deskAt : Endpoint → Setup → Flow → Sent → Desk → ℕ → Desk
+deskAt e setup flow s d zero = d
+deskAt e setup flow s d (suc k) = e (deskAt e setup flow s d k) (packetAt setup flow s k) .desk
+
+abbrev pub saysAt : Endpoint → Setup → Flow → Sent → Desk → ℕ → Said
+saysAt e setup flow s d k = e (deskAt e setup flow s d k) (packetAt setup flow s k) .says
 
 -- delivered from some context: flow, streamID and length, and the room then holds exactly the PDU's bytes
 pub record HandsBack (R : ℕ) (flow : Flow) (p : PDU) (b : Desk) (says : Said) : Type 0 where
@@ -82,12 +85,12 @@ LengthIsMeasured =
     (b : Desk) (p : List ℕ) (context : ℕ) (flow : Flow) (stream size : ℕ) → read b p .says ≡ delivered context flow stream size
     → length (inRoom (stateOn b .setup .room) (after b p .streamMemory) context size) ≡ size
 
--- one PDU alone: every packet but the last is held, and the last delivers the PDU
-pub record ReadsBack (setup : Setup) (flow : Flow) (s : Sent) (b : Desk) : Type 0 where
-  pub each : (k : ℕ) → suc k < packetCount (setup .mtu) s → read (deskAt setup flow s b k) (packetAt setup flow s k) .says ≡ held
-  pub last : (k : ℕ) → suc k ≡ packetCount (setup .mtu) s → HandsBack (setup .room) flow (s .pdu) (deskAt setup flow s b (suc k)) (read (deskAt setup flow s b k) (packetAt setup flow s k) .says)
+-- one PDU alone, read by an endpoint: every packet but the last is held, and the last delivers the PDU
+pub record ReadsBack (e : Endpoint) (setup : Setup) (flow : Flow) (s : Sent) (d : Desk) : Type 0 where
+  pub each : (k : ℕ) → suc k < packetCount (setup .mtu) s → saysAt e setup flow s d k ≡ held
+  pub last : (k : ℕ) → suc k ≡ packetCount (setup .mtu) s → HandsBack (setup .room) flow (s .pdu) (deskAt e setup flow s d (suc k)) (saysAt e setup flow s d k)
 
 abbrev pub ReadBack : Type 1
 ReadBack =
     (setup : Setup) (flow : Flow) (s : Sent) (b : Desk) → Ranges setup flow → FairPDU (setup .room) s → Begins setup (flow ∷ []) b
-    → ReadsBack setup flow s b
+    → ReadsBack read setup flow s b
