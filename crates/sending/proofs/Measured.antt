@@ -2,14 +2,14 @@
 -- most R. So no room reaches past the memory, and the length in an answer is that of the bytes that lie in its room, whatever the desk.
 use Prim.Native.Nat.{ℕ, _+_, _*_, _≤_, _<_}
 use mathlib.Core.Path.{_≡_, refl, ap, sym, _∙_}
-use mathlib.Core.List.{List}
+use mathlib.Core.List.{List, [], _∷_}
 use mathlib.Core.Bool.{Bool, true, false, cond, not, _&&_, false≢true}
 use native.Mathlib.Omega.{arith}
 use lib.ListN.{length, length-take, length-set}
-use lib.Dec.{ltb}
+use lib.Dec.{eqb, ltb}
 use borrow.Author.Tests.{eqb-true, ltb-true, ltb-false, not-false}
 use Rattle.answers.specs.Answers as answers
-use Rattle.tables.specs.Refusals.{Leaves, all, flowClosed, allERROR, allRETRY, Verdict, refuse, accept, verdict, none}
+use Rattle.tables.specs.Refusals.{Row, Leaves, all, flowClosed, allERROR, allRETRY, Verdict, refuse, accept, verdict, none}
 use Rattle.tables.proofs.Exactly.{none-held}
 use Rattle.wire.specs.declared.Flow.{Flow}
 use Rattle.wire.specs.declared.Segment.{Segment}
@@ -85,6 +85,20 @@ pub record Delivers (rooms room : ℕ) (y : Left) (context size : ℕ) : Type 0 
   pub below : context < rooms
   pub within : size ≤ room
 
+-- the test of the first row with that number: it failed, where all did
+abbrev pub testOf : ℕ → List Row → Bool
+testOf number [] = false
+testOf number (r ∷ rows) = cond (eqb (r .number) number) (r .holds) (testOf number rows)
+
+pub row-passed : (number : ℕ) (rows : List Row) → none rows → testOf number rows ≡ false
+unfolding none
+row-passed number [] passed = refl
+row-passed number (r ∷ rows) passed = go (eqb (r .number) number) (row-passed number rows (passed .1))
+  where
+    go : (b : Bool) → testOf number rows ≡ false → cond b (r .holds) (testOf number rows) ≡ false
+    go true later = passed .0
+    go false later = later
+
 -- a row's own test, where the packet has the row's type
 pub of-type : (type b : Bool) → type ≡ true → (type && b) ≡ false → b ≡ false
 of-type true b t e = e
@@ -113,7 +127,7 @@ module _ (x : Lent) (passed : none (table x)) where
       record {
         fit = record {
           whole = eqb-true (length (x .desk .words)) stateWords is-state;
-          good = of-type (isState x) (namedBy19 (stateIn x)) is-state (passed .0);
+          good = of-type (isState x) (namedBy19 (stateIn x)) is-state (row-passed 19 (table x) passed);
           rooms = sizes .0;
           boxes = sizes .1;
         };
@@ -127,24 +141,21 @@ module _ (x : Lent) (passed : none (table x)) where
     abbrev joined : placing.Joined
     joined = stream.accepted (stateIn x) (x .desk .streamMemory) (x .packet) g
 
-    -- rows 8 and 10
     context-below : stream.contextFor (stateIn x) g < 16
-    unfolding none table
-    context-below =
-        below-16 (stateIn x) g (of-type (is9 x) _ nine (passed .1 .1 .1 .1 .1 .1 .1 .1 .1 .1 .1 .0)) (of-type (is9 x) _ nine (passed .1 .1 .1 .1 .1 .1 .1 .1 .1 .1 .1 .1 .1 .0))
+    unfolding table
+    context-below = below-16 (stateIn x) g (of-type (is9 x) _ nine (row-passed 8 (table x) passed)) (of-type (is9 x) _ nine (row-passed 10 (table x) passed))
 
-    -- row 9
     row-9 : passesRoom (stateIn x) g ≡ false
-    unfolding none table
-    row-9 = of-type (is9 x) _ nine (passed .1 .1 .1 .1 .1 .1 .1 .1 .1 .1 .1 .1 .0)
+    unfolding table
+    row-9 = of-type (is9 x) _ nine (row-passed 9 (table x) passed)
 
     fits : total (stateIn x) g ≤ stateIn x .setup .room
     unfolding passesRoom
     fits = ltb-false (stateIn x .setup .room) (total (stateIn x) g) row-9
 
     good-after : namedBy19 (joined .state) ≡ false
-    unfolding none table
-    good-after = streams.accepted-kept (stateIn x) (x .desk .streamMemory) (x .packet) g (was-ready .fit .good) (of-type (is9 x) _ nine (passed .1 .1 .1 .1 .1 .1 .1 .1 .1 .0)) row-9
+    unfolding table
+    good-after = streams.accepted-kept (stateIn x) (x .desk .streamMemory) (x .packet) g (was-ready .fit .good) (of-type (is9 x) _ nine (row-passed 6 (table x) passed)) row-9
 
     stream-fit : Fit (ofStream x joined .desk)
     unfolding stream.accepted placing.placed
