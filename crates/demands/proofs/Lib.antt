@@ -1,3 +1,5 @@
 pub mod Boxes
 pub mod Rooms
 pub mod Calls
+pub mod Wider
+pub mod Demands

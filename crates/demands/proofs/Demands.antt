@@ -1,0 +1,65 @@
+-- Our endpoint meets the demands: the theorems of `sending` stand on laws between a flow and the endpoint, and `flows` shows that they hold.
+use Prim.Native.Nat.{ℕ, suc, _*_, _≤_}
+use mathlib.Core.Path.{_≡_, refl, ap, sym, _∙_}
+use mathlib.Core.List.{List, [], _∷_}
+use native.Mathlib.Omega.{arith}
+use lib.ListN.{length, length-replicate}
+use borrow.Author.Tests.{le-ltb}
+use Rattle.wire.specs.declared.Flow.{Flow}
+use Rattle.refusal19.specs.Refusal19.{badRoom}
+use Rattle.refusal19.proofs.Good.{mtu-fits}
+use Rattle.contexts.specs.State.{Setup}
+use Rattle.reading.specs.Desk.{Desk}
+use Rattle.flows.specs.Deliveries.{deliveries}
+use Rattle.flows.specs.Fresh.{Allowed, Fresh, zeroDesk}
+use Rattle.flows.proofs.Fine.{Fine, fresh-fine}
+use Rattle.flows.proofs.Machine.{by-flow}
+use Rattle.sending.specs.Sending.{FlowSent, Sending, flowsOf, packets}
+use Rattle.sending.specs.OfSendings.{Begins}
+use Rattle.sending.proofs.Fresh.{fresh-begins}
+use Rattle.sending.proofs.ReadBack.{read-back}
+use Rattle.sending.proofs.Merge.{delivered-is-whole, delivered-at-every-turn}
+use Rattle.sending.proofs.Joint.{joint-delivered}
+use Rattle.demands.specs.Demands.{OursMeets, Demand3AnyLoss, Corollary3}
+use Rattle.demands.proofs.Wider.{widest, same-packets, same-whole, wider}
+
+-- a fresh desk, and at most sixteen flows
+pub begins : (setup : Setup) (flows : List Flow) (d : Desk) → length flows ≤ 16 → Fresh setup d → Begins setup flows d
+begins setup flows d few f = fresh-begins setup flows d (Fine setup flows) (by-flow setup flows few) (fresh-fine setup d f flows) f
+
+flows-length : (xs : List FlowSent) → length (flowsOf (record { flows = xs; turns = [] })) ≡ length xs
+flows-length [] = refl
+flows-length (x ∷ xs) = ap suc (flows-length xs)
+
+of-sending : (setup : Setup) (s : Sending) (d : Desk) → length (s .flows) ≤ 16 → Fresh setup d → Begins setup (flowsOf s) d
+of-sending setup s d few f = begins setup (flowsOf s) d (omega (arith, flows-length (s .flows))) f
+
+pub ours-meets : OursMeets
+ours-meets = record {
+  demand2 = λ setup flow s d f ranges fair. read-back setup flow s d ranges fair (begins setup (flow ∷ []) d (omega arith) f);
+  demand3 = λ setup d s f fair. delivered-is-whole setup s d (f .allowed) fair (of-sending setup s d (fair .sent-fairly .sixteen) f);
+  joint = λ setup d flow first second f pair. joint-delivered setup flow first second d pair (begins setup (flow ∷ []) d (omega arith) f);
+}
+
+pub demand3-any-loss : Demand3AnyLoss
+demand3-any-loss setup d s f fair = delivered-at-every-turn setup s d (f .allowed) fair (of-sending setup s d (fair .sent-fairly .sixteen) f)
+
+-- a desk of zeros is fresh
+pub zeros-fresh : (setup : Setup) → Allowed setup → Fresh setup (zeroDesk setup)
+zeros-fresh setup allowed = record {
+  allowed = allowed;
+  words = refl;
+  lends = record { rooms = length-replicate {A = ℕ} (16 * setup .room) 0; boxes = length-replicate {A = ℕ} 32768 0; reply = omega (arith, length-replicate {A = ℕ} 7 0) };
+}
+
+-- the largest R asks no more of a sending, and holds every MTU
+pub corollary3 : Corollary3
+unfolding badRoom
+corollary3 setup s s′ id mtu most fair fair′ e =
+    let most-holds = mtu-fits (setup .mtu) mtu in
+    let allowed : Allowed (widest setup) = record { device-ID = id; allowed-MTU = mtu; allowed-R = rw (le-ltb 65536 (setup .mtu) (omega (arith, most-holds .1))) } in
+    let f = zeros-fresh (widest setup) allowed in
+    sym (same-whole setup s)
+    ∙ (sym (ours-meets .demand3 (widest setup) _ s f (wider setup most s fair))
+    ∙ (ap (deliveries (zeroDesk (widest setup))) (same-packets setup s ∙ (e ∙ sym (same-packets setup s′)))
+    ∙ (ours-meets .demand3 (widest setup) _ s′ f (wider setup most s′ fair′) ∙ same-whole setup s′)))

@@ -1,0 +1,52 @@
+-- DEMANDS 2 AND 3 AND THE JOINT, of any endpoint. Ours meets all three; Impostors.antt shows that endpoints which cheat do not.
+-- These are over the definitions; Demand2OfCalls and Demand3OfCalls (OfCalls.antt) are of the calls that people make.
+use Prim.Native.Nat.{ℕ, _≤_, _<_}
+use mathlib.Core.Path.{_≡_}
+use mathlib.Core.List.{List, [], _∷_}
+use mathlib.Core.Bool.{false, cond}
+use Rattle.wire.specs.declared.Flow.{Flow}
+use Rattle.sizes.specs.Sizes.{badMTU}
+use Rattle.contexts.specs.State.{Setup}
+use Rattle.reading.specs.Desk.{Desk}
+use Rattle.flows.specs.Deliveries.{Endpoint, read, delivery, deliveriesBy, deliveries}
+use Rattle.flows.specs.Fresh.{Fresh}
+use Rattle.sending.specs.Sending.{Sent, Sending, packets, whole, Ranges, FairPDU, Fair, FairAnyLoss}
+use Rattle.sending.specs.OfSendings.{ReadsBack, firstTurns}
+use Rattle.sending.specs.Joint.{Pair, isJoint, jointPDU, pairPackets}
+
+-- DEMAND 2. One PDU cut by the writer's definition, read from fresh, segments 0 to count-1 in order: held for each but the last, delivered
+-- for the last with flow, streamID and length, and the room then holds exactly the PDU's bytes
+abbrev pub Demand2Of : Endpoint → Type 0
+Demand2Of e = (setup : Setup) (flow : Flow) (s : Sent) (d : Desk) → Fresh setup d → Ranges setup flow → FairPDU (setup .room) s → ReadsBack e setup flow s d
+
+-- DEMAND 3. Whatever packets a fair sending leaves, read from fresh they deliver exactly what was sent whole, in the order of the last packets
+abbrev pub Demand3Of : Endpoint → Type 0
+Demand3Of e = (setup : Setup) (d : Desk) (s : Sending) → Fresh setup d → Fair setup s → deliveriesBy e d (packets setup s) ≡ whole setup s
+
+-- THE JOINT, outside demand 3: of two neighbouring PDUs of one flow that each lose exactly one packet something is delivered exactly if the first
+-- has exactly two packets and loses its end, and the second, of two or more, loses its start; and then exactly the PDU joined of the two
+abbrev pub JointOf : Endpoint → Type 0
+JointOf e =
+    (setup : Setup) (d : Desk) (flow : Flow) (first second : Sent) → Fresh setup d → Pair setup flow first second
+    → deliveriesBy e d (pairPackets setup flow first second) ≡ cond (isJoint (setup .mtu) first second) (delivery flow (jointPDU (setup .mtu) first second) ∷ []) []
+
+pub record Meets (e : Endpoint) : Type 0 where
+  pub demand2 : Demand2Of e
+  pub demand3 : Demand3Of e
+  pub joint : JointOf e
+
+-- our endpoint meets them
+abbrev pub OursMeets : Type 0
+OursMeets = Meets read
+
+-- stronger: however many packets of a PDU are lost; and at every moment, after any number of turns
+abbrev pub Demand3AnyLoss : Type 0
+Demand3AnyLoss =
+    (setup : Setup) (d : Desk) (s : Sending) → Fresh setup d → FairAnyLoss setup s
+    → (n : ℕ) → deliveries d (packets setup (firstTurns n s)) ≡ whole setup (firstTurns n s)
+
+-- THE COROLLARY: two sendings that leave the same packets agree on every whole PDU
+abbrev pub Corollary3 : Type 0
+Corollary3 =
+    (setup : Setup) (s s′ : Sending) → setup .device < 65536 → badMTU (setup .mtu) ≡ false → setup .room ≤ 65536
+    → Fair setup s → Fair setup s′ → packets setup s ≡ packets setup s′ → whole setup s ≡ whole setup s′
