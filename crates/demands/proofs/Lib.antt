@@ -3,3 +3,5 @@ pub mod Rooms
 pub mod Calls
 pub mod Wider
 pub mod Demands
+pub mod OfCalls
+pub mod Witnesses

@@ -1,3 +1,5 @@
 pub mod Rooms
 pub mod Calls
 pub mod Demands
+pub mod OfCalls
+pub mod Witnesses
