@@ -20,7 +20,8 @@ use Rattle.sending.proofs.Fresh.{fresh-begins}
 use Rattle.sending.proofs.ReadBack.{read-back}
 use Rattle.sending.proofs.Merge.{delivered-is-whole, delivered-at-every-turn}
 use Rattle.sending.proofs.Joint.{joint-delivered}
-use Rattle.demands.specs.Demands.{OursMeets, Demand3AnyLoss, Corollary3}
+use Rattle.demands.specs.Demands.{OursMeets, Demand3AnyLoss}
+use Rattle.demands.specs.OfCalls.{Corollary3}
 use Rattle.demands.proofs.Wider.{widest, same-packets, same-whole, wider}
 
 -- a fresh desk, and at most sixteen flows

@@ -5,3 +5,4 @@ pub mod Wider
 pub mod Demands
 pub mod OfCalls
 pub mod Witnesses
+pub mod Sixteen

@@ -2,13 +2,11 @@
 use Prim.Native.Nat.{ℕ, zero, suc, _+_, _≤_, _<_}
 use mathlib.Core.Path.{_≡_, refl}
 use mathlib.Core.List.{List, [], _∷_}
-use mathlib.Core.Bool.{Bool, true, false, _&&_, false≢true}
 use native.Mathlib.Omega.{arith}
 use lib.ListN.{length, take, drop, replicate}
 use borrow.Author.Tests.{ne-eqb, lt-ltb, le-ltb}
 use denote.Ref.{RefT}
 use Rattle.lists.specs.Bytes.{written}
-use Rattle.lists.specs.Each.{Each}
 use Rattle.answers.specs.declared.Written.the-variants.{Length}
 use Rattle.answers.specs.Answers.{Said, held, delivered, message, refused, said}
 use Rattle.tables.specs.Refusals.{verdict}
@@ -34,12 +32,11 @@ use Rattle.sending.specs.Sending.{Sent, packetCount, headingFor, putOf, packets
 use Rattle.sending.specs.OfSendings.{packetAt}
 use Rattle.sending.specs.Joint.{isJoint}
 use Rattle.sending.specs.Mixture.{smallSetup, mixture}
-use Rattle.sending.proofs.Mixture.{under, are-bytes}
-use Rattle.paper_examples.specs.Table.{firstPDU, secondPDU}
+use Rattle.sending.proofs.Decided.{each-by, under, are-bytes, fair-PDU, deciding}
 use Rattle.paper_examples.proofs.Computing.{computing}
 use Rattle.demands.specs.Calls.{Fetches, room, none-held, none-message, none-refused, Reads, stop, call, Writes, written-all, write}
 use Rattle.demands.specs.OfCalls.{SetUp}
-use Rattle.demands.specs.Witnesses.{CallsNotEmpty, AllowedNotEmpty, FlowsNotEmpty, JointNotEmpty}
+use Rattle.demands.specs.Witnesses.{CallsNotEmpty, AllowedNotEmpty, FlowsNotEmpty, endLost, startLost, JointNotEmpty}
 use Rattle.demands.proofs.Demands.{zeros-fresh}
 use Rattle.demands.proofs.OfCalls.{counts}
 
@@ -90,8 +87,14 @@ module _ (s : Setup) (flow : Flow) (x : Sent) (allowed : Allowed s) (fair : Fair
   written-well k below =
       let most = good (fresh s) (fresh-good s (allowed .allowed-MTU) (allowed .allowed-R)) .room in
       let some : length (x .pdu .bytes) ≡ 0 → ⊥ = λ e. omega (arith, fair .some-byte) in
-      rw (allowed .allowed-MTU, le-ltb 3 _ (fair .priorities k), ne-eqb (length (x .pdu .bytes)) 0 some, le-ltb 65536 (length (x .pdu .bytes)) (omega (arith, fair .fits)),
-        lt-ltb k (segmentCount (s .mtu) (length (x .pdu .bytes))) below, le-ltb (length (packetAt s flow x k)) (length (packetAt s flow x k)) (omega arith))
+      rw (
+        allowed .allowed-MTU,
+        le-ltb 3 _ (fair .priorities k),
+        ne-eqb (length (x .pdu .bytes)) 0 some,
+        le-ltb 65536 (length (x .pdu .bytes)) (omega (arith, fair .fits)),
+        lt-ltb k (segmentCount (s .mtu) (length (x .pdu .bytes))) below,
+        le-ltb (length (packetAt s flow x k)) (length (packetAt s flow x k)) (omega arith),
+      )
 
   writes-made : (n k : ℕ) → k + n ≡ packetCount (s .mtu) x → (ps : List (List ℕ)) × Writes s flow x k n ps
   writes-made zero k e = (_, written-all)
@@ -113,41 +116,27 @@ allowed-not-empty = record { device-ID = omega arith; allowed-MTU = refl; allowe
 
 -- ---- Packets of two flows
 
--- whether every packet is of bytes
-unfoldable ofBytes : List (List ℕ) → Bool
-ofBytes [] = true
-ofBytes (p ∷ ps) = under 256 p && ofBytes ps
-
-all-bytes : (ps : List (List ℕ)) → ofBytes ps ≡ true → Each AreBytes ps
-unfolding ofBytes
-all-bytes [] e = tt
-all-bytes (p ∷ ps) e = go (under 256 p) refl e (all-bytes ps)
-  where
-    go : (b : Bool) → under 256 p ≡ b → (b && ofBytes ps) ≡ true → (ofBytes ps ≡ true → Each AreBytes ps) → Each AreBytes (p ∷ ps)
-    go true h e rest = (are-bytes p h, rest e)
-    go false h e rest = absurd (false≢true e)
-
 small-allowed : Allowed smallSetup
 unfolding badMTU badRoom
 small-allowed = record { device-ID = omega arith; allowed-MTU = refl; allowed-R = refl }
 
 pub flows-not-empty : FlowsNotEmpty
-unfolding computing parsed parsedByType parsedStream parsedFielded putOf under ofBytes
+unfolding deciding computing parsed parsedByType parsedStream parsedFielded putOf
 flows-not-empty = record {
   fresh = zeros-fresh smallSetup small-allowed;
   few = omega arith;
-  bytes = all-bytes (packets smallSetup mixture) refl;
+  bytes = each-by AreBytes (under 256) are-bytes (packets smallSetup mixture) refl;
   occur = (refl, (refl, (refl, (refl, (refl, (refl, (refl, tt)))))));
 }
 
 -- ---- A joint
 pub joint-not-empty : JointNotEmpty
-unfolding segmentCount isJoint under
+unfolding deciding segmentCount isJoint
 joint-not-empty = record {
   pair = record {
     ranges = record { allowed = allowed-not-empty; source = omega arith; cos = omega arith };
-    first-fair = record { stream = omega arith; bytes = are-bytes firstPDU refl; some-byte = omega arith; fits = omega arith; priorities = λ k. omega arith };
-    second-fair = record { stream = omega arith; bytes = are-bytes secondPDU refl; some-byte = omega arith; fits = omega arith; priorities = λ k. omega arith };
+    first-fair = fair-PDU 2048 endLost refl;
+    second-fair = fair-PDU 2048 startLost refl;
     first-loses = refl;
     second-loses = refl;
   };

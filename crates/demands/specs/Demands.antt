@@ -1,11 +1,10 @@
 -- DEMANDS 2 AND 3 AND THE JOINT, of any endpoint. Ours meets all three; Impostors.antt shows that endpoints which cheat do not.
 -- These are over the definitions; Demand2OfCalls and Demand3OfCalls (OfCalls.antt) are of the calls that people make.
-use Prim.Native.Nat.{ℕ, _≤_, _<_}
+use Prim.Native.Nat.{ℕ}
 use mathlib.Core.Path.{_≡_}
-use mathlib.Core.List.{List, [], _∷_}
-use mathlib.Core.Bool.{false, cond}
+use mathlib.Core.List.{[], _∷_}
+use mathlib.Core.Bool.{cond}
 use Rattle.wire.specs.declared.Flow.{Flow}
-use Rattle.sizes.specs.Sizes.{badMTU}
 use Rattle.contexts.specs.State.{Setup}
 use Rattle.reading.specs.Desk.{Desk}
 use Rattle.flows.specs.Deliveries.{Endpoint, read, delivery, deliveriesBy, deliveries}
@@ -44,9 +43,3 @@ abbrev pub Demand3AnyLoss : Type 0
 Demand3AnyLoss =
     (setup : Setup) (d : Desk) (s : Sending) → Fresh setup d → FairAnyLoss setup s
     → (n : ℕ) → deliveries d (packets setup (firstTurns n s)) ≡ whole setup (firstTurns n s)
-
--- THE COROLLARY: two sendings that leave the same packets agree on every whole PDU
-abbrev pub Corollary3 : Type 0
-Corollary3 =
-    (setup : Setup) (s s′ : Sending) → setup .device < 65536 → badMTU (setup .mtu) ≡ false → setup .room ≤ 65536
-    → Fair setup s → Fair setup s′ → packets setup s ≡ packets setup s′ → whole setup s ≡ whole setup s′

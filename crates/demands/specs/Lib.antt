@@ -3,3 +3,4 @@ pub mod Calls
 pub mod Demands
 pub mod OfCalls
 pub mod Witnesses
+pub mod Sixteen

@@ -1,17 +1,19 @@
 -- DEMANDS 2 AND 3 OF THE CALLS THAT PEOPLE MAKE. Of calls from C and of bursts: c_promises/specs/OfCalls.antt.
-use Prim.Native.Nat.{ℕ, _<_}
+use Prim.Native.Nat.{ℕ, _≤_, _<_}
 use mathlib.Core.Path.{_≡_}
 use mathlib.Core.List.{List, [], _∷_}
+use mathlib.Core.Bool.{false}
 use lib.ListN.{length}
 use Rattle.answers.specs.declared.Begun.the-variants.{Ready}
 use Rattle.wire.specs.declared.Flow.{Flow}
+use Rattle.sizes.specs.Sizes.{badMTU}
 use Rattle.contexts.specs.State.{Setup}
 use Rattle.reading.specs.Desk.{Desk}
 use Rattle.endpoint.specs.Calls.{SetupPromise}
 use Rattle.segments.specs.Writer.{CountPromise}
 use Rattle.flows.specs.Deliveries.{Delivery, delivery}
 use Rattle.flows.specs.Fresh.{Lends, Fresh}
-use Rattle.sending.specs.Sending.{Sent, Sending, packets, whole, FairPDU, FairlySent, OneLossEach, NoNeighboursLose}
+use Rattle.sending.specs.Sending.{Sent, Sending, packets, whole, FairPDU, FairlySent, OneLossEach, NoNeighboursLose, Fair}
 use Rattle.demands.specs.Calls.{Reads, Writes}
 
 -- From fresh: `setup` said ready, for a device ID of 16 bits, and left the desk's words; and memories that 12 allows are lent, whatever is in them
@@ -57,4 +59,9 @@ Demand3OfCalls =
     → Reads d (packets setup s) ds
     -- Then the PDUs delivered are exactly those that lost nothing, with flow, stream and bytes, in the order of their last packets
     → ds ≡ whole setup s
--- (so two sendings that leave the same packets agree on every whole PDU: Corollary3)
+
+-- so two sendings that leave the same packets agree on every whole PDU
+abbrev pub Corollary3 : Type 0
+Corollary3 =
+    (setup : Setup) (s s′ : Sending) → setup .device < 65536 → badMTU (setup .mtu) ≡ false → setup .room ≤ 65536
+    → Fair setup s → Fair setup s′ → packets setup s ≡ packets setup s′ → whole setup s ≡ whole setup s′
