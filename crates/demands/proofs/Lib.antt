@@ -1,6 +1,7 @@
 pub mod Boxes
 pub mod Rooms
 pub mod Calls
+pub mod Writing
 pub mod Wider
 pub mod Demands
 pub mod OfCalls

@@ -1,34 +1,28 @@
 -- The premises can be met.
-use Prim.Native.Nat.{ℕ, zero, suc, _+_, _≤_, _<_}
+use Prim.Native.Nat.{ℕ, zero, suc, _+_}
 use mathlib.Core.Path.{_≡_, refl}
 use mathlib.Core.List.{List, [], _∷_}
 use native.Mathlib.Omega.{arith}
 use lib.ListN.{length, take, drop, replicate}
-use borrow.Author.Tests.{ne-eqb, lt-ltb, le-ltb}
 use denote.Ref.{RefT}
-use Rattle.lists.specs.Bytes.{written}
-use Rattle.answers.specs.declared.Written.the-variants.{Length}
 use Rattle.answers.specs.Answers.{Said, held, delivered, message, refused, said}
 use Rattle.tables.specs.Refusals.{verdict}
 use Rattle.wire.specs.declared.Flow.{Flow}
 use Rattle.wire.specs.Parsed.{parsed, parsedByType, parsedStream, parsedFielded}
 use Rattle.sizes.specs.Sizes.{badMTU}
 use Rattle.refusal19.specs.Refusal19.{badRoom}
-use Rattle.refusal19.proofs.Good.{good}
-use Rattle.refusal19.proofs.Kept.{fresh-good}
-use Rattle.contexts.specs.State.{Setup, fresh}
+use Rattle.contexts.specs.State.{Setup}
 use Rattle.contexts.specs.Words.{stateWords}
 use Rattle.reading.specs.Desk.{Desk, withResponse}
 use Rattle.reading.specs.Table.{Lent, lent}
 use Rattle.reading.specs.Read.{reading}
 use Rattle.reading.proofs.Spoken.{answered-by, promised}
-use Rattle.cutting.specs.Cutting.{badSize, segmentCount}
-use Rattle.segments.specs.Writer.{writerTable, writing, WritePromise}
+use Rattle.cutting.specs.Cutting.{segmentCount}
 use Rattle.endpoint.specs.Calls.{Part, setupTable, setup, streamRoom}
 use Rattle.flows.specs.Deliveries.{Delivery}
 use Rattle.flows.specs.Fresh.{Allowed, zeroDesk}
 use Rattle.flows.specs.ByFlow.{AreBytes}
-use Rattle.sending.specs.Sending.{Sent, packetCount, headingFor, putOf, packets, FairPDU}
+use Rattle.sending.specs.Sending.{Sent, packetCount, putOf, packets, FairPDU}
 use Rattle.sending.specs.OfSendings.{packetAt}
 use Rattle.sending.specs.Joint.{isJoint}
 use Rattle.sending.specs.Mixture.{smallSetup, mixture}
@@ -38,7 +32,7 @@ use Rattle.demands.specs.Calls.{Fetches, room, none-held, none-message, 
 use Rattle.demands.specs.OfCalls.{SetUp}
 use Rattle.demands.specs.Witnesses.{CallsNotEmpty, AllowedNotEmpty, FlowsNotEmpty, endLost, startLost, JointNotEmpty}
 use Rattle.demands.proofs.Demands.{zeros-fresh}
-use Rattle.demands.proofs.OfCalls.{counts}
+use Rattle.demands.proofs.Writing.{counted, written-well}
 
 -- ---- Calls
 
@@ -78,36 +72,17 @@ calls-made (p ∷ ps) d =
 
 -- the writer, with a buffer as long as the packet
 module _ (s : Setup) (flow : Flow) (x : Sent) (allowed : Allowed s) (fair : FairPDU (s .room) x) where
-  packet : ℕ → List ℕ
-  packet k = packetAt s flow x k
-
-  written-well : (k : ℕ) → k < packetCount (s .mtu) x
-      → WritePromise (packet k) (headingFor (s .device) flow x k) (s .mtu) (x .pdu .bytes) k (Length (length (packet k))) (written (packet k) 0 (packet k))
-  unfolding writing writerTable verdict badSize packet
-  written-well k below =
-      let most = good (fresh s) (fresh-good s (allowed .allowed-MTU) (allowed .allowed-R)) .room in
-      let some : length (x .pdu .bytes) ≡ 0 → ⊥ = λ e. omega (arith, fair .some-byte) in
-      rw (
-        allowed .allowed-MTU,
-        le-ltb 3 _ (fair .priorities k),
-        ne-eqb (length (x .pdu .bytes)) 0 some,
-        le-ltb 65536 (length (x .pdu .bytes)) (omega (arith, fair .fits)),
-        lt-ltb k (segmentCount (s .mtu) (length (x .pdu .bytes))) below,
-        le-ltb (length (packetAt s flow x k)) (length (packetAt s flow x k)) (omega arith),
-      )
-
   writes-made : (n k : ℕ) → k + n ≡ packetCount (s .mtu) x → (ps : List (List ℕ)) × Writes s flow x k n ps
   writes-made zero k e = (_, written-all)
-  writes-made (suc n) k e = (_, write (packet k) _ _ (written-well k (omega arith)) (writes-made n (suc k) (omega arith) .1))
+  writes-made (suc n) k e =
+      let packet : List ℕ = packetAt s flow x k in
+      (_, write packet _ _ (written-well s flow x allowed fair packet k (omega arith) (omega arith)) (writes-made n (suc k) (omega arith) .1))
 
 pub calls-not-empty : CallsNotEmpty
 calls-not-empty = record {
   sets-up = sets-up;
   reads = λ d ps. calls-made ps d;
-  writes = λ s flow x count allowed fair counted.
-      let most = good (fresh s) (fresh-good s (allowed .allowed-MTU) (allowed .allowed-R)) .room in
-      let n = counts (s .mtu) (length (x .pdu .bytes)) (allowed .allowed-MTU) (fair .some-byte) (omega (arith, fair .fits, most)) in
-      writes-made s flow x allowed fair count 0 (omega (arith, counted, n));
+  writes = λ s flow x count allowed fair says. writes-made s flow x allowed fair count 0 (omega (arith, says, counted s flow x allowed fair));
 }
 
 pub allowed-not-empty : AllowedNotEmpty

@@ -4,3 +4,4 @@ pub mod Demands
 pub mod OfCalls
 pub mod Witnesses
 pub mod Sixteen
+pub mod Impostors
