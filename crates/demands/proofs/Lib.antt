@@ -7,3 +7,4 @@ pub mod Demands
 pub mod OfCalls
 pub mod Witnesses
 pub mod Sixteen
+pub mod Impostors

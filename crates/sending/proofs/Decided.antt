@@ -34,7 +34,7 @@ unfoldable pub under : ℕ → List ℕ → Bool
 under bound [] = true
 under bound (x ∷ xs) = ltb x bound && under bound xs
 
-under-at : (bound : ℕ) (l : List ℕ) (i : ℕ) → 0 < bound → under bound l ≡ true → getD l i 0 < bound
+pub under-at : (bound : ℕ) (l : List ℕ) (i : ℕ) → 0 < bound → under bound l ≡ true → getD l i 0 < bound
 unfolding under
 under-at bound [] i pos e = pos
 under-at bound (x ∷ xs) zero pos e = ltb-true x bound (both (ltb x bound) (under bound xs) e .0)
