@@ -33,7 +33,7 @@ calls-deliver-with (call {d = d} {left = to} {p = p} {ps = ps} {fetched = fetche
     let now-delivered : fetched ≡ deliveredOn to (said (r .answer)) =
     subst (λ (l : Left). Fetches (l .desk) (l .says) fetched → fetched ≡ deliveredOn (l .desk) (l .says)) (sym promise) (fetched-is-delivered (withResponse d given) p fetched) fetch in
     let alike : butResponse (left (said (r .answer)) (r .dropped) (r .response) to) ≡ butResponse (read (withResponse d own) p) =
-    ap butResponse promise ∙ response-decides-nothing (d .words) (d .streamMemory) (d .messageMemory) given own p g h in
+    ap butResponse promise ∙ response-decides-nothing (d .words) (d .streamMemory) (d .messageMemory) given own p (omega (arith, g)) h in
     ap₂ (λ (l m : List Delivery). l ++ m) now-delivered later
     ∙ ap (λ (l : Left). deliveredOn (l .desk) (l .says) ++ deliveries (withResponse (l .desk) onward) ps) alike
 

@@ -14,13 +14,11 @@ use Rattle.reading.specs.Desk.{Desk, stateOn}
 use Rattle.flows.specs.OneFlow.{pdu}
 use Rattle.flows.specs.Deliveries.{read, delivery, deliveredBy, deliveredOn, deliveries}
 use Rattle.flows.specs.Fresh.{Allowed, Fresh, zeroDesk}
-use Rattle.flows.proofs.Fine.{Fine, fresh-fine}
-use Rattle.flows.proofs.Machine.{by-flow}
-use Rattle.sending.specs.Sending.{Sent, packetCount, FlowSent, Sending, flowsOf, Ranges, FairPDU}
-use Rattle.sending.specs.OfSendings.{Begins, packetAt, deskAt, ReadsBack}
+use Rattle.sending.specs.Sending.{Sent, packetCount, Ranges, FairPDU}
+use Rattle.sending.specs.OfSendings.{packetAt, deskAt, ReadsBack}
 use Rattle.sending.proofs.Steps.{count-pos}
 use Rattle.sending.proofs.Rooms.{room-stays}
-use Rattle.sending.proofs.Fresh.{fresh-begins}
+use Rattle.sending.proofs.Fresh.{fresh-begins, sending-begins}
 use Rattle.sending.proofs.ReadBack.{read-back}
 use Rattle.sending.proofs.Merge.{delivered-is-whole, delivered-at-every-turn}
 use Rattle.sending.proofs.Joint.{joint-delivered}
@@ -29,22 +27,11 @@ use Rattle.demands.specs.OfCalls.{Corollary3}
 use Rattle.demands.proofs.Writing.{packetsFrom, ours-writes}
 use Rattle.demands.proofs.Wider.{widest, same-packets, same-whole, wider}
 
--- a fresh desk, and at most sixteen flows
-pub begins : (setup : Setup) (flows : List Flow) (d : Desk) → length flows ≤ 16 → Fresh setup d → Begins setup flows d
-begins setup flows d few f = fresh-begins setup flows d (Fine setup flows) (by-flow setup flows few) (fresh-fine setup d f flows) f
-
-flows-length : (xs : List FlowSent) → length (flowsOf (record { flows = xs; turns = [] })) ≡ length xs
-flows-length [] = refl
-flows-length (x ∷ xs) = ap suc (flows-length xs)
-
-of-sending : (setup : Setup) (s : Sending) (d : Desk) → length (s .flows) ≤ 16 → Fresh setup d → Begins setup (flowsOf s) d
-of-sending setup s d few f = begins setup (flowsOf s) d (omega (arith, flows-length (s .flows))) f
-
 pub ours-meets : OursMeets
 ours-meets = record {
-  demand2 = λ setup flow s d f ranges fair. read-back setup flow s d ranges fair (begins setup (flow ∷ []) d (omega arith) f);
-  demand3 = λ setup d s f fair. delivered-is-whole setup s d (f .allowed) fair (of-sending setup s d (fair .sent-fairly .sixteen) f);
-  joint = λ setup d flow first second f pair. joint-delivered setup flow first second d pair (begins setup (flow ∷ []) d (omega arith) f);
+  demand2 = λ setup flow s d f ranges fair. read-back setup flow s d ranges fair (fresh-begins setup (flow ∷ []) d (omega arith) f);
+  demand3 = λ setup d s f fair. delivered-is-whole setup s d (f .allowed) fair (sending-begins setup s d (fair .sent-fairly) f);
+  joint = λ setup d flow first second f pair. joint-delivered setup flow first second d pair (fresh-begins setup (flow ∷ []) d (omega arith) f);
 }
 
 -- ---- One PDU, all its packets: nothing until the last, which delivers it
@@ -71,7 +58,7 @@ module _ (setup : Setup) (flow : Flow) (s : Sent) (d : Desk) (own-R : stateOn d 
 pub one-PDU : (setup : Setup) (flow : Flow) (s : Sent) (d : Desk) → Fresh setup d → Ranges setup flow → FairPDU (setup .room) s
     → deliveries d (packetsFrom setup flow s 0 (packetCount (setup .mtu) s)) ≡ delivery flow (s .pdu) ∷ []
 one-PDU setup flow s d f ranges fair =
-    all-packets setup flow s d (begins setup (flow ∷ []) d (omega arith) f .own-R) (ours-meets .demand2 setup flow s d f ranges fair)
+    all-packets setup flow s d (fresh-begins setup (flow ∷ []) d (omega arith) f .own-R) (ours-meets .demand2 setup flow s d f ranges fair)
     (packetCount (setup .mtu) s) refl (count-pos (setup .mtu) (length (s .pdu .bytes)) (f .allowed .allowed-MTU) (fair .some-byte))
 
 pub our-writer-meets : OurWriterMeets
@@ -81,7 +68,7 @@ our-writer-meets setup flow s d outs f ranges fair long =
 -- ---- Demand 3, stronger, and its corollary
 
 pub demand3-any-loss : Demand3AnyLoss
-demand3-any-loss setup d s f fair = delivered-at-every-turn setup s d (f .allowed) fair (of-sending setup s d (fair .sent-fairly .sixteen) f)
+demand3-any-loss setup d s f fair = delivered-at-every-turn setup s d (f .allowed) fair (sending-begins setup s d (fair .sent-fairly) f)
 
 -- a desk of zeros is fresh
 pub zeros-fresh : (setup : Setup) → Allowed setup → Fresh setup (zeroDesk setup)

@@ -3,6 +3,7 @@ use Prim.Native.Nat.{ℕ, _*_, _≤_, _<_}
 use mathlib.Core.Path.{_≡_, ap, sym, _∙_}
 use mathlib.Core.Bool.{false}
 use mathlib.Core.List.{List}
+use native.Mathlib.Omega.{arith}
 use lib.ListN.{length, take, drop}
 use borrow.Author.Tests.{eq-eqb}
 use Rattle.contexts.specs.Words.{stateWords}
@@ -26,8 +27,8 @@ state-there d fit = rw (eq-eqb (length (d .words)) stateWords (fit .whole), fit 
 gives : {rooms room : ℕ} {memory : List ℕ} (asked : ℕ → ℕ → ℕ → Part) {context size : ℕ} → context < rooms → size ≤ room → asked (length memory) context size ≡ part (context * room) size
     → RoomHandedBack rooms room memory asked context size
 gives {room = room} {memory = memory} asked {context = context} {size = size} below within handed = record {
-  below = below;
-  within = within;
+  below = omega (arith, below);
+  within = omega (arith, within);
   handed = handed;
   bytes = λ lends gets e part-of.
       part-of .bytes

@@ -58,8 +58,8 @@ fair-PDU R s e =
     record {
       stream = ltb-true (s .pdu .stream) 65536 (a .0);
       bytes = are-bytes (s .pdu .bytes) (b .0);
-      some-byte = leb-true 1 (length (s .pdu .bytes)) (c .0);
-      fits = leb-true (length (s .pdu .bytes)) R (d .0);
+      some-byte = omega (arith, leb-true 1 (length (s .pdu .bytes)) (c .0));
+      fits = omega (arith, leb-true (length (s .pdu .bytes)) R (d .0));
       priorities = λ k. let h = under-at 4 (s .priorities) k (omega arith) (d .1) in omega arith;
     }
 
@@ -93,7 +93,7 @@ fair-turn setup (next flow) e = tt
 fair-turn setup (between p) e =
     let a = both (not (isSegment (parsed (setup .device) p))) (under 256 p) e in
     let none-parsed : isSegment (parsed (setup .device) p) ≡ false = not-true _ (a .0) in
-    (λ g s. false≢true (sym none-parsed ∙ ap isSegment s), are-bytes p (a .1))
+    (λ g s. absurd (false≢true (sym none-parsed ∙ ap isSegment s)), are-bytes p (a .1))
 
 -- at most one loss each, and one of two neighbours whole
 unfoldable pub isOneLoss : Setup → FlowSent → Bool
@@ -128,7 +128,7 @@ is-fair setup s e =
     let d = both (allOf (isOneLoss setup) (s .flows)) _ (c .1) in
     record {
       sent-fairly = record {
-        sixteen = leb-true (length (s .flows)) 16 (a .0);
+        sixteen = omega (arith, leb-true (length (s .flows)) 16 (a .0));
         flows = each-by (FairFlow setup) (isFairFlow setup) (fair-flow setup) (s .flows) (b .0);
         turns = each-by (FairTurn setup) (isFairTurn setup) (fair-turn setup) (s .turns) (c .0);
       };

@@ -1,5 +1,5 @@
 -- What holds of a sending, as statements (document 01, demands 2 and 3). Each is proved in proofs/; nothing here is part of a proof.
-use Prim.Native.Nat.{ℕ, zero, suc, _<_}
+use Prim.Native.Nat.{ℕ, zero, suc, _≤_, _<_}
 use mathlib.Core.Path.{_≡_}
 use mathlib.Core.List.{List, [], _∷_}
 use mathlib.Core.Option.{none}
@@ -13,7 +13,7 @@ use Rattle.reading.specs.Desk.{Desk, stateOn}
 use Rattle.flows.specs.Deliveries.{Endpoint, read, after, deliveries, inRoom, view}
 use Rattle.flows.specs.Fresh.{Allowed, Fresh}
 use Rattle.flows.specs.ByFlow.{ByFlow}
-use Rattle.sending.specs.Sending.{Sent, packetCount, headingFor, FairPDU, Ranges, Sending, flowsOf, packets, whole, Fair, FairAnyLoss}
+use Rattle.sending.specs.Sending.{Sent, packetCount, headingFor, FairPDU, Ranges, Sending, flowsOf, packets, whole, FairlySent, Fair, FairAnyLoss}
 
 -- A desk of that setup on which no flow is open, and from which on the laws between a flow and the endpoint hold.
 pub record Begins (setup : Setup) (flows : List Flow) (b : Desk) : Type 1 where
@@ -23,9 +23,12 @@ pub record Begins (setup : Setup) (flows : List Flow) (b : Desk) : Type 1 where
   pub own-R : stateOn b .setup .room ≡ setup .room
   pub closed : (flow : Flow) → view b flow ≡ none
 
--- a desk that was just set up begins, once the laws hold of it
+-- a desk that was just set up begins, for at most sixteen flows; so for those of a sending
 abbrev pub FreshBegins : Type 1
-FreshBegins = (setup : Setup) (flows : List Flow) (b : Desk) (Ok : Desk → Type 0) → ByFlow setup flows Ok → Ok b → Fresh setup b → Begins setup flows b
+FreshBegins = (setup : Setup) (flows : List Flow) (b : Desk) → length flows ≤ 16 → Fresh setup b → Begins setup flows b
+
+abbrev pub SendingBegins : Type 1
+SendingBegins = (setup : Setup) (s : Sending) (b : Desk) → FairlySent setup s → Fresh setup b → Begins setup (flowsOf s) b
 
 -- ---- Demand 3
 
