@@ -6,9 +6,12 @@ use mathlib.Core.Bool.{Bool, false, _||_, _&&_}
 use lib.ListN.{length}
 use lib.Dec.{eqb, ltb}
 use Rattle.lists.specs.Bytes.{byte}
-use Rattle.wire.specs.Packet.{packetType, header}
+use Rattle.wire.specs.Packet.{header}
+use Rattle.wire.specs.Head.{is9}
 use Rattle.wire.specs.Type9.{flags, isP, segmentOf}
-use Rattle.reading.specs.Read.{reading, lent}
+use Rattle.reading.specs.Desk.{Desk}
+use Rattle.reading.specs.Table.{lent}
+use Rattle.reading.specs.Read.{reading}
 
 -- byte i is the pad of a type 9 packet: the last byte, where P is set and there are data
 unfoldable pub isPad : List ℕ → ℕ → Bool
@@ -16,7 +19,7 @@ isPad p i = isP p && (ltb (segmentOf p .from) (length p) && eqb (i + 1) (length 
 
 -- byte i of a packet of any type is not read, or not all of it: the byte with the three reserved bits, or the pad
 unfoldable pub hasIgnored : List ℕ → ℕ → Bool
-hasIgnored p i = eqb (packetType p) 9 && (eqb i (header + 1) || isPad p i)
+hasIgnored p i = is9 p && (eqb i (header + 1) || isPad p i)
 
 -- two packets that differ only in reserved bits and the pad
 pub record DifferInIgnored (p q : List ℕ) : Type 0 where
@@ -26,11 +29,9 @@ pub record DifferInIgnored (p q : List ℕ) : Type 0 where
   pub S-E : flags p / 64 ≡ flags q / 64
   pub xh-O-P : flags p % 8 ≡ flags q % 8
 
--- everything else lent the same, they are answered alike, and leave the same words, memories and response
+-- on one desk they are answered alike, and leave the same words, memories and response
 abbrev pub ReservedAndPadIgnored : Type 0
-ReservedAndPadIgnored =
-    (words streamMemory messageMemory response p q : List ℕ) → DifferInIgnored p q
-    → reading (lent words streamMemory messageMemory response p) ≡ reading (lent words streamMemory messageMemory response q)
+ReservedAndPadIgnored = (d : Desk) (p q : List ℕ) → DifferInIgnored p q → reading (lent d p) ≡ reading (lent d q)
 
 -- such a pair: the first packet of the paper's sample log, and the same with all three reserved bits and the pad set
 abbrev pub plainPacket : List ℕ
