@@ -16,7 +16,7 @@ use Rattle.flows.specs.Deliveries.{inRoom}
 use Rattle.mailing.specs.Mail.{Mail, Posted, mailAnswer}
 use Rattle.mailing.specs.Run.{mailBy, ofName}
 use Rattle.mailing.specs.ReadBack.{GoodDesk}
-use Rattle.mailing.specs.OfCalls.{RoomCall, Fetches}
+use Rattle.mailing.specs.OfCalls.{RoomCall, FetchesMail}
 use Rattle.mailing.proofs.Sizes.{Sized}
 use Rattle.mailing.proofs.Rooms.{fits-room}
 use Rattle.mailing.proofs.Contexts.{isToldOf}
@@ -76,14 +76,14 @@ module _ (x : Posted) where
       go (refused number) e = refl
 
   -- by the calls
-  pub has-fetched : Sized x → (d : Desk) (says : Said) (mail : List Mail) → Fetches d says mail → Has x d says mail
-  has-fetched z d says mail f = record { silent = go says f; message-itself = λ n h g room e. itself n h g room (subst (λ (s : Said). Fetches d s mail) e f) }
+  pub has-fetched : Sized x → (d : Desk) (says : Said) (mail : List Mail) → FetchesMail d says mail → Has x d says mail
+  has-fetched z d says mail f = record { silent = go says f; message-itself = λ n h g room e. itself n h g room (subst (λ (s : Said). FetchesMail d s mail) e f) }
     where
-      go : (says : Said) → Fetches d says mail → isToldOf x says ≡ false → ofName x mail ≡ []
+      go : (says : Said) → FetchesMail d says mail → isToldOf x says ≡ false → ofName x mail ≡ []
       go (message context source letter mailbox size) f e = ap (ofName x) (f .2) ∙ rw e
       go held f e = ap (ofName x) f
       go (delivered context flow stream size) f e = ap (ofName x) f
       go (refused number) f e = ap (ofName x) f
 
-      itself : (n : ℕ) → n < 8 → GoodDesk d → inRoom 4096 (d .messageMemory) n (length (x .mail .bytes)) ≡ x .mail .bytes → Fetches d (mailAnswer x n) mail → mail ≡ x .mail ∷ []
+      itself : (n : ℕ) → n < 8 → GoodDesk d → inRoom 4096 (d .messageMemory) n (length (x .mail .bytes)) ≡ x .mail .bytes → FetchesMail d (mailAnswer x n) mail → mail ≡ x .mail ∷ []
       itself n h g room f = f .2 ∙ ap withBytes (hands-room d n (length (x .mail .bytes)) (f .0) g h (fits-room x z) (f .1) ∙ room)
