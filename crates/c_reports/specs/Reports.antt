@@ -96,7 +96,11 @@ sayingOf (wrote size) dropped response = plainOf (kindOf (wrote size)) (numberOf
 unfoldable pub reportOf : Said → Bool → List ℕ → Report
 reportOf says dropped packet = sayingOf says (flagOf dropped) (responseOf says packet)
 
--- its words in a lent buffer, in the order of its fields
+-- how many words a report takes in a lent buffer
+abbrev pub reportWords : ℕ
+reportWords = 9
+
+-- its words there, in the order of its fields
 abbrev pub wordsOfReport : Report → List ℕ
 wordsOfReport r =
     r .kind

@@ -9,7 +9,7 @@ ghost use Prim.Native.Nat.{_+_, _≤_};
 ghost use lib.ListN.{length};
 ghost use Rattle.answers.specs.Answers.{said, saidOfSetup, saidOfAbandon, saidOfWriter};
 ghost use Rattle.lists.specs.Bytes.{written};
-ghost use Rattle.c_reports.specs.Reports.{isMessage, responseOf, flagOf, plainOf, sayingOf, reportOf, wordsOfReport, numbersOf};
+ghost use Rattle.c_reports.specs.Reports.{isMessage, responseOf, flagOf, plainOf, sayingOf, reportOf, reportWords, wordsOfReport, numbersOf};
 
 // The words of a report.
 pub const WORDS: usize = 9;
@@ -155,7 +155,7 @@ pub fn reported(reading: Reading, packet: &[u8]) -> Report
 
 // Writes a report as words, from `at` on. Every caller has room for them.
 pub fn put(words: &mut [usize], at: usize, r: Report)
-    requires { ⌜ at + 9 ≤ length (now words) ⌝ }
+    requires { ⌜ at + reportWords ≤ length (now words) ⌝ }
     ensures { λ _. ⌜ now (words .exit) ≡ written (now (words .entry)) at (wordsOfReport r) ⌝ }
 {
     words[at] = r.kind;
