@@ -1,5 +1,5 @@
--- What an answer says determines the answer: no two cases of an enum say the same.
-use mathlib.Core.Path.{_≡_, refl}
+-- What an answer says determines the answer: no two cases of an enum say the same. An outcome is its answer and what it leaves.
+use mathlib.Core.Path.{_≡_, refl, ap₂}
 use Rattle.answers.specs.declared.Answer.{Answer}
 use Rattle.answers.specs.declared.Answer.the-variants as answer
 use Rattle.answers.specs.declared.Begun.{Begun}
@@ -9,6 +9,7 @@ use Rattle.answers.specs.declared.Abandoned.the-variants as abandoned
 use Rattle.answers.specs.declared.Written.{Written}
 use Rattle.answers.specs.declared.Written.the-variants as writer
 use Rattle.answers.specs.Answers.{said, saidOfSetup, saidOfAbandon, saidOfWriter}
+use Rattle.answers.specs.Once.{Outcome}
 
 pub said-once : (a b : Answer) → said a ≡ said b → a ≡ b
 said-once answer.Held answer.Held e = refl
@@ -50,3 +51,7 @@ writer-once (writer.Length _) (writer.Length _) e = cc
 writer-once (writer.Length _) (writer.Refused _) e = cc
 writer-once (writer.Refused _) (writer.Length _) e = cc
 writer-once (writer.Refused _) (writer.Refused _) e = cc
+
+-- outcomes with one answer that leave the same are one
+pub both : {Answer After : Type 0} {y z : Outcome Answer After} → y .answer ≡ z .answer → y .after ≡ z .after → y ≡ z
+both {Answer = Answer} {After = After} e f = ap₂ (λ (a : Answer) (l : After). record { answer = a; after = l }) e f
