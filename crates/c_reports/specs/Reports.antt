@@ -3,6 +3,7 @@ use Prim.Native.Nat.{ℕ}
 use mathlib.Core.List.{List, [], _∷_}
 use mathlib.Core.Bool.{Bool, cond}
 use lib.Dec.{eqb, ltb}
+use Rattle.lists.specs.Bytes.{byte}
 use Rattle.answers.specs.Answers.{Said, held, delivered, message, refused, ready, closed, free, wrote}
 use Rattle.wire.specs.Packet.{packetType}
 use Rattle.c_reports.specs.declared.Report.{Report}
@@ -113,3 +114,17 @@ wordsOfReport r =
     ∷ r .«stream_or_mailbox»
     ∷ r .length
     ∷ []
+
+-- and back: the report that stands in such words
+abbrev pub reportIn : List ℕ → Report
+reportIn words = record {
+  kind = byte words 0;
+  number = byte words 1;
+  dropped = byte words 2;
+  response = byte words 3;
+  context = byte words 4;
+  source = byte words 5;
+  «cos_or_letter» = byte words 6;
+  «stream_or_mailbox» = byte words 7;
+  length = byte words 8;
+}

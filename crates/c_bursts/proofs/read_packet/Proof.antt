@@ -3,7 +3,7 @@ use Prim.Native.Nat.{_<_}
 use native.Mathlib.Omega.{arith}
 use lib.ListN.{getD}
 use borrow.Author.Needs.{needs}
-use Rattle.reading.specs.Desk.{desk}
+use Rattle.reading.specs.Desk.{Desk, desk}
 use Rattle.c_bursts.specs.Bursts.{Run, run}
 use Rattle.c_bursts.proofs.Packets.{packet-read}
 use Rattle.c_bursts.proofs.read_packet.Statement.{statement}
@@ -13,9 +13,13 @@ use Rattle.c_bursts.proofs.read_packet.Tie as tie
 abbrev begun : tie.Start → Run
 begun s = run (desk (s .args .state .now) (s .args .stream-memory .now) (s .args .message-memory .now) (s .args .responses .now)) (s .args .reports .now) (s .args .count) 0
 
+-- the call that a step was taken in
+abbrev start-of : tie.After-step → tie.Start
+start-of c = c .before .before .before .before .before .before .before .before .before .before .before
+
 mul-put : tie.Need-mul-put
 mul-put c =
-    let s = c .before .before .before .before .before .before .before .before .before .before .before .before .before .before .before .before .before .before .before .before .before in
+    let s = start-of (c .before .before .before .before .before .before .before .before .before .before) in
     omega (arith, s .pre .space .answers)
 
 returns : tie.Need-returns
@@ -23,11 +27,12 @@ returns c =
     let at-put = c .before .before in
     let at-reported = at-put .before .before in
     let at-step = at-reported .before .before .before .before .before .before .before .before .before in
-    let at-packet = at-step .before .before .before .before .before in
-    let s = at-packet .before .before .before .before .before .before in
+    let s = start-of at-step in
     let t = at-step .step in
-    let small : getD (s .args .packet .now) 5 0 < 256 = omega (arith, at-packet .shared-slice-known .given 5) in
-    packet-read (begun s) (s .pre) _ small (t .result) (desk (t .last .0) (t .last .1 .0) (t .last .1 .1 .0) (t .last .1 .1 .1 .0)) (t .ensures) (t .kept .1 .0) (t .kept .1 .1 .0) (t .kept .1 .1 .1 .0)
+    let known = at-step .before .before .before .before .before .shared-slice-known .given in
+    let small : getD (s .args .packet .now) 5 0 < 256 = omega (arith, known 5) in
+    let after : Desk = desk (t .last .0) (t .last .1 .0) (t .last .1 .1 .0) (t .last .1 .1 .1 .0) in
+    packet-read (begun s) (s .pre) _ small (t .result) after (t .ensures) (t .kept .1 .0) (t .kept .1 .1 .0) (t .kept .1 .1 .1 .0)
     (at-reported .reported .result) _ (at-reported .reported .ensures) (at-put .put .ensures)
 
 pub read-packet-spec : {M : Type 1} → statement M
