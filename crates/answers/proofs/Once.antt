@@ -1,5 +1,6 @@
 -- An answer and what it says determine each other: no two cases of an enum say the same, and whatever can be said, a case says it.
-use mathlib.Core.Path.{_≡_, refl, ap, sym, _∙_}
+-- An outcome is its answer and what it leaves.
+use mathlib.Core.Path.{_≡_, refl, ap, ap₂, sym, _∙_}
 use Rattle.answers.specs.declared.Answer.{Answer}
 use Rattle.answers.specs.declared.Answer.the-variants as answer
 use Rattle.answers.specs.declared.Begun.{Begun}
@@ -10,6 +11,7 @@ use Rattle.answers.specs.declared.Written.{Written}
 use Rattle.answers.specs.declared.Written.the-variants as writer
 use Rattle.answers.specs.Answers.{Said, held, delivered, message, refused, said, SetupSaid, ready, setupRefused, saidOfSetup}
 use Rattle.answers.specs.Answers.{AbandonSaid, closed, free, abandonRefused, saidOfAbandon, WriterSaid, wrote, writeRefused, saidOfWriter}
+use Rattle.answers.specs.Once.{Outcome}
 
 -- where `back` undoes `says`, what is said determines the answer
 once : {A S : Type 0} (says : A → S) (back : S → A) → ((a : A) → back (says a) ≡ a) → (a b : A) → says a ≡ says b → a ≡ b
@@ -81,3 +83,7 @@ writer-back (writer.Refused _) = refl
 
 pub writer-once : (a b : Written) → saidOfWriter a ≡ saidOfWriter b → a ≡ b
 writer-once = once saidOfWriter writtenOf writer-back
+
+-- outcomes with one answer that leave the same are one
+pub both : {Answer After : Type 0} {y z : Outcome Answer After} → y .answer ≡ z .answer → y .after ≡ z .after → y ≡ z
+both {Answer = Answer} {After = After} e f = ap₂ (λ (a : Answer) (l : After). record { answer = a; after = l }) e f

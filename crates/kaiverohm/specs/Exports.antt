@@ -3,6 +3,7 @@
 use Prim.Native.Nat.{ℕ}
 use mathlib.Core.Path.{_≡_}
 use mathlib.Core.List.{List}
+use Rattle.reading.specs.Desk.{Desk}
 use Rattle.reading.specs.Table.{Lent}
 use Rattle.reading.specs.Read.{reading}
 use Rattle.endpoint.specs.Calls.{setup, abandonStream, abandonMessage}
@@ -10,20 +11,19 @@ use Rattle.cutting.specs.declared.Heading.{Heading}
 use Rattle.segments.specs.Writer.{writing}
 use Rattle.c_reports.specs.declared.Numbers.{Numbers}
 use Rattle.c_reports.specs.declared.Report.{Report}
-use Rattle.c_reports.specs.Reports.{numbersOf, reportOf}
+use Rattle.c_reports.specs.Reports.{numbersOf}
+use Rattle.c_bursts.specs.Bursts.{reportFor}
+use Rattle.kaiverohm.specs.declared.Heading.{Heading}
 
 -- the promise of `kaiverohm_setup`
 pub record SetupFromCPromise (words : List ℕ) (device mtu room : ℕ) (r : Numbers) (after : List ℕ) : Type 0 where
   pub answer : r ≡ numbersOf (setup words device mtu room .says)
   pub state : after ≡ setup words device mtu room .words
 
--- the promise of `kaiverohm_read`
-pub record ReadFromCPromise (x : Lent) (r : Report) (words streamMemory messageMemory response : List ℕ) : Type 0 where
-  pub report : r ≡ reportOf (reading x .says) (reading x .dropped) (x .packet)
-  pub state : words ≡ reading x .words
-  pub streams : streamMemory ≡ reading x .streamMemory
-  pub messages : messageMemory ≡ reading x .messageMemory
-  pub reply : response ≡ reading x .response
+-- the promise of `kaiverohm_read`: the report, and the desk as it is left
+pub record ReadFromCPromise (x : Lent) (r : Report) (after : Desk) : Type 0 where
+  pub report : r ≡ reportFor (x .packet) (reading x)
+  pub desk : after ≡ reading x .desk
 
 -- the promises of `kaiverohm_abandon_stream` and `kaiverohm_abandon_message`
 pub record AbandonStreamFromCPromise (words : List ℕ) (n : ℕ) (r : Numbers) (after : List ℕ) : Type 0 where
