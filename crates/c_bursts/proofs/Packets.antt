@@ -11,7 +11,7 @@ use Rattle.lists.specs.Bytes.{written}
 use Rattle.lists.proofs.Written.{written-is}
 use Rattle.answers.specs.declared.Reading.{Reading}
 use Rattle.answers.specs.Answers.{said}
-use Rattle.contexts.specs.State.{Setup}
+use Rattle.contexts.specs.State.{Setup, streamContexts}
 use Rattle.reading.specs.Desk.{Desk, stateOn, withResponse}
 use Rattle.reading.specs.Table.{lent}
 use Rattle.reading.specs.Read.{Left, left, reading, ReadPromise}
@@ -50,7 +50,7 @@ module _ (r : Run) (ready : ReadyToRun r 1) where
 
   -- what reading left: in its memories, in its slot, and with the report beside it
   module _ (packet : List ℕ) (small : getD packet 5 0 < 256) (x : Reading) (after : Desk) (promise : ReadPromise (lent lentDesk packet) x after) where
-    as-defined : left (said (x .answer)) (x .dropped) after ≡ readIn r packet
+    as-defined : left (said (x .answer)) (x .dropped) (x .response) after ≡ readIn r packet
     as-defined = promise ∙ ap (λ (s : List ℕ). reading (lent (withResponse (r .desk) s) packet)) slot-is
 
     still-good : StillGood (stateOn (r .desk)) (after .words)
@@ -61,19 +61,19 @@ module _ (r : Run) (ready : ReadyToRun r 1) where
       still-fit response = record {
         whole = still-good .whole;
         good = still-good .good;
-        rooms = streams ∙ ready .fit .rooms ∙ ap (λ (f : Setup). 16 * f .room) (sym (still-good .setup));
+        rooms = streams ∙ ready .fit .rooms ∙ ap (λ (f : Setup). streamContexts * f .room) (sym (still-good .setup));
         boxes = messages ∙ ready .fit .boxes;
       }
 
       pub packet-read : length (after .response) ≡ length lentSlot
-          → (report : Report) (reports : List ℕ) → report ≡ reportOf (said (x .answer)) (x .dropped) packet → reports ≡ written (r .reports) (reportWords * r .count) (wordsOfReport report)
+          → (report : Report) (reports : List ℕ) → report ≡ reportOf (said (x .answer)) (x .dropped) (x .response) → reports ≡ written (r .reports) (reportWords * r .count) (wordsOfReport report)
           → PacketPromise r packet (report .kind) (withResponse after (putMid (slotBytes * r .count) size (r .desk .response) (after .response))) reports
       packet-read slot report reports e f = record {
         leaves =
             ap₂ (λ (a b : List ℕ). run (withResponse after a) b (r .count + 1) (r .next))
             (put-back (r .desk .response) (after .response) (slotBytes * r .count) size (slot ∙ slot-length ∙ sym size-is))
             (f ∙ ap (λ (w : Report). written (r .reports) (reportWords * r .count) (wordsOfReport w)) e)
-            ∙ ap (answersPlaced r packet (r .next)) as-defined;
-        reported = ap (λ (w : Report). w .kind) e ∙ ap (λ (l : Left). reportFor packet l .kind) as-defined;
+            ∙ ap (answersPlaced r (r .next)) as-defined;
+        reported = ap (λ (w : Report). w .kind) e ∙ ap (λ (l : Left). reportFor l .kind) as-defined;
         fit = still-fit _;
       }

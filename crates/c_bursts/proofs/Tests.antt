@@ -7,16 +7,16 @@ use native.Mathlib.Omega.{arith}
 use native.Mathlib.Nat.{min-le-left, min-le-right}
 use lib.ListN.{length}
 use borrow.Author.Tests.{eq-eqb, ne-eqb}
-use Rattle.answers.specs.Refusals.{verdict}
+use Rattle.tables.specs.Refusals.{verdict}
 use Rattle.contexts.specs.Words.{stateWords}
 use Rattle.refusal19.specs.Refusal19.{namedBy19}
 use Rattle.reading.specs.Desk.{Desk, stateOn}
-use Rattle.reading.specs.Table.{wrongSizes, table}
+use Rattle.reading.specs.Table.{wrongSizes, lentRows}
 use Rattle.reading.specs.Inside.{Fit}
 use Rattle.reading.proofs.Left.{sizes-fit}
 use Rattle.c_reports.specs.Reports.{reportWords}
 use Rattle.c_bursts.specs.declared.Burst.{Burst}
-use Rattle.c_bursts.specs.Bursts.{slotBytes, run, Finished, answering, refusedAll, ran, roomFor, lentTable, readBurst, BurstPromise}
+use Rattle.c_bursts.specs.Bursts.{slotBytes, run, Finished, answering, refusedAll, ran, roomFor, readBurst, BurstPromise}
 use Rattle.c_bursts.specs.Inside.{Room}
 
 module _ (pause : ℕ) (d : Desk) (reports burst : List ℕ) (answer : Burst) where
@@ -25,16 +25,16 @@ module _ (pause : ℕ) (d : Desk) (reports burst : List ℕ) (answer : Burst) wh
   Refuses number = answer ≡ answering refusedAll number 0 0 → BurstPromise pause d reports burst answer d reports
 
   pub short : (length (d .words) ≡ stateWords → ⊥) → Refuses 12
-  unfolding readBurst lentTable table verdict
+  unfolding readBurst lentRows verdict
   short l a = rw (a, ne-eqb (length (d .words)) stateWords l)
 
   module _ (l : length (d .words) ≡ stateWords) where
     pub named : namedBy19 (stateOn d) ≡ true → Refuses 19
-    unfolding readBurst lentTable table verdict
+    unfolding readBurst lentRows verdict
     named h a = rw (a, eq-eqb (length (d .words)) stateWords l, h)
 
     pub missized : namedBy19 (stateOn d) ≡ false → wrongSizes d ≡ true → Refuses 12
-    unfolding readBurst lentTable table verdict
+    unfolding readBurst lentRows verdict
     missized h w a = rw (a, eq-eqb (length (d .words)) stateWords l, h, w)
 
 -- neither row holds
@@ -45,7 +45,7 @@ pub record Passed (d : Desk) : Type 0 where
 
 pub accepted : (pause : ℕ) (d : Desk) (reports burst : List ℕ) (room : ℕ) (x : Finished) → Passed d → room ≡ roomFor (length reports) (length (d .response))
     → x ≡ ran pause room burst (run d reports 0 0) → x ≡ readBurst pause d reports burst
-unfolding readBurst lentTable table verdict
+unfolding readBurst lentRows verdict
 accepted pause d reports burst room x p e f = rw (eq-eqb (length (d .words)) stateWords (p .whole), p .good, p .sized, ← e) f
 
 pub fits : (d : Desk) → Passed d → Fit d

@@ -1,14 +1,14 @@
 -- A burst: packets in the log's record form, read one after another, each at the desk that the one before left.
 use Prim.Native.Nat.{ℕ, zero, suc, min, _+_, _*_, _/_}
 use mathlib.Core.Path.{_≡_}
-use mathlib.Core.List.{List, []}
+use mathlib.Core.List.{List}
 use mathlib.Core.Bool.{cond}
 use lib.ListN.{length, take, drop}
 use lib.Dec.{eqb}
 use Rattle.lists.specs.Bytes.{written}
-use Rattle.answers.specs.Refusals.{Row, Verdict, refuse, accept, verdict}
+use Rattle.tables.specs.Refusals.{Verdict, refuse, accept, verdict}
 use Rattle.reading.specs.Desk.{Desk, withResponse}
-use Rattle.reading.specs.Table.{Lent, lent, table}
+use Rattle.reading.specs.Table.{Lent, lent, lentRows}
 use Rattle.reading.specs.Read.{Left, reading}
 use Rattle.log_records.specs.declared.Next.{Next}
 use Rattle.log_records.specs.declared.Next.the-variants.{Record, End, Bad}
@@ -47,24 +47,24 @@ abbrev pub readIn : Run → List ℕ → Left
 readIn r packet = reading (lentIn r packet)
 
 -- the report of what reading a packet answers
-abbrev pub reportFor : List ℕ → Left → Report
-reportFor packet x = reportOf (x .says) (x .dropped) packet
+abbrev pub reportFor : Left → Report
+reportFor x = reportOf (x .says) (x .dropped) (x .replied)
 
 -- the packet is read: its response stands in its slot, its report in its own words
-abbrev pub answersPlaced : Run → List ℕ → ℕ → Left → Run
-answersPlaced r packet next x =
+abbrev pub answersPlaced : Run → ℕ → Left → Run
+answersPlaced r next x =
     run
     (withResponse (x .desk) (written (r .desk .response) (slotBytes * r .count) (x .desk .response)))
-    (written (r .reports) (reportWords * r .count) (wordsOfReport (reportFor packet x)))
+    (written (r .reports) (reportWords * r .count) (wordsOfReport (reportFor x)))
     (r .count + 1)
     next
 
 abbrev pub behind : Run → List ℕ → ℕ → Run
-behind r packet next = answersPlaced r packet next (readIn r packet)
+behind r packet next = answersPlaced r next (readIn r packet)
 
 -- the kind of its report
 abbrev pub kindIn : Run → List ℕ → ℕ
-kindIn r packet = reportFor packet (readIn r packet) .kind
+kindIn r packet = reportFor (readIn r packet) .kind
 
 -- ---- one step: a packet is read, or the burst stops
 
@@ -138,13 +138,9 @@ ran pause (suc room) burst r = onward (ran pause room burst) (stepIn pause (suc 
 unfoldable pub roomFor : ℕ → ℕ → ℕ
 roomFor words bytes = min (words / reportWords) (bytes / slotBytes)
 
--- the rows of the refusal table that look at no packet, 19 and 12, its first two: tested once
-unfoldable pub lentTable : Lent → List Row
-lentTable x = take 2 (table x)
-
--- what they say of the desk; no packet is looked at
+-- rows 19 and 12 of the refusal table look at no packet: they are tested once
 abbrev pub burstVerdict : Desk → Verdict
-burstVerdict d = verdict (lentTable (lent d []))
+burstVerdict d = verdict (lentRows d)
 
 abbrev pub burstBy : ℕ → Desk → (reports burst : List ℕ) → Verdict → Finished
 burstBy pause d reports burst (refuse number leaves) = finished (answering refusedAll number 0 0) d reports

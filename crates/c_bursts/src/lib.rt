@@ -59,7 +59,7 @@ fn read_packet(
         &mut responses[at..end],
         packet,
     );
-    let report = c_reports::reported(reading, packet);
+    let report = c_reports::reported(reading);
     c_reports::put(reports, c_reports::WORDS * count, report);
     report.kind
 }

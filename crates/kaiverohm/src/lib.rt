@@ -4,6 +4,7 @@ use c_bursts::Burst;
 use c_places::Place;
 use c_reports::Numbers;
 use c_reports::Report;
+use cutting::Heading;
 ghost use Rattle.reading.specs.Desk.{desk};
 ghost use Rattle.reading.specs.Table.{lent};
 ghost use Rattle.endpoint.specs.Calls.{LengthPromise};
@@ -46,7 +47,7 @@ pub extern "C" fn kaiverohm_read(
         r (desk (now (state .exit)) (now («stream_memory» .exit)) (now («message_memory» .exit)) (now (response .exit))) ⌝ }
 {
     let reading = endpoint::read(state, stream_memory, message_memory, response, packet);
-    c_reports::reported(reading, packet)
+    c_reports::reported(reading)
 }
 
 // Reads the packets of a burst.
