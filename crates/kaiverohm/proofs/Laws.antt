@@ -10,5 +10,5 @@ use Rattle.c_reports.specs.Reports.{reportOf}
 use Rattle.c_bursts.specs.Bursts.{reportFor}
 use Rattle.kaiverohm.specs.Exports.{ReadFromCPromise}
 
-pub handed : (x : Lent) (r : Reading) (report : Report) (after : Desk) → ReadPromise x r after → report ≡ reportOf (said (r .answer)) (r .dropped) (x .packet) → ReadFromCPromise x report after
-handed x r report after p e = record { report = e ∙ ap (reportFor (x .packet)) p; desk = ap (λ (l : Left). l .desk) p }
+pub handed : (x : Lent) (r : Reading) (report : Report) (after : Desk) → ReadPromise x r after → report ≡ reportOf (said (r .answer)) (r .dropped) (r .response) → ReadFromCPromise x report after
+handed x r report after p e = record { report = e ∙ ap reportFor p; desk = ap (λ (l : Left). l .desk) p }
