@@ -1,5 +1,4 @@
 -- An answer and what it says determine each other: no two cases of an enum say the same, and whatever can be said, a case says it.
--- An outcome is its answer and what it leaves.
 use mathlib.Core.Path.{_≡_, refl, ap, ap₂, sym, _∙_}
 use Rattle.answers.specs.declared.Answer.{Answer}
 use Rattle.answers.specs.declared.Answer.the-variants as answer

@@ -17,7 +17,7 @@ fewer r room space = record { replies = omega (arith, space .replies); answers =
 module _ (r : Run) (p : List ℕ) (next : ℕ) (room : Room r 1) where
   -- the words of its report
   abbrev told : List ℕ
-  told = wordsOfReport (reportFor p (readIn r p))
+  told = wordsOfReport (reportFor (readIn r p))
 
   pub slot-length : length (slot (r .desk .response) (r .count)) ≡ slotBytes
   slot-length = simp (length-take, length-drop) (omega (arith, room .replies))

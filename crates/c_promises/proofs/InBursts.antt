@@ -1,64 +1,66 @@
 -- A burst is calls one after another, each with its slot as the response buffer: by induction over the packets. Later packets leave the reports of
 -- earlier ones, and a report names what its packet delivers.
-use Prim.Native.Nat.{ℕ, _+_, _*_, _≤_}
+use Prim.Native.Nat.{ℕ, _+_, _*_, _≤_, _<_}
 use mathlib.Core.Path.{_≡_, refl, ap, ap₂, sym, _∙_, subst}
 use mathlib.Core.List.{List, [], _∷_, _++_, map}
 use mathlib.Core.Bool.{Bool, not}
 use native.Mathlib.Omega.{arith}
-use lib.ListN.{length, take, drop}
+use lib.ListN.{length, take, drop, length-replicate}
 use lib.Seq.{take-add, take-take, drop-at, drop-drop, length-take-le}
 use Rattle.lists.specs.Rows.{rows}
-use Rattle.answers.specs.Answers.{Said, held, delivered, message, refused, ready, closed, free, wrote}
-use Rattle.answers.specs.Refusals.{none}
-use Rattle.answers.proofs.Exactly.{none-held}
-use Rattle.contexts.specs.State.{Setup, State, fresh}
-use Rattle.contexts.specs.Words.{stateOf}
+use Rattle.answers.specs.declared.Begun.the-variants.{Ready}
+use Rattle.answers.specs.Answers.{Said, held, delivered, message, refused}
+use Rattle.tables.specs.Refusals.{none}
+use Rattle.tables.proofs.Exactly.{none-held}
+use Rattle.wire.specs.declared.Flow.{Flow}
+use Rattle.responses.specs.Type13.{responseSize}
+use Rattle.contexts.specs.State.{Setup, State, fresh, streamContexts}
+use Rattle.contexts.specs.Words.{stateOf, wordsOf}
 use Rattle.contexts.proofs.Words.{state-of}
 use Rattle.refusal19.proofs.Good.{neither}
-use Rattle.reading.specs.Desk.{Desk, stateOn}
-use Rattle.reading.specs.Table.{Lent, lent, isState, wrongSizes, table}
+use Rattle.reading.specs.Desk.{Desk, desk, stateOn}
+use Rattle.reading.specs.Table.{Lent, isState, wrongSizes, lentRows}
 use Rattle.reading.specs.Read.{reading}
 use Rattle.reading.proofs.Kept.{room-kept}
 use Rattle.reading.proofs.Left.{sizes-fit}
-use Rattle.reading.proofs.Spoken.{answered-by, says-it, promised}
+use Rattle.reading.proofs.Spoken.{answered-by, promised}
+use Rattle.endpoint.specs.Calls.{SetupPromise}
 use Rattle.c_reports.specs.declared.Report.{Report}
 use Rattle.c_reports.specs.Reports.{reportOf, reportWords, reportIn}
 use Rattle.flows.specs.Deliveries.{Delivery, deliveredOn, inRoom}
-use Rattle.flows.specs.Fresh.{Lends}
+use Rattle.flows.specs.Fresh.{Lends, zeroDesk}
 use Rattle.sending.specs.Sending.{packets}
 use Rattle.sending.proofs.Measured.{length-is-measured}
-use Rattle.c_bursts.specs.Bursts.{Run, run, slot, lentIn, readIn, behind, Finished, answering, atEnd, lentTable}
+use Rattle.c_bursts.specs.Bursts.{Run, run, slot, lentIn, readIn, behind, Finished, answering, atEnd}
 use Rattle.c_bursts.specs.Inside.{Room}
 use Rattle.c_bursts.proofs.Tests.{has-room}
-use Rattle.promises.specs.Statements.{Reads, stop, call}
-use Rattle.promises.proofs.Calls.{made, demand3-of-calls}
+use Rattle.demands.specs.Calls.{Fetches, none-held, none-message, none-refused, Reads, stop, call}
+use Rattle.demands.specs.OfCalls.{SetUp}
+use Rattle.demands.proofs.Calls.{fetched-is-delivered}
+use Rattle.demands.proofs.OfCalls.{set-up-is-fresh, demand3-of-calls}
 use Rattle.c_promises.specs.OfCalls.{allRead, Name, nameOf, namesIn, reportsIn, BurstReads, BurstIsReads, Demand3OfBursts}
 use Rattle.c_promises.proofs.Whole.{burst-is-calls}
-use Rattle.c_promises.proofs.FromC.{other-buffer}
+use Rattle.c_promises.proofs.FromC.{room-made, other-buffer, after-answer}
 use Rattle.c_promises.proofs.Behind.{fewer, slot-length, same-reports, report-placed, earlier-kept, more-room}
 
 -- ---- the name in a report
 
 -- the length in an answer is that of the bytes
 abbrev Measured : Desk → Said → Type 0
-Measured d says = (context source cos stream size : ℕ) → says ≡ delivered context source cos stream size → length (inRoom (stateOn d .setup .room) (d .streamMemory) context size) ≡ size
+Measured d says = (context : ℕ) (flow : Flow) (stream size : ℕ) → says ≡ delivered context flow stream size → length (inRoom (stateOn d .setup .room) (d .streamMemory) context size) ≡ size
 
-module _ (d : Desk) (dropped : Bool) (packet : List ℕ) (rest : List Report) (ds : List Delivery) (e : namesIn rest ≡ map nameOf ds) where
-  names-row : (says : Said) → Measured d says → namesIn (reportOf says dropped packet ∷ rest) ≡ map nameOf (deliveredOn d says ++ ds)
+module _ (d : Desk) (dropped : Bool) (replied : ℕ) (rest : List Report) (ds : List Delivery) (e : namesIn rest ≡ map nameOf ds) where
+  names-row : (says : Said) → Measured d says → namesIn (reportOf says dropped replied ∷ rest) ≡ map nameOf (deliveredOn d says ++ ds)
   unfolding reportOf
   names-row held m = e
-  names-row (delivered context source cos stream size) m =
-      ap₂ (λ (n : ℕ) (l : List Name). record { flow = record { source = source; cos = cos }; stream = stream; size = n } ∷ l) (sym (m context source cos stream size refl)) e
+  names-row (delivered context flow stream size) m =
+      ap₂ (λ (n : ℕ) (l : List Name). record { flow = flow; stream = stream; size = n } ∷ l) (sym (m context flow stream size refl)) e
   names-row (message context source letter mailbox size) m = e
   names-row (refused number) m = e
-  names-row ready m = e
-  names-row closed m = e
-  names-row free m = e
-  names-row (wrote size) m = e
 
 measured : (x : Lent) → Measured (reading x .desk) (reading x .says)
-measured x context source cos stream size e =
-    ap (λ (R : ℕ). length (inRoom R (reading x .desk .streamMemory) context size)) (room-kept x) ∙ length-is-measured (x .desk) (x .packet) context source cos stream size e
+measured x context flow stream size e =
+    ap (λ (R : ℕ). length (inRoom R (reading x .desk .streamMemory) context size)) (room-kept x) ∙ length-is-measured (x .desk) (x .packet) context flow stream size e
 
 -- ---- packet by packet
 
@@ -69,13 +71,25 @@ part-same a n l m h g e =
     ∙ (ap (drop a) (sym (take-add a n l) ∙ (e ∙ take-add a n m))
     ∙ drop-at (take a m) (take n (drop a m)) a (length-take-le a m g))
 
+-- after every answer a caller can fetch; and it fetches what is delivered
+fetch-made : (d : Desk) (says : Said) → (fetched : List Delivery) × Fetches d says fetched
+fetch-made d held = (_, none-held)
+fetch-made d (delivered context flow stream size) = (_, room-made d context flow stream size _ refl)
+fetch-made d (message context source letter mailbox size) = (_, none-message)
+fetch-made d (refused number) = (_, none-refused)
+
+fetch-delivered : (x : Lent) → Fetches (reading x .desk) (reading x .says) (deliveredOn (reading x .desk) (reading x .says))
+fetch-delivered x =
+    let m = fetch-made (reading x .desk) (reading x .says) in
+    subst (Fetches (reading x .desk) (reading x .says)) (fetched-is-delivered (x .desk) (x .packet) (m .0) (m .1)) (m .1)
+
 -- the call of one packet, with its slot as the response buffer
-pub call-made : (r : Run) (p : List ℕ) (next : ℕ) → Room r 1 → {ps : List (List ℕ)} {ds : List Delivery} → Reads (behind r p next .desk) ps ds
-    → Reads (r .desk) (p ∷ ps) (deliveredOn (readIn r p .desk) (readIn r p .says) ++ ds)
-call-made r p next room {ps = ps} {ds = ds} rest =
+pub call-made : (r : Run) (p : List ℕ) (next : ℕ) → Room r 1 → {fetched : List Delivery} → Fetches (readIn r p .desk) (readIn r p .says) fetched
+    → {ps : List (List ℕ)} {ds : List Delivery} → Reads (behind r p next .desk) ps ds → Reads (r .desk) (p ∷ ps) (fetched ++ ds)
+call-made r p next room fetch rest =
     let x : Lent = lentIn r p in
-    subst (λ (s : Said). Reads (r .desk) (p ∷ ps) (deliveredOn (readIn r p .desk) s ++ ds)) (says-it x)
-    (call (answered-by x) (slot (r .desk .response) (r .count)) (readIn r p .desk) (omega (arith, slot-length r p next room)) (promised x) (other-buffer (readIn r p .desk .response) rest))
+    call (answered-by x) (slot (r .desk .response) (r .count)) (omega (arith, slot-length r p next room)) (promised x)
+    (after-answer x (readIn r p .desk) fetch) (other-buffer (readIn r p .desk .response) rest)
 
 -- what is known of a run that goes on over these packets
 record Chain (end : ℕ) (r : Run) (packets : List (List ℕ)) : Type 0 where
@@ -104,7 +118,7 @@ chain end (p ∷ ps) r room =
     drop-drop reportWords here last ∙ ap (λ (k : ℕ). drop k last) (sym place) in
     record {
       ds = deliveredOn (readIn r p .desk) (readIn r p .says) ++ c .ds;
-      reads = call-made r p end one (c .reads);
+      reads = call-made r p end one (fetch-delivered (lentIn r p)) (c .reads);
       count = omega (arith, c .count);
       next = c .next;
       size = c .size ∙ same;
@@ -115,7 +129,7 @@ chain end (p ∷ ps) r room =
           ∙ earlier-kept r p end one));
       names =
           ap₂ (λ (a b : List ℕ). namesIn (reportIn a ∷ reportsIn (length ps) b)) row behind-it
-          ∙ names-row (readIn r p .desk) (readIn r p .dropped) p (reportsIn (length ps) (drop (reportWords * (r .count + 1)) last)) (c .ds) (c .names) (readIn r p .says) (measured (lentIn r p));
+          ∙ names-row (readIn r p .desk) (readIn r p .dropped) (readIn r p .replied) (reportsIn (length ps) (drop (reportWords * (r .count + 1)) last)) (c .ds) (c .names) (readIn r p .says) (measured (lentIn r p));
     }
 
 -- ---- the whole burst
@@ -137,15 +151,22 @@ burst-is-reads d reports burst packets answer after reports′ w promise =
     )
 
 -- rows 19 and 12 passed: the memories have the sizes that 12 wants
-lends : (setup : Setup) (d : Desk) → stateOn d .setup ≡ setup → none (lentTable (lent d [])) → Lends setup d
-unfolding lentTable table none
+lends : (setup : Setup) (d : Desk) → stateOn d .setup ≡ setup → none (lentRows d) → Lends setup d
+unfolding lentRows none
 lends setup d e n =
-    let s = sizes-fit d (neither (not (isState (lent d []))) (wrongSizes d) (n .1 .0) .1) in
-    record { rooms = s .0 ∙ ap (λ (f : Setup). 16 * f .room) e; boxes = s .1; reply = s .2 }
+    let s = sizes-fit d (neither (not (isState d)) (wrongSizes d) (n .1 .0) .1) in
+    record { rooms = s .0 ∙ ap (λ (f : Setup). streamContexts * f .room) e; boxes = s .1; reply = s .2 }
+
+-- what setup leaves in the words: shown at a desk of zeros
+made : (setup : Setup) (words before : List ℕ) → setup .device < 65536 → SetupPromise before (setup .device) (setup .mtu) (setup .room) Ready words → words ≡ wordsOf (fresh setup)
+made setup words before small set =
+    let d : Desk = desk words (zeroDesk setup .streamMemory) (zeroDesk setup .messageMemory) (zeroDesk setup .response) in
+    let sizes : Lends setup d = record { rooms = length-replicate _ 0; boxes = length-replicate _ 0; reply = omega (arith, length-replicate {A = ℕ} responseSize 0) } in
+    set-up-is-fresh setup d (record { device-ID = small; before = before; ready = set; lends = sizes }) .words
 
 pub demand3-of-bursts : Demand3OfBursts
 demand3-of-bursts setup s words d reports burst answer after reports′ small set fair w promise =
-    let own : stateOn d .setup ≡ setup = ap (λ (l : List ℕ). stateOf l .setup) (made words setup (d .words) set .state) ∙ ap (λ (t : State). t .setup) (state-of (fresh setup) refl refl) in
+    let own : stateOn d .setup ≡ setup = ap (λ (l : List ℕ). stateOf l .setup) (made setup (d .words) words small set) ∙ ap (λ (t : State). t .setup) (state-of (fresh setup) refl refl) in
+    let up : SetUp setup d = record { device-ID = small; before = words; ready = set; lends = lends setup d own (none-held (lentRows d) (w .passed)) } in
     let c = burst-is-reads d reports burst (packets setup s) answer after reports′ w promise in
-    let l = lends setup d own (none-held (lentTable (lent d [])) (w .passed)) in
-    subst (BurstReads d burst (packets setup s) answer reports′) (demand3-of-calls setup s words d (c .0) small set l fair (c .1 .reads)) (c .1)
+    subst (BurstReads d burst (packets setup s) answer reports′) (demand3-of-calls setup d s (c .0) up (fair .sent-fairly) (fair .one-loss) (fair .neighbours) (c .1 .reads)) (c .1)

@@ -2,6 +2,7 @@ mod Once
 mod Reply
 mod Whole
 mod FromC
+mod Places
 mod Behind
 mod InBursts
 mod NotEmpty

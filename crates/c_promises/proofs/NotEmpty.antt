@@ -9,7 +9,7 @@ use Rattle.sending.specs.Sending.{packets}
 use Rattle.sending.specs.Mixture.{smallSetup, mixture}
 use Rattle.sending.proofs.Mixture.{mixture-is-fair}
 use Rattle.paper_examples.proofs.Computing.{computing}
-use Rattle.c_bursts.specs.Bursts.{lentTable, roomFor}
+use Rattle.c_bursts.specs.Bursts.{roomFor}
 use Rattle.c_promises.specs.OfCalls.{BurstNotEmpty}
 
 -- seven packets, all of them short
@@ -20,7 +20,7 @@ seven : length (packets smallSetup mixture) ≡ 7
 seven = ap length (mixture-is-fair .left)
 
 pub burst-not-empty : BurstNotEmpty
-unfolding computing lentTable roomFor
+unfolding computing roomFor
 burst-not-empty = record {
   short = all-short;
   whole-burst = record { whole-records = log-reads-back (packets smallSetup mixture) all-short; passed = refl; room = let h : length (packets smallSetup mixture) ≤ 7 = omega (arith, seven) in h };

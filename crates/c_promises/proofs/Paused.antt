@@ -10,30 +10,32 @@ use lib.Dec.{eqb}
 use lib.ListN.{length, take, drop, length-append}
 use lib.Seq.{drop-at}
 use borrow.Author.Tests.{ne-eqb}
-use Rattle.answers.specs.Answers.{Said, held, delivered, message, refused, ready, closed, free, wrote}
-use Rattle.answers.specs.Refusals.{Verdict, refuse, accept}
+use Rattle.answers.specs.Answers.{Said, held, delivered, message, refused}
+use Rattle.tables.specs.Refusals.{Verdict, refuse, accept}
 use Rattle.reading.specs.Desk.{Desk, withResponse}
 use Rattle.log_records.specs.declared.Next.the-variants.{Record, End}
 use Rattle.log_records.specs.Records.{nextRecord}
 use Rattle.log_records.specs.Written.{lengthBytes, writtenLog, AllShort}
 use Rattle.log_records.proofs.Back.{stands, packet-of, ended}
+use Rattle.c_reports.specs.declared.Report.{Report}
 use Rattle.c_reports.specs.Reports.{reportOf, reportIn}
-use Rattle.flows.specs.Deliveries.{Delivery, deliveredOn}
-use Rattle.c_bursts.specs.Bursts.{Run, run, readIn, behind, kindIn, stepLeft, stepOver, stepIn, pauseOf, atEnd, isFull, atDelivery, Finished, stopped, ran, roomFor, burstVerdict, burstBy, readBurst}
+use Rattle.flows.specs.Deliveries.{Delivery}
+use Rattle.c_bursts.specs.Bursts.{Run, run, lentIn, readIn, reportFor, behind, kindIn, stepLeft, stepOver, stepIn, pauseOf, atEnd, isFull, atDelivery, Finished, stopped, ran, roomFor, burstVerdict, burstBy, readBurst}
 use Rattle.c_bursts.specs.Inside.{Room}
 use Rattle.c_bursts.proofs.Steps.{at-end, at-full, over-packet, stops, goes-on}
 use Rattle.c_bursts.proofs.Tests.{has-room}
-use Rattle.promises.specs.Statements.{Reads, stop}
-use Rattle.promises.proofs.Calls.{demand3-of-calls}
+use Rattle.demands.specs.Calls.{Fetches, none-held, none-message, none-refused, Reads, stop}
+use Rattle.demands.proofs.OfCalls.{demand3-of-calls}
 use Rattle.c_promises.specs.OfCalls as stated
-use Rattle.c_promises.specs.OfCalls.{reportDelivers, reportAt, lastDelivers, PausedCall, Bursts, PausedBurstsAreReads, Demand3OfPausedBursts}
-use Rattle.c_promises.proofs.FromC.{other-buffer, report-delivers}
+use Rattle.c_promises.specs.OfCalls.{reportAt, lastReport, FetchesFromC, PausedCall, Bursts, PausedBurstsAreReads, Demand3OfPausedBursts}
+use Rattle.c_promises.proofs.FromC.{other-buffer, fetched-from-c}
 use Rattle.c_promises.proofs.Behind.{fewer, report-placed, more-room}
 use Rattle.c_promises.proofs.InBursts.{call-made}
 
--- what the call delivers: its last report's, where it stopped at a delivery
-abbrev delivers : Finished → List Delivery
-delivers f = cond (eqb (f .answer .stop) atDelivery) (lastDelivers f) []
+-- what is fetched after a call: what its last report names, where it stopped at a delivery
+data Fetched (f : Finished) : List Delivery → Type 0 where
+  at-delivery : {fetched : List Delivery} → f .answer .stop ≡ atDelivery → FetchesFromC (f .desk) (lastReport f) fetched → Fetched f fetched
+  elsewhere : (f .answer .stop ≡ atDelivery → ⊥) → Fetched f []
 
 -- a burst that was read in part, from a desk on
 record Part (burst : List ℕ) (d : Desk) (packets : List (List ℕ)) (f : Finished) : Type 0 where
@@ -41,7 +43,13 @@ record Part (burst : List ℕ) (d : Desk) (packets : List (List ℕ)) (f : Finis
   short : AllShort rest
   unread : drop (f .answer .next) burst ≡ writtenLog rest
   none-left : f .answer .stop ≡ atEnd → rest ≡ []
-  reads : (ds : List Delivery) → Reads (f .desk) rest ds → Reads d packets (delivers f ++ ds)
+  reads : {fetched ds : List Delivery} → Fetched f fetched → Reads (f .desk) rest ds → Reads d packets (fetched ++ ds)
+
+-- nothing was read, and nothing is fetched
+untouched : {f : Finished} {d : Desk} {packets : List (List ℕ)} {fetched ds : List Delivery} → (f .answer .stop ≡ atDelivery → ⊥) → Fetched f fetched → Reads d packets ds
+    → Reads d packets (fetched ++ ds)
+untouched other (at-delivery stop fetch) more = absurd (other stop)
+untouched other (elsewhere _) more = more
 
 module _ (pause : ℕ) (asked : pause ≡ 0 → ⊥) where
   -- a burst goes on, or it stops at a delivery
@@ -55,18 +63,14 @@ module _ (pause : ℕ) (asked : pause ≡ 0 → ⊥) where
       go false false true = inr refl
       go false false false = inl refl
 
-  -- where it goes on, no PDU was delivered
-  quiet : (d : Desk) (says : Said) (dropped : Bool) (packet : List ℕ) → pauseOf pause (reportOf says dropped packet .kind) ≡ 0 → deliveredOn d says ≡ []
+  -- where it goes on, there is nothing to fetch
+  quiet : (d : Desk) (says : Said) (dropped : Bool) (replied : ℕ) → pauseOf pause (reportOf says dropped replied .kind) ≡ 0 → Fetches d says []
   unfolding pauseOf reportOf
-  quiet d held dropped packet e = refl
-  quiet d (delivered context source cos stream size) dropped packet e =
+  quiet d held dropped replied e = none-held
+  quiet d (delivered context flow stream size) dropped replied e =
       let z : atDelivery ≡ 0 = rw (ne-eqb pause 0 asked) at e in absurd (omega (arith, z))
-  quiet d (message context source letter mailbox size) dropped packet e = refl
-  quiet d (refused number) dropped packet e = refl
-  quiet d ready dropped packet e = refl
-  quiet d closed dropped packet e = refl
-  quiet d free dropped packet e = refl
-  quiet d (wrote size) dropped packet e = refl
+  quiet d (message context source letter mailbox size) dropped replied e = none-message
+  quiet d (refused number) dropped replied e = none-refused
 
   module _ (burst : List ℕ) where
     -- at the end of the records
@@ -80,7 +84,7 @@ module _ (pause : ℕ) (asked : pause ≡ 0 → ⊥) where
           short = tt;
           unread = ap₂ drop at e ∙ drop-at front [] (length front) refl;
           none-left = λ z. refl;
-          reads = λ ds more. more;
+          reads = λ fetch more. untouched (λ z. omega (arith, z)) fetch more;
         })
 
     module _ (p : List ℕ) (qs : List (List ℕ)) (front : List ℕ) (r : Run) (e : burst ≡ front ++ writtenLog (p ∷ qs)) (at : r .next ≡ length front) (short : AllShort (p ∷ qs)) where
@@ -121,7 +125,7 @@ module _ (pause : ℕ) (asked : pause ≡ 0 → ⊥) where
             short = short;
             unread = ap₂ drop at e ∙ drop-at front (writtenLog (p ∷ qs)) (length front) refl;
             none-left = λ z. absurd (omega (arith, z));
-            reads = λ ds more. more;
+            reads = λ fetch more. untouched (λ z. omega (arith, z)) fetch more;
           })
 
       module _ (room : ℕ) (space : Room r (suc room)) where
@@ -138,20 +142,25 @@ module _ (pause : ℕ) (asked : pause ≡ 0 → ⊥) where
               short = short .1;
               unread = ap₂ drop place again ∙ drop-at further (writtenLog qs) (length further) refl;
               none-left = λ z. absurd (omega (arith, z));
-              reads = λ ds more. subst (λ (l : List Delivery). Reads (r .desk) (p ∷ qs) (l ++ ds)) told (call-made r p next one more);
+              reads = fetched-behind;
             })
           where
             one : Room r 1
             one = fewer r room space
 
-            last : r .count + 1 - 1 ≡ r .count
-            last = omega arith
-
-            told : deliveredOn (readIn r p .desk) (readIn r p .says) ≡ reportDelivers (readIn r p .desk) (reportAt (behind r p next .reports) (r .count + 1 - 1))
+            -- its report is the call's last
+            told : reportAt (behind r p next .reports) (r .count + 1 - 1) ≡ reportFor (readIn r p)
             told =
-                sym (report-delivers (readIn r p .desk) (readIn r p .says) (readIn r p .dropped) p)
-                ∙ (ap (λ (w : List ℕ). reportDelivers (readIn r p .desk) (reportIn w)) (sym (report-placed r p next one))
-                ∙ ap (λ (n : ℕ). reportDelivers (readIn r p .desk) (reportAt (behind r p next .reports) n)) (sym last))
+                let last : r .count + 1 - 1 ≡ r .count = omega arith in
+                ap (reportAt (behind r p next .reports)) last ∙ ap reportIn (report-placed r p next one)
+
+            fetched-behind : {fetched ds : List Delivery} → Fetched (stopped (stepLeft atDelivery (behind r p next))) fetched → Reads (behind r p next .desk) qs ds
+                → Reads (r .desk) (p ∷ qs) (fetched ++ ds)
+            fetched-behind (elsewhere other) more = absurd (other refl)
+            fetched-behind (at-delivery {fetched = fetched} stop fetch) more =
+                call-made r p next one
+                (fetched-from-c (readIn r p .desk) (behind r p next .desk .response) (readIn r p .says) (readIn r p .dropped) (readIn r p .replied)
+                (subst (λ (q : Report). FetchesFromC (behind r p next .desk) q fetched) told fetch)) more
 
         -- it does not: the burst goes on behind it
         part-goes : pauseOf pause (kindIn r p) ≡ 0 → Part burst (behind r p next .desk) qs (ran pause room burst (behind r p next))
@@ -165,9 +174,8 @@ module _ (pause : ℕ) (asked : pause ≡ 0 → ⊥) where
               short = part .short;
               unread = part .unread;
               none-left = part .none-left;
-              reads = λ ds more.
-                  subst (λ (l : List Delivery). Reads (r .desk) (p ∷ qs) (l ++ (delivers (ran pause room burst (behind r p next)) ++ ds)))
-                  (quiet (readIn r p .desk) (readIn r p .says) (readIn r p .dropped) p k) (call-made r p next (fewer r room space) (part .reads ds more));
+              reads = λ fetch more.
+                  call-made r p next (fewer r room space) (quiet (readIn r p .desk) (readIn r p .says) (readIn r p .dropped) (readIn r p .replied) k) (part .reads fetch more);
             })
 
     part : (room : ℕ) (packets : List (List ℕ)) (front : List ℕ) (r : Run) → burst ≡ front ++ writtenLog packets → r .next ≡ length front → AllShort packets
@@ -202,25 +210,22 @@ called {d = d} {burst = burst} {f = f} c packets e short n =
     let p : Part burst (withResponse d (c .responses)) packets f =
     subst (Part burst (withResponse d (c .responses)) packets) (sym (c .promised))
     (call-part (c .pause) (c .asked) burst packets (withResponse d (c .responses)) (c .reports) e short (λ z. n (ap (λ (g : Finished). g .answer .stop) (c .promised) ∙ z))) in
-    record { rest = p .rest; short = p .short; unread = p .unread; none-left = p .none-left; reads = λ ds more. other-buffer (d .response) (p .reads ds more) }
+    record { rest = p .rest; short = p .short; unread = p .unread; none-left = p .none-left; reads = λ fetch more. other-buffer (d .response) (p .reads fetch more) }
 
 are-reads : {d : Desk} {burst : List ℕ} {ds : List Delivery} → Bursts d burst ds → (packets : List (List ℕ)) → burst ≡ writtenLog packets → AllShort packets → Reads d packets ds
-are-reads (stated.ended {d = d} f c halt) packets e short =
+are-reads (stated.ended f c halt) packets e short =
     let p = called c packets e short (λ z. omega (arith, z, halt)) in
-    let last : delivers f ++ [] ≡ [] = rw halt in
-    subst (Reads d packets) last (p .reads [] (subst (λ (l : List (List ℕ)). Reads (f .desk) l []) (sym (p .none-left halt)) stop))
-are-reads (stated.full {d = d} {ds = ds} f c halt more) packets e short =
+    p .reads (elsewhere (λ z. omega (arith, z, halt))) (subst (λ (l : List (List ℕ)). Reads (f .desk) l []) (sym (p .none-left halt)) stop)
+are-reads (stated.full f c halt more) packets e short =
     let p = called c packets e short (λ z. omega (arith, z, halt)) in
-    let last : delivers f ++ ds ≡ ds = rw halt in
-    subst (Reads d packets) last (p .reads ds (are-reads more (p .rest) (p .unread) (p .short)))
-are-reads (stated.paused {d = d} {ds = ds} f c halt more) packets e short =
+    p .reads (elsewhere (λ z. omega (arith, z, halt))) (are-reads more (p .rest) (p .unread) (p .short))
+are-reads (stated.paused f c halt fetch more) packets e short =
     let p = called c packets e short (λ z. omega (arith, z, halt)) in
-    let last : delivers f ++ ds ≡ lastDelivers f ++ ds = rw halt in
-    subst (Reads d packets) last (p .reads ds (are-reads more (p .rest) (p .unread) (p .short)))
+    p .reads (at-delivery halt fetch) (are-reads more (p .rest) (p .unread) (p .short))
 
 pub paused-bursts-are-reads : PausedBurstsAreReads
 paused-bursts-are-reads d packets ds short bursts = are-reads bursts packets refl short
 
 pub demand3-of-paused-bursts : Demand3OfPausedBursts
-demand3-of-paused-bursts setup s words d ds small set lends fair short bursts =
-    demand3-of-calls setup s words d ds small set lends fair (are-reads bursts _ refl short)
+demand3-of-paused-bursts setup d s ds up fair short bursts =
+    demand3-of-calls setup d s ds up (fair .sent-fairly) (fair .one-loss) (fair .neighbours) (are-reads bursts _ refl short)

@@ -6,31 +6,35 @@ use mathlib.Core.Bool.{true, cond}
 use lib.ListN.{length, take, drop, replicate}
 use lib.Dec.{eqb}
 use Rattle.lists.specs.Rows.{rows}
+use Rattle.tables.specs.Refusals.{accept}
 use Rattle.answers.specs.declared.Begun.the-variants.{Ready}
 use Rattle.answers.specs.Once.{Outcome, OneOutcome, Once}
-use Rattle.answers.specs.Refusals.{accept}
 use Rattle.wire.specs.declared.Flow.{Flow}
-use Rattle.responses.specs.Type13.{answered}
+use Rattle.responses.specs.Type13.{responseSize, answered}
 use Rattle.contexts.specs.State.{Setup}
+use Rattle.message_rooms.specs.Placing.{messageRoomBytes}
 use Rattle.reading.specs.Desk.{Desk, stateOn, withResponse}
 use Rattle.reading.specs.Table.{Lent, lent}
 use Rattle.reading.specs.Read.{reading}
-use Rattle.endpoint.specs.Calls.{SetupPromise}
+use Rattle.endpoint.specs.Calls.{part, SetupPromise}
+use Rattle.cutting.specs.declared.Heading.{Heading}
 use Rattle.flows.specs.OneFlow.{pdu}
-use Rattle.flows.specs.Deliveries.{Delivery, delivery, inRoom}
-use Rattle.flows.specs.Fresh.{Lends, freshDesk, zeroDesk}
+use Rattle.flows.specs.Deliveries.{Delivery, delivery}
+use Rattle.flows.specs.Fresh.{Lends, zeroDesk}
+use Rattle.flows.specs.ByFlow.{AreBytes}
 use Rattle.sending.specs.Sending.{Sending, packets, whole, Fair}
 use Rattle.sending.specs.Mixture.{smallSetup, mixture}
-use Rattle.promises.specs.Statements.{Reads}
+use Rattle.demands.specs.Calls.{Reads}
+use Rattle.demands.specs.OfCalls.{SetUp}
 use Rattle.log_records.specs.Records.{records, recordsOf}
 use Rattle.log_records.specs.Written.{writtenLog, AllShort}
 use Rattle.c_reports.specs.declared.Numbers.{Numbers}
 use Rattle.c_reports.specs.declared.Report.{Report}
-use Rattle.c_reports.specs.Reports.{responseOf, reportWords, reportIn}
-use Rattle.c_places.specs.Places.{StreamPlacePromise, MessagePlacePromise}
+use Rattle.c_reports.specs.Reports.{reportWords, reportIn}
+use Rattle.c_places.specs.declared.Place.{Place}
+use Rattle.c_places.specs.Places.{placeOf, StreamPlacePromise, MessagePlacePromise}
 use Rattle.c_bursts.specs.declared.Burst.{Burst}
-use Rattle.c_bursts.specs.Bursts.{slotBytes, Run, run, behind, stepLeft, atEnd, isFull, atDelivery, answering, stopped, Finished, roomFor, burstVerdict, readBurst, BurstPromise}
-use Rattle.kaiverohm.specs.declared.Heading.{Heading}
+use Rattle.c_bursts.specs.Bursts.{slotBytes, Run, run, reportFor, behind, stepLeft, atEnd, isFull, atDelivery, answering, stopped, Finished, roomFor, burstVerdict, readBurst, BurstPromise}
 use Rattle.kaiverohm.specs.Exports.{SetupFromCPromise, ReadFromCPromise, AbandonStreamFromCPromise, AbandonMessageFromCPromise, WriteFromCPromise}
 
 -- ---- What a report says of the response is what reading wrote there.
@@ -38,10 +42,10 @@ use Rattle.kaiverohm.specs.Exports.{SetupFromCPromise, ReadFromCPromise, Abando
 -- the bytes of response that a report names, and the response buffer as it is left: none and as it was, or seven and a response to the packet
 pub data Reply (x : Lent) : ℕ → List ℕ → Type 0 where
   silent : Reply x 0 (x .desk .response)
-  answers : (status : ℕ) → Reply x 7 (answered (x .desk .response) (x .packet) status)
+  answers : (status : ℕ) → Reply x responseSize (answered (x .desk .response) (x .packet) status)
 
 abbrev pub ReportsReply : Type 0
-ReportsReply = (x : Lent) → Reply x (responseOf (reading x .says) (x .packet)) (reading x .desk .response)
+ReportsReply = (x : Lent) → Reply x (reportFor (reading x) .response) (reading x .desk .response)
 
 -- ---- A burst of whole records that has room for all its packets is read to its end: as many reports as packets, each packet read at the
 -- desk that the one before left.
@@ -64,7 +68,7 @@ BurstIsCalls =
 
 -- a desk that was just set up, with responses for seven; and their reports
 abbrev pub deskForSeven : Desk
-deskForSeven = freshDesk smallSetup (replicate 1024 0) (replicate 32768 0) (replicate (slotBytes * 7) 0)
+deskForSeven = withResponse (zeroDesk smallSetup) (replicate (slotBytes * 7) 0)
 
 abbrev pub sevenReports : List ℕ
 sevenReports = replicate (reportWords * 7) 0
@@ -74,33 +78,62 @@ pub record BurstNotEmpty : Type 0 where
   pub short : AllShort (packets smallSetup mixture)
   pub whole-burst : WholeBurst deskForSeven sevenReports (writtenLog (packets smallSetup mixture)) (packets smallSetup mixture)
 
+-- ---- The room of what is delivered, from C: after a delivery the room call with the report's context and length answers the whole place, no
+-- empty one: the part that Rattle's call hands back. Of PDUs (kind 2) and of messages (kind 3).
+
+pub record RoomOfDeliveredFromC : Type 0 where
+  pub of-PDU : (x : Lent) (place : Place) → reportFor (reading x) .kind ≡ 2
+      → StreamPlacePromise (reading x .desk .words) (length (reading x .desk .streamMemory)) (reportFor (reading x) .context) (reportFor (reading x) .length) place
+      → place ≡ placeOf (part (reportFor (reading x) .context * stateOn (reading x .desk) .setup .room) (reportFor (reading x) .length))
+  pub of-message : (x : Lent) (place : Place) → AreBytes (x .packet) → reportFor (reading x) .kind ≡ 3
+      → MessagePlacePromise (reading x .desk .words) (length (reading x .desk .messageMemory)) (reportFor (reading x) .context) (reportFor (reading x) .length) place
+      → place ≡ placeOf (part (reportFor (reading x) .context * messageRoomBytes) (reportFor (reading x) .length))
+
 -- ---- Demand 3 from C: what a caller makes of the reports is exactly what is whole.
 
--- the PDU that a report names, if one: those of kind 2, with the bytes that its room holds
-abbrev pub reportDelivers : Desk → Report → List Delivery
-reportDelivers d r =
-    cond (eqb (r .kind) 2)
-    (delivery (record { source = r .source; cos = r .«cos_or_letter» }) (pdu (r .«stream_or_mailbox») (inRoom (stateOn d .setup .room) (d .streamMemory) (r .context) (r .length))) ∷ [])
-    []
+-- the bytes at a place of a memory
+abbrev pub bytesAt : List ℕ → Place → List ℕ
+bytesAt memory place = take (place .length) (drop (place .offset) memory)
 
--- calls of `kaiverohm_read`, one for each packet, as `Reads` of the page of statements; and what their reports deliver
+-- the flow that a report names
+abbrev pub flowIn : Report → Flow
+flowIn r = record { source = r .source; cos = r .«cos_or_letter» }
+
+-- What a caller in C fetches after a report. A PDU is delivered (kind 2): one call of `kaiverohm_stream_room` with the report's context and length,
+-- for the stream memory as it was left; its bytes are those at the place that the call answers. After any other report nothing is fetched
+pub data FetchesFromC (d : Desk) (r : Report) : List Delivery → Type 0 where
+  at-place : (place : Place) → r .kind ≡ 2
+      → StreamPlacePromise (d .words) (length (d .streamMemory)) (r .context) (r .length) place
+      → FetchesFromC d r (delivery (flowIn r) (pdu (r .«stream_or_mailbox») (bytesAt (d .streamMemory) place)) ∷ [])
+  nothing : (r .kind ≡ 2 → ⊥) → FetchesFromC d r []
+
+-- calls of `kaiverohm_read`, one for each packet, as `Reads` (demands/specs/Calls.antt); and what is fetched after their reports
 pub data ReadsFromC : Desk → List (List ℕ) → List Delivery → Type 0 where
   no-more : {d : Desk} → ReadsFromC d [] []
-  one-more : {d : Desk} {p : List ℕ} {ps : List (List ℕ)} {ds : List Delivery} (r : Report) (given : List ℕ) (after : Desk)
-      → 7 ≤ length given
-      → ReadFromCPromise (lent (withResponse d given) p) r after
-      → ReadsFromC after ps ds
-      → ReadsFromC d (p ∷ ps) (reportDelivers after r ++ ds)
+  one-more : {d left : Desk} {p : List ℕ} {ps : List (List ℕ)} {fetched ds : List Delivery} (r : Report) (given : List ℕ)
+      → responseSize ≤ length given
+      → ReadFromCPromise (lent (withResponse d given) p) r left
+      → FetchesFromC left r fetched
+      → ReadsFromC left ps ds
+      → ReadsFromC d (p ∷ ps) (fetched ++ ds)
 
 abbrev pub CallsFromCAreReads : Type 0
 CallsFromCAreReads = (d : Desk) (ps : List (List ℕ)) (ds : List Delivery) → ReadsFromC d ps ds → Reads d ps ds
 
--- a setup from C that says ready (kind 4), and then a call for each packet
+-- from fresh: a setup from C said ready (kind 4), and memories that 12 allows are lent
+pub record SetUpFromC (setup : Setup) (d : Desk) : Type 0 where
+  pub device-ID : setup .device < 65536
+  pub before : List ℕ
+  pub answer : Numbers
+  pub promised : SetupFromCPromise before (setup .device) (setup .mtu) (setup .room) answer (d .words)
+  pub ready : answer .kind ≡ 4
+  pub lends : Lends setup d
+
+-- and then a call for each packet
 abbrev pub Demand3FromC : Type 0
 Demand3FromC =
-    (setup : Setup) (s : Sending) (words : List ℕ) (r : Numbers) (d : Desk) (ds : List Delivery)
-    → setup .device < 65536 → SetupFromCPromise words (setup .device) (setup .mtu) (setup .room) r (d .words) → r .kind ≡ 4
-    → Lends setup d → Fair setup s
+    (setup : Setup) (d : Desk) (s : Sending) (ds : List Delivery)
+    → SetUpFromC setup d → Fair setup s
     → ReadsFromC d (packets setup s) ds
     → ds ≡ whole setup s
 
@@ -126,7 +159,7 @@ reportAt reports k = reportIn (take reportWords (drop (reportWords * k) reports)
 abbrev pub namesIn : List Report → List Name
 namesIn [] = []
 namesIn (r ∷ rs) =
-    cond (eqb (r .kind) 2) (record { flow = record { source = r .source; cos = r .«cos_or_letter» }; stream = r .«stream_or_mailbox»; size = r .length } ∷ namesIn rs) (namesIn rs)
+    cond (eqb (r .kind) 2) (record { flow = flowIn r; stream = r .«stream_or_mailbox»; size = r .length } ∷ namesIn rs) (namesIn rs)
 
 -- Without a pause: all packets are read, by calls that deliver `ds`, and the reports name these. A delivered PDU's bytes are those in its room when
 -- its packet was read; a later packet of the burst may take the room and write over them before the call returns.
@@ -158,18 +191,19 @@ pub record PausedCall (d : Desk) (burst : List ℕ) (f : Finished) : Type 0 wher
   pub reports : List ℕ
   pub promised : BurstPromise pause (withResponse d responses) reports burst (f .answer) (f .desk) (f .reports)
 
--- what the last report of a call delivers
-abbrev pub lastDelivers : Finished → List Delivery
-lastDelivers f = reportDelivers (f .desk) (reportAt (f .reports) (f .answer .count - 1))
+-- the last report of a call
+abbrev pub lastReport : Finished → Report
+lastReport f = reportAt (f .reports) (f .answer .count - 1)
 
 -- Such calls, each over the records that the one before left unread, with the state and the memories that it left; until one stops at the
--- end. Where one stopped at a delivery, its last report delivers.
+-- end. Where one stopped at a delivery, the caller fetches what its last report names.
 pub data Bursts : Desk → List ℕ → List Delivery → Type 0 where
   ended : {d : Desk} {burst : List ℕ} (f : Finished) → PausedCall d burst f → f .answer .stop ≡ atEnd → Bursts d burst []
   full : {d : Desk} {burst : List ℕ} {ds : List Delivery} (f : Finished) → PausedCall d burst f → f .answer .stop ≡ isFull
       → Bursts (f .desk) (drop (f .answer .next) burst) ds → Bursts d burst ds
-  paused : {d : Desk} {burst : List ℕ} {ds : List Delivery} (f : Finished) → PausedCall d burst f → f .answer .stop ≡ atDelivery
-      → Bursts (f .desk) (drop (f .answer .next) burst) ds → Bursts d burst (lastDelivers f ++ ds)
+  paused : {d : Desk} {burst : List ℕ} {fetched ds : List Delivery} (f : Finished) → PausedCall d burst f → f .answer .stop ≡ atDelivery
+      → FetchesFromC (f .desk) (lastReport f) fetched
+      → Bursts (f .desk) (drop (f .answer .next) burst) ds → Bursts d burst (fetched ++ ds)
 
 -- such calls can be made, over the packets of that sending; and these deliver what is whole of it
 abbrev pub PausedBurstsNotEmpty : Type 0
@@ -181,8 +215,8 @@ PausedBurstsAreReads = (d : Desk) (packets : List (List ℕ)) (ds : List Deliver
 
 abbrev pub Demand3OfPausedBursts : Type 0
 Demand3OfPausedBursts =
-    (setup : Setup) (s : Sending) (words : List ℕ) (d : Desk) (ds : List Delivery)
-    → setup .device < 65536 → SetupPromise words (setup .device) (setup .mtu) (setup .room) Ready (d .words) → Lends setup d → Fair setup s
+    (setup : Setup) (d : Desk) (s : Sending) (ds : List Delivery)
+    → SetUp setup d → Fair setup s
     → AllShort (packets setup s) → Bursts d (writtenLog (packets setup s)) ds
     → ds ≡ whole setup s
 
