@@ -2,7 +2,7 @@
 ghost use mathlib.Core.Path.{_≡_};
 ghost use Prim.Native.Nat.{_≤_};
 ghost use Rattle.contexts.specs.State.{streamContexts};
-ghost use Rattle.endpoint.specs.Calls.{part, roomPart};
+ghost use Rattle.endpoint.specs.Calls.{emptyPart, roomPart};
 ghost use Rattle.c_places.specs.Places.{placeOf, StreamPlacePromise, MessagePlacePromise};
 
 // Where a part of a memory begins, and its bytes.
@@ -14,7 +14,7 @@ pub struct Place {
 
 // No part: an empty one at the memory's beginning.
 fn nowhere() -> Place
-    ensures { λ r. ⌜ r ≡ placeOf (part 0 0) ⌝ }
+    ensures { λ r. ⌜ r ≡ placeOf emptyPart ⌝ }
 {
     Place {
         offset: 0,
@@ -27,29 +27,20 @@ fn room_at(rooms: usize, room: usize, size: usize, n: usize, l: usize) -> Place
     requires { ⌜ (rooms ≤ streamContexts) × (room ≤ 65536) ⌝ }
     ensures { λ r. ⌜ r ≡ placeOf (roomPart rooms room size n l) ⌝ }
 {
-    if size != rooms * room {
-        return nowhere();
+    if refusal19::has_room(rooms, room, size, n, l) {
+        return Place {
+            offset: n * room,
+            length: l,
+        };
     }
-    if rooms <= n {
-        return nowhere();
-    }
-    if room < l {
-        return nowhere();
-    }
-    Place {
-        offset: n * room,
-        length: l,
-    }
+    nowhere()
 }
 
 // The first l bytes of the room of stream context n, in a stream memory of that size.
 pub fn stream_place(state: &[usize], size: usize, n: usize, l: usize) -> Place
     ensures { λ r. ⌜ StreamPlacePromise (now (state .entry)) size n l r ⌝ }
 {
-    if state.len() != contexts::WORDS {
-        return nowhere();
-    }
-    if refusal19::named_by_19(state) {
+    if refusal19::state_refusal(state) != 0 {
         return nowhere();
     }
     room_at(contexts::STREAM_CONTEXTS, contexts::room(state), size, n, l)
@@ -59,10 +50,7 @@ pub fn stream_place(state: &[usize], size: usize, n: usize, l: usize) -> Place
 pub fn message_place(state: &[usize], size: usize, n: usize, l: usize) -> Place
     ensures { λ r. ⌜ MessagePlacePromise (now (state .entry)) size n l r ⌝ }
 {
-    if state.len() != contexts::WORDS {
-        return nowhere();
-    }
-    if refusal19::named_by_19(state) {
+    if refusal19::state_refusal(state) != 0 {
         return nowhere();
     }
     room_at(contexts::MESSAGE_CONTEXTS, message_rooms::ROOM, size, n, l)

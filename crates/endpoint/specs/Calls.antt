@@ -1,8 +1,8 @@
 -- The other calls: setup, abandoning, rooms (document 01, 'Cutting and joining PDUs' and 'Refusal numbers').
 use Prim.Native.Nat.{ℕ, _+_, _*_}
 use mathlib.Core.Path.{_≡_}
-use mathlib.Core.List.{List, [], _∷_}
-use mathlib.Core.Bool.{Bool, cond, not, _||_, _&&_}
+use mathlib.Core.List.{List, [], _∷_, _++_}
+use mathlib.Core.Bool.{Bool, cond, not}
 use lib.ListN.{length, take, drop, replicate}
 use lib.Dec.{eqb, ltb}
 use denote.Ref.{RefT, now}
@@ -13,7 +13,8 @@ use Rattle.tables.specs.Refusals.{RowOf, Row, row, all, VerdictOf, Verdict, ref
 use Rattle.sizes.specs.Sizes.{badMTU}
 use Rattle.contexts.specs.State.{State, fresh, fixed, streamIn, messageIn, withStream, withMessage, closedStream, closedMessage, isFreeStream, isFreeMessage, streamContexts, messageContexts}
 use Rattle.contexts.specs.Words.{stateOf, wordsOf, stateWords}
-use Rattle.refusal19.specs.Refusal19.{badRoom, namedBy19}
+use Rattle.refusal19.specs.Refusal19.{badRoom}
+use Rattle.refusal19.specs.Lent.{stateRows, stateRefusal, hasRoom}
 use Rattle.message_rooms.specs.Placing.{messageRoomBytes}
 
 -- an answer and the words it leaves
@@ -52,13 +53,13 @@ setup words device mtu room = setupBy words device mtu room (verdict (setupTable
 abbrev pub SetupPromise : List ℕ → ℕ → ℕ → ℕ → Begun → List ℕ → Type 0
 SetupPromise words device mtu room r after = stands (saidOfSetup r) after ≡ setup words device mtu room
 
--- ---- abandoning: 19 (and 12 for a buffer that is no state), then 13 for a number past the last context; a free context stays as it is
+-- ---- abandoning: what a lent state is refused with, then 13; a free context stays as it is
 unfoldable pub abandonTable : List ℕ → ℕ → ℕ → List Row
 abandonTable words contexts n =
-    row 19 (eqb (length words) stateWords && namedBy19 (stateOf words)) all
-    ∷ row 12 (not (eqb (length words) stateWords)) all
-    ∷ row 13 (not (ltb n contexts)) all
-    ∷ []
+    -- 19, 12 (refusal19/specs/Lent.antt)
+    stateRows words
+    -- a number past the last context
+    ++ (row 13 (not (ltb n contexts)) all ∷ [])
 
 -- the context was free, or is closed
 abbrev pub abandonBy : List ℕ → Bool → State → Verdict → Stands AbandonSaid
@@ -90,17 +91,17 @@ pub record Part : Type 0 where
 abbrev pub part : ℕ → ℕ → Part
 part from size = record { from = from; size = size }
 
-unfoldable pub noState : List ℕ → Bool
-noState words = not (eqb (length words) stateWords) || namedBy19 (stateOf words)
+abbrev pub emptyPart : Part
+emptyPart = part 0 0
 
-unfoldable pub roomPart : ℕ → ℕ → ℕ → ℕ → ℕ → Part
-roomPart rooms room size n l = cond (not (eqb size (rooms * room)) || not (ltb n rooms) || ltb room l) (part 0 0) (part (n * room) l)
+unfoldable pub roomPart : (rooms room size n l : ℕ) → Part
+roomPart rooms room size n l = cond (hasRoom rooms room size n l) (part (n * room) l) emptyPart
 
-unfoldable pub streamRoom : List ℕ → ℕ → ℕ → ℕ → Part
-streamRoom words size n l = cond (noState words) (part 0 0) (roomPart streamContexts (stateOf words .setup .room) size n l)
+unfoldable pub streamRoom : List ℕ → (size n l : ℕ) → Part
+streamRoom words size n l = cond (eqb (stateRefusal words) 0) (roomPart streamContexts (stateOf words .setup .room) size n l) emptyPart
 
-unfoldable pub messageRoom : List ℕ → ℕ → ℕ → ℕ → Part
-messageRoom words size n l = cond (noState words) (part 0 0) (roomPart messageContexts messageRoomBytes size n l)
+unfoldable pub messageRoom : List ℕ → (size n l : ℕ) → Part
+messageRoom words size n l = cond (eqb (stateRefusal words) 0) (roomPart messageContexts messageRoomBytes size n l) emptyPart
 
 -- what is handed back is that part of the memory: it lies there, and holds those bytes
 pub record IsPart (memory : RefT (List ℕ)) (p : Part) (r : RefT (List ℕ)) : Type 0 where

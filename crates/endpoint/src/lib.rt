@@ -9,7 +9,7 @@ ghost use Rattle.contexts.specs.State.{streamContexts};
 ghost use Rattle.reading.specs.Desk.{desk};
 ghost use Rattle.reading.specs.Table.{lent};
 ghost use Rattle.reading.specs.Read.{ReadPromise};
-ghost use Rattle.endpoint.specs.Calls.{SetupPromise, AbandonStreamPromise, AbandonMessagePromise, LengthPromise, StreamRoomPromise, MessageRoomPromise, noState, roomPart, IsPart};
+ghost use Rattle.endpoint.specs.Calls.{SetupPromise, AbandonStreamPromise, AbandonMessagePromise, LengthPromise, StreamRoomPromise, MessageRoomPromise, roomPart, IsPart};
 
 // The words that a state needs.
 pub fn state_length() -> usize
@@ -47,14 +47,9 @@ pub fn read(
 ) -> Reading
     ensures { λ r. ⌜ ReadPromise (lent (desk (now (state .entry)) (now («stream_memory» .entry)) (now («message_memory» .entry)) (now (response .entry))) (now (packet .entry))) r (desk (now (state .exit)) (now («stream_memory» .exit)) (now («message_memory» .exit)) (now (response .exit))) ⌝ }
 {
-    if state.len() != contexts::WORDS {
-        return reading::refused(12);
-    }
-    if refusal19::named_by_19(state) {
-        return reading::refused(19);
-    }
-    if reading::wrong_memory(state, stream_memory, message_memory, response) {
-        return reading::refused(12);
+    let number = reading::lent_refusal(state, stream_memory, message_memory, response);
+    if number != 0 {
+        return reading::refused(number);
     }
     reading::step(state, stream_memory, message_memory, response, packet)
 }
@@ -63,11 +58,9 @@ pub fn read(
 pub fn abandon_stream(state: &mut [usize], n: usize) -> Abandoned
     ensures { λ r. ⌜ AbandonStreamPromise (now (state .entry)) n r (now (state .exit)) ⌝ }
 {
-    if state.len() != contexts::WORDS {
-        return Abandoned::Refused(12);
-    }
-    if refusal19::named_by_19(state) {
-        return Abandoned::Refused(19);
+    let number = refusal19::state_refusal(state);
+    if number != 0 {
+        return Abandoned::Refused(number);
     }
     if contexts::STREAM_CONTEXTS <= n {
         return Abandoned::Refused(13);
@@ -84,11 +77,9 @@ pub fn abandon_stream(state: &mut [usize], n: usize) -> Abandoned
 pub fn abandon_message(state: &mut [usize], n: usize) -> Abandoned
     ensures { λ r. ⌜ AbandonMessagePromise (now (state .entry)) n r (now (state .exit)) ⌝ }
 {
-    if state.len() != contexts::WORDS {
-        return Abandoned::Refused(12);
-    }
-    if refusal19::named_by_19(state) {
-        return Abandoned::Refused(19);
+    let number = refusal19::state_refusal(state);
+    if number != 0 {
+        return Abandoned::Refused(number);
     }
     if contexts::MESSAGE_CONTEXTS <= n {
         return Abandoned::Refused(13);
@@ -101,40 +92,24 @@ pub fn abandon_message(state: &mut [usize], n: usize) -> Abandoned
     Abandoned::Closed
 }
 
-// Whether a buffer is no state, or one that 19 names.
-fn no_state(state: &[usize]) -> bool
-    ensures { λ r. ⌜ r ≡ noState (now (state .entry)) ⌝ }
-{
-    if state.len() != contexts::WORDS {
-        return true;
-    }
-    refusal19::named_by_19(state)
-}
-
 // The first l bytes of room n of a memory of so many rooms, or an empty part. Every caller knows the sizes to be small.
 fn room_part<'a>(memory: &'a [u8], rooms: usize, room: usize, n: usize, l: usize) -> &'a [u8]
     requires { ⌜ (rooms ≤ streamContexts) × (room ≤ 65536) ⌝ }
     ensures { λ r. ⌜ IsPart (memory .entry) (roomPart rooms room (length (now (memory .entry))) n l) r ⌝ }
 {
-    if memory.len() != rooms * room {
-        return &memory[0..0];
+    if refusal19::has_room(rooms, room, memory.len(), n, l) {
+        let at = n * room;
+        let end = at + l;
+        return &memory[at..end];
     }
-    if rooms <= n {
-        return &memory[0..0];
-    }
-    if room < l {
-        return &memory[0..0];
-    }
-    let at = n * room;
-    let end = at + l;
-    &memory[at..end]
+    &memory[0..0]
 }
 
 // The first l bytes of the room of stream context n, as a part of the caller's own memory; an empty part where there is none.
 pub fn stream_room<'a>(state: &[usize], memory: &'a [u8], n: usize, l: usize) -> &'a [u8]
     ensures { λ r. ⌜ StreamRoomPromise (now (state .entry)) (memory .entry) n l r ⌝ }
 {
-    if no_state(state) {
+    if refusal19::state_refusal(state) != 0 {
         return &memory[0..0];
     }
     room_part(
@@ -150,7 +125,7 @@ pub fn stream_room<'a>(state: &[usize], memory: &'a [u8], n: usize, l: usize) ->
 pub fn message_room<'a>(state: &[usize], memory: &'a [u8], n: usize, l: usize) -> &'a [u8]
     ensures { λ r. ⌜ MessageRoomPromise (now (state .entry)) (memory .entry) n l r ⌝ }
 {
-    if no_state(state) {
+    if refusal19::state_refusal(state) != 0 {
         return &memory[0..0];
     }
     room_part(

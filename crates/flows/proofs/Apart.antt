@@ -4,6 +4,7 @@ use mathlib.Core.Path.{_≡_, refl, ap, ap₂, sym, _∙_}
 use mathlib.Core.Bool.{Bool, true, false}
 use mathlib.Core.Option.{Option, none}
 use mathlib.Core.List.{List, [], _∷_}
+use native.Mathlib.Omega.{arith}
 use Rattle.lists.specs.Each.{Each}
 use Rattle.answers.specs.Answers as answers
 use Rattle.wire.specs.declared.Flow.{Flow}
@@ -91,7 +92,7 @@ module _ (setup : Setup) (flows : List Flow) (Ok : Desk → Type 0) (law : ByFlo
 
 pub flows-apart : FlowsApart
 flows-apart setup d flows packets r flow =
-    apart-from setup flows (Fine setup flows) (by-flow setup flows (r .few)) flow packets d (fresh-fine setup d (r .fresh) flows) (r .bytes) (r .occur)
+    apart-from setup flows (Fine setup flows) (by-flow setup flows (omega (arith, r .few))) flow packets d (fresh-fine setup d (r .fresh) flows) (r .bytes) (r .occur)
     ∙ ap (λ (x : Option PDU). alone setup flow x (packetsOf (setup .device) flow packets)) (fresh-view setup d (r .fresh) flow)
 
 pub same-packets-same-answers : SamePacketsSameAnswers

@@ -35,6 +35,17 @@ pub record Quiet (s : State) (memory response : List ℕ) (j : MessageJoined) : 
   pub reply : length (j .response) ≡ length response
   pub tells : (room : ℕ) (streams : List ℕ) → deliveredBy room streams (j .says) ≡ []
 
+module _ (s : State) (m : MessageSegment) where
+  -- a context is free where one is needed
+  pub free-there : neededNoneFree s m ≡ false → messageOpen s m ≡ false → freeMessage s < 8
+  unfolding neededNoneFree
+  free-there e o = ltb-true (freeMessage s) 8 (not-false (ltb (freeMessage s) 8) (ap (λ (b : Bool). not b && not (ltb (freeMessage s) 8)) (sym o) ∙ e))
+
+  -- a single-segment message is never compared with open ones
+  pub single-shut : isSingle m ≡ true → messageOpen s m ≡ false
+  unfolding messageFound
+  single-shut t = rw t
+
 module _ (s : State) (memory response p : List ℕ) (m : MessageSegment)
     (size : length memory ≡ 32768) (reply : responseSize ≤ length response) (whole : messageDataFrom + m .raw ≡ length p) (number : m .msgseg < 16) where
   quiet-refused : (code status : ℕ) → Quiet s memory response (refusedWith s memory response p code status)
@@ -81,22 +92,13 @@ module _ (s : State) (memory response p : List ℕ) (m : MessageSegment)
         none-told room streams true context source letter mailbox count = refl
         none-told room streams false context source letter mailbox count = refl
 
-  -- a context is free where one is needed
-  free-there : neededNoneFree s m ≡ false → messageOpen s m ≡ false → freeMessage s < 8
-  unfolding neededNoneFree
-  free-there e o = ltb-true (freeMessage s) 8 (not-false (ltb (freeMessage s) 8) (ap (λ (b : Bool). not b && not (ltb (freeMessage s) 8)) (sym o) ∙ e))
-
-  single-shut : isSingle m ≡ true → messageOpen s m ≡ false
-  unfolding messageFound
-  single-shut t = rw t
-
   quiet-accepted : m .raw ≤ bytesOf (m .ssize) → neededNoneFree s m ≡ false → Quiet s memory response (messageAccepted s memory response p m)
   unfolding messageAccepted
   quiet-accepted fits e =
-      by-test (isSingle m) (λ t. rw t (quiet-alone fits (freeMessage s) (free-there e (single-shut t))))
+      by-test (isSingle m) (λ t. rw t (quiet-alone fits (freeMessage s) (free-there s m e (single-shut s m t))))
       (λ t. by-test (messageOpen s m)
       (λ o. rw (t, o) (quiet-placed fits (messageFound s m) (ltb-true (messageFound s m) 8 o) _ _))
-      (λ o. rw (t, o) (quiet-placed fits (freeMessage s) (free-there e o) 0 0)))
+      (λ o. rw (t, o) (quiet-placed fits (freeMessage s) (free-there s m e o) 0 0)))
 
   quiet-matched : m .raw ≤ bytesOf (m .ssize) → Quiet s memory response (matched s memory response p m)
   unfolding matched

@@ -13,8 +13,12 @@ use Rattle.reading.specs.Table.{lent}
 use Rattle.reading.specs.Read.{Left, reading}
 use Rattle.flows.specs.OneFlow.{PDU, pdu}
 
--- what reading a packet answers and leaves
-abbrev pub read : Desk → List ℕ → Left
+-- an endpoint, ours or any other: what it answers and leaves at a desk and a packet
+abbrev pub Endpoint : Type 0
+Endpoint = Desk → List ℕ → Left
+
+-- ours
+abbrev pub read : Endpoint
 read d packet = reading (lent d packet)
 
 -- the desk as reading leaves it
@@ -45,10 +49,14 @@ deliveredBy room memory (answers.refused number) = []
 abbrev pub deliveredOn : Desk → answers.Said → List Delivery
 deliveredOn d says = deliveredBy (stateOn d .setup .room) (d .streamMemory) says
 
--- what is delivered over packets
+-- what an endpoint delivers over packets
+abbrev pub deliveriesBy : Endpoint → Desk → List (List ℕ) → List Delivery
+deliveriesBy e d [] = []
+deliveriesBy e d (p ∷ ps) = deliveredOn (e d p .desk) (e d p .says) ++ deliveriesBy e (e d p .desk) ps
+
+-- what ours does
 abbrev pub deliveries : Desk → List (List ℕ) → List Delivery
-deliveries d [] = []
-deliveries d (p ∷ ps) = deliveredOn (after d p) (read d p .says) ++ deliveries (after d p) ps
+deliveries d ps = deliveriesBy read d ps
 
 -- what a flow has on the desk: closed (none), or the streamID and the bytes so far
 abbrev pub viewOf : State → List ℕ → Flow → Option PDU

@@ -13,14 +13,14 @@ use Rattle.lists.specs.Bytes.{written}
 use Rattle.wire.specs.Packet.{packetType, destination, source}
 use Rattle.wire.specs.Head.{is9, is11, headRows}
 use Rattle.responses.specs.Type13.{responseTo, answered}
-use Rattle.reading.specs.Table.{Lent, stateIn, table}
+use Rattle.reading.specs.Table.{Lent, stateIn, lentRows, table}
 use Rattle.reading.specs.Read.{reading, outcome, accepting}
 use Rattle.lists.proofs.Tests.{by-test, _and_}
 use Rattle.wire.proofs.Head.{one-type}
 use Rattle.reading.proofs.Kept.{other-type}
 use Rattle.lists.specs.Each.{Each}
-use Rattle.promises.specs.Statements.{statusOf, responseLeft, ResponsesFromUs}
-use Rattle.promises.proofs.Status.{writes, nothing-written, refused-so, stream-silent, said-status, responses-exactly}
+use Rattle.promises.specs.Responses.{statusOf, responseLeft, Responds}
+use Rattle.promises.proofs.Status.{writes, nothing-written, refused-so, stream-silent, said-status, written-by}
 
 -- rows that leave all decide, or their tests fail
 past-quiet : (earlier later : List Row) → Each (λ (r : Row). r .leaves ≡ all) earlier → ((number : ℕ) × (verdict (earlier ++ later) ≡ refuse number all)) ⊎ none earlier
@@ -37,12 +37,12 @@ past-quiet (r ∷ earlier) later q = go (r .holds) refl (past-quiet earlier late
 module _ (x : Lent) where
   -- row 3 is the fifth
   addressed : none (take 5 (table x)) → destination (x .packet) ≡ stateIn x .setup .device
-  unfolding none table
+  unfolding none table lentRows headRows
   addressed n = eqb-true (destination (x .packet)) (stateIn x .setup .device) (not-false _ (n .1 .1 .1 .1 .0))
 
   -- the first five write nothing; so a verdict that writes has passed them
   written-for-us : (number status : ℕ) (leaves : Leaves) → verdict (table x) ≡ refuse number leaves → writes leaves ≡ option.some status → destination (x .packet) ≡ stateIn x .setup .device
-  unfolding table
+  unfolding table lentRows headRows
   written-for-us number status leaves e w = go (past-quiet (take 5 (table x)) (drop 5 (table x)) (refl and refl and refl and refl and refl and tt))
     where
       go : ((n : ℕ) × (verdict (table x) ≡ refuse n all)) ⊎ none (take 5 (table x)) → destination (x .packet) ≡ stateIn x .setup .device
@@ -54,11 +54,11 @@ module _ (x : Lent) where
 
   -- what is responded to is of type 11 and addressed to us
   record Right : Type 0 where
-    type : is11 x ≡ true
+    type : is11 (x .packet) ≡ true
     for-us : destination (x .packet) ≡ stateIn x .setup .device
 
   first-five : none (table x) → none (take 5 (table x))
-  unfolding none table headRows
+  unfolding none table lentRows headRows
   first-five n = n .0 and n .1 .0 and n .1 .1 .0 and n .1 .1 .1 .0 and n .1 .1 .1 .1 .0 and tt
 
   accepted-right : none (table x) → (status : ℕ) → statusOf x (accepting x .says) ≡ option.some status → Right
@@ -79,11 +79,11 @@ swapped : (response p : List ℕ) (status : ℕ) → source (answered response p
 unfolding answered written responseTo
 swapped response p status = refl
 
-pub responses-from-us : ResponsesFromUs
-responses-from-us x status s =
+pub from-us : (x : Lent) (status : ℕ) → statusOf x (reading x .says) ≡ option.some status → Responds x
+from-us x status s =
     let r : Right x = unfold reading in (right x (verdict (table x)) refl status s) in
     record {
       to-message = eqb-true (packetType (x .packet)) 11 (r .type);
       for-us = r .for-us;
-      own-source = ap source (responses-exactly x ∙ ap (responseLeft x) s) ∙ (swapped (x .response) (x .packet) status ∙ r .for-us);
+      own-source = ap source (written-by x ∙ ap (responseLeft x) s) ∙ (swapped (x .desk .response) (x .packet) status ∙ r .for-us);
     }

@@ -13,20 +13,23 @@ use Rattle.lists.specs.Bytes.{byte, word}
 use Rattle.wire.specs.declared.Segment.{Segment}
 use Rattle.wire.specs.declared.Parsed.{Parsed}
 use Rattle.wire.specs.declared.Parsed.the-variants.{Refused, Stream}
-use Rattle.wire.specs.Packet.{tt, packetType, destination, header, bit}
+use Rattle.wire.specs.Packet.{packetType, header, bit}
 use Rattle.wire.specs.Type9.{flags, isS, isE, xh, isO, isP, segmentAt, segmentOf}
-use Rattle.wire.specs.Parsed.{parsed, parsedByType, parsedStream, parsedFielded}
+use Rattle.tables.specs.Refusals.{Row, Verdict, refuse, accept, verdict}
+use Rattle.wire.specs.Head.{headRows}
+use Rattle.wire.specs.Parsed.{parsedBy, parsed}
 use Rattle.sizes.specs.Sizes.{dataLength}
 use Rattle.contexts.specs.State.{State}
-use Rattle.contexts.specs.Words.{stateOf}
+use Rattle.contexts.specs.Words.{stateWords}
+use Rattle.refusal19.specs.Refusal19.{namedBy19}
 use Rattle.stream_rooms.specs.Placing.{dataOf, placed}
 use Rattle.streams.specs.Joining.{accepted}
 use Rattle.streams.specs.Step.{begun, continued, stepped}
-use Rattle.reading.specs.Table.{Lent}
-use Rattle.reading.specs.Read.{ofStream, reading, lent}
-use Rattle.reading.specs.Step.{byParsed, readStep}
-use Rattle.reading.proofs.Rows.{by-steps}
-use Rattle.reading.proofs.Cases.{by-test}
+use Rattle.reading.specs.Desk.{Desk, stateOn}
+use Rattle.reading.specs.Table.{lent, isState, wrongSizes}
+use Rattle.reading.specs.Read.{ofStream, reading}
+use Rattle.reading.proofs.Rows.{byParsed, no-words, named, missized, by-packet}
+use Rattle.lists.proofs.Tests.{by-test}
 use Rattle.promises.specs.Ignored.{isPad, hasIgnored, DifferInIgnored, ReservedAndPadIgnored, plainPacket, strangePacket, IgnoredNotEmpty}
 
 -- ---- Of packets
@@ -131,11 +134,20 @@ module _ (p q : List ℕ) (d : DifferInIgnored p q) where
       (λ b. rw (← fielded, b) (same-at (header + 4) _ _ (same-field b)))
       (λ b. rw (← fielded, b) (same-at (header + 2) 0 0 refl))
 
+  same-head : (device : ℕ) → headRows device p ≡ headRows device q
+  unfolding headRows
+  same-head device = cc (first-two .0, first-two .1, last-three .0, d .size, head 0 (omega arith), head 1 (omega arith), head 2 (omega arith))
+
   pub same-parsed : packetType p ≡ 9 → (device : ℕ) → parsed device p ≡ parsed device q
-  unfolding parsed parsedByType parsedStream parsedFielded
-  same-parsed nine device =
-      let nine-too : packetType q ≡ 9 = ap (λ (n : ℕ). n % 16) (sym (head 0 (omega arith))) ∙ nine in
-      simp (nine, nine-too) (cc (same-segment, first-two .0, first-two .1, last-three .0, d .size, head 0 (omega arith), head 1 (omega arith), head 2 (omega arith)))
+  unfolding parsed
+  same-parsed nine device = go (verdict (headRows device p)) ∙ ap (λ (rows : List Row). parsedBy q (verdict rows)) (same-head device)
+    where
+      nine-too : packetType q ≡ 9
+      nine-too = ap (λ (n : ℕ). n % 16) (sym (head 0 (omega arith))) ∙ nine
+
+      go : (v : Verdict) → parsedBy p v ≡ parsedBy q v
+      go (refuse number leaves) = refl
+      go accept = rw (nine, nine-too) (ap Stream same-segment)
 
   -- and the data are the same, the pad left out
   pub same-data : dataOf p (segmentOf p) ≡ dataOf q (segmentOf p)
@@ -153,24 +165,12 @@ module _ (p q : List ℕ) (d : DifferInIgnored p q) where
 
 -- a type 9 packet is refused or read as its segment
 nine-parsed : (P : Parsed → Type 0) (p : List ℕ) → packetType p ≡ 9 → ((n : ℕ) → P (Refused n)) → P (Stream (segmentOf p)) → (device : ℕ) → P (parsed device p)
-unfolding parsed parsedByType parsedStream parsedFielded
-nine-parsed P p nine refused stream device =
-    by-test (ltb (length p) header) (λ a. rw a (refused 1))
-    (λ a. by-test (eqb (tt p) 1)
-    (λ b. by-test (eqb (destination p) device)
-    (λ c. by-test (ltb (length p) (header + 2)) (λ u. rw (a, b, c, eq-eqb (packetType p) 9 nine, u) (refused 1))
-    (λ u. rw (a, b, c, eq-eqb (packetType p) 9 nine, u) kinds))
-    (λ c. rw (a, b, c) (refused 3)))
-    (λ b. rw (a, b) (refused 2)))
+unfolding parsed
+nine-parsed P p nine refused stream device = go (verdict (headRows device p))
   where
-    fielded : P (parsedFielded p)
-    fielded = by-test (ltb (length p) (header + 4)) (λ u. rw u (refused 1)) (λ u. rw u stream)
-
-    kinds : P (parsedStream p)
-    kinds =
-        by-test (xh p) (λ h. rw h (refused 5))
-        (λ h. by-test (isS p) (λ s. rw (h, s) fielded)
-        (λ s. by-test (isE p) (λ e. rw (h, s, e) fielded) (λ e. rw (h, s, e) stream)))
+    go : (v : Verdict) → P (parsedBy p v)
+    go (refuse number leaves) = refused number
+    go accept = rw nine stream
 
 -- ---- Of reading
 
@@ -179,28 +179,31 @@ same-step : (s : State) (memory p q : List ℕ) (g : Segment) → dataOf p g ≡
 unfolding stepped begun continued accepted placed
 same-step s memory p q g e = rw e
 
+module _ (d : Desk) (p q : List ℕ) (differ : DifferInIgnored p q) where
+  by-packet-alike : packetType p ≡ 9 → byParsed (lent d p) (parsed (stateOn d .setup .device) p) ≡ byParsed (lent d q) (parsed (stateOn d .setup .device) q)
+  by-packet-alike nine =
+      nine-parsed (λ (r : Parsed). byParsed (lent d p) r ≡ byParsed (lent d q) r) p nine (λ n. refl)
+      (ap (ofStream (lent d q)) (same-step (stateOn d) (d .streamMemory) p q (segmentOf p) (same-data p q differ)))
+      (stateOn d .setup .device)
+      ∙ ap (byParsed (lent d q)) (same-parsed p q differ nine (stateOn d .setup .device))
+
+  -- rows 19 and 12 do not look at the packet
+  alike : packetType p ≡ 9 → reading (lent d p) ≡ reading (lent d q)
+  alike nine =
+      by-test (isState d)
+      (λ l. let whole = eqb-true (length (d .words)) stateWords l in
+      by-test (namedBy19 (stateOn d))
+      (λ h. sym (named (lent d p) whole h) ∙ named (lent d q) whole h)
+      (λ h. by-test (wrongSizes d)
+      (λ w. sym (missized (lent d p) whole h w) ∙ missized (lent d q) whole h w)
+      (λ w. by-packet (lent d p) whole h w ∙ (by-packet-alike nine ∙ sym (by-packet (lent d q) whole h w)))))
+      (λ l. let other = eqb-false (length (d .words)) stateWords l in sym (no-words (lent d p) other) ∙ no-words (lent d q) other)
+
 pub reserved-and-pad-ignored : ReservedAndPadIgnored
-unfolding readStep
-reserved-and-pad-ignored words streamMemory messageMemory response p q d =
+reserved-and-pad-ignored d p q differ =
     by-test (eqb (packetType p) 9)
-    (λ t. by-steps (by p) ∙ (same (eqb-true (packetType p) 9 t) ∙ sym (by-steps (by q))))
-    (λ t. ap (λ (r : List ℕ). reading (by r)) (same-packet p q d t))
-  where
-    by : List ℕ → Lent
-    by r = lent words streamMemory messageMemory response r
-
-    device : ℕ
-    device = stateOf words .device
-
-    by-packet : packetType p ≡ 9 → byParsed (by p) (parsed device p) ≡ byParsed (by q) (parsed device q)
-    by-packet nine =
-        nine-parsed (λ (r : Parsed). byParsed (by p) r ≡ byParsed (by q) r) p nine (λ n. refl)
-        (ap (ofStream (by q)) (same-step (stateOf words) streamMemory p q (segmentOf p) (same-data p q d)))
-        device
-        ∙ ap (byParsed (by q)) (same-parsed p q d nine device)
-
-    same : packetType p ≡ 9 → readStep (by p) ≡ readStep (by q)
-    same nine = rw (by-packet nine)
+    (λ t. alike d p q differ (eqb-true (packetType p) 9 t))
+    (λ t. ap (λ (r : List ℕ). reading (lent d r)) (same-packet p q differ t))
 
 -- ---- There are such packets
 

@@ -1,4 +1,4 @@
--- A response, field by field.
+-- Responses: when one is written, by whom, its fields, and that its buffer decides nothing.
 use Prim.Native.Nat.{ℕ, _+_, _≤_}
 use mathlib.Core.Path.{_≡_, refl}
 use mathlib.Core.Bool.{Bool, true, false, cond}
@@ -7,7 +7,12 @@ use lib.Dec.{ltb}
 use borrow.Author.Tests.{ltb-true}
 use Rattle.wire.specs.Packet.{priority}
 use Rattle.responses.specs.Type13.{above, responseTo}
-use Rattle.promises.specs.Statements.{ResponseLayout}
+use mathlib.Core.List.{List}
+use Rattle.flows.specs.ByFlow.{AreBytes}
+use Rattle.reading.proofs.Response.{response-decides-nothing}
+use Rattle.promises.specs.Responses.{IsResponse, ResponsesExactly}
+use Rattle.promises.proofs.Status.{written-by, counted}
+use Rattle.promises.proofs.FromUs.{from-us}
 
 -- a priority fits two bits
 above-small : (n : ℕ) → above n ≤ 3
@@ -17,7 +22,7 @@ above-small n = go (ltb n 3) refl
     go true t = omega (arith, ltb-true n 3 t)
     go false t = omega arith
 
-pub response-layout : ResponseLayout
+response-layout : (p : List ℕ) (status : ℕ) → AreBytes p → IsResponse p (responseTo p status) status
 unfolding responseTo
 response-layout p status bytes = record {
   seven = refl;
@@ -28,4 +33,13 @@ response-layout p status bytes = record {
   from-us = refl;
   says = refl;
   letter-mbox-msgseg = refl;
+}
+
+pub responses-exactly : ResponsesExactly
+responses-exactly = record {
+  written-by = written-by;
+  counted = counted;
+  from-us = from-us;
+  layout = response-layout;
+  decides-nothing = λ d response p h h′. response-decides-nothing (d .words) (d .streamMemory) (d .messageMemory) (d .response) response p h h′;
 }

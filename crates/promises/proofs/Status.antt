@@ -7,25 +7,26 @@ use mathlib.Core.Option.{Option}
 use mathlib.Core.Option as option
 use native.Mathlib.Omega.{arith}
 use Rattle.answers.specs.Answers.{Said, held}
-use Rattle.tables.specs.Refusals.{Leaves, all, flowClosed, allERROR, allRETRY, Row, Verdict, refuse, accept, verdict, none}
+use Rattle.tables.specs.Refusals.{Leaves, all, flowClosed, allERROR, allRETRY, Row, Verdict, refuse, accept, verdict, given, none}
 use Rattle.tables.proofs.Exactly.{decided, none-held}
 use Rattle.wire.specs.Type11.{isSingle}
 use Rattle.wire.specs.Head.{is9, is11, headRows}
-use Rattle.responses.specs.Type13.{DONE, RETRY, ERROR, answered}
+use Rattle.responses.specs.Type13.{responseSize, DONE, RETRY, ERROR, answered}
 use Rattle.stream_rooms.specs.Placing as streamRoom
 use Rattle.streams.specs.Joining as stream
 use Rattle.message_rooms.specs.Placing as messageRoom
 use Rattle.messages.specs.Joining as message
-use Rattle.messages.specs.Rows.{messageOpen}
+use Rattle.streams.specs.Rows.{streamRows}
+use Rattle.messages.specs.Rows.{messageOpen, messageRows}
 use Rattle.refusal19.proofs.Good.{both}
-use Rattle.reading.specs.Table.{Lent, stateIn, segmentIn, messageSegmentIn, table}
+use Rattle.reading.specs.Table.{Lent, stateIn, segmentIn, messageSegmentIn, lentRows, table}
 use Rattle.reading.specs.Read.{reading, outcome, leaving, accepting}
 use Rattle.lists.proofs.Tests.{by-test, _and_}
 use Rattle.wire.proofs.Head.{one-type}
 use Rattle.reading.proofs.Kept.{other-type}
 use Rattle.lists.specs.Each.{Each}
-use Rattle.promises.specs.Statements.{statuses, statusIn, statusOf, responseLeft, ResponsesExactly}
-use Rattle.promises.proofs.Exactly.{chosen, number-said}
+use Rattle.promises.specs.Responses.{statuses, statusIn, statusOf, responseLeft, repliedBy}
+use Rattle.promises.proofs.ByTable.{chosen, number-said}
 
 -- ---- The table's rows
 
@@ -36,11 +37,17 @@ writes flowClosed = option.none
 writes allERROR = option.some ERROR
 writes allRETRY = option.some RETRY
 
-left-response : (x : Lent) (number : ℕ) (leaves : Leaves) → leaving x number leaves .response ≡ responseLeft x (writes leaves)
+left-response : (x : Lent) (number : ℕ) (leaves : Leaves) → leaving x number leaves .desk .response ≡ responseLeft x (writes leaves)
 left-response x number all = refl
 left-response x number flowClosed = refl
 left-response x number allERROR = refl
 left-response x number allRETRY = refl
+
+left-replied : (x : Lent) (number : ℕ) (leaves : Leaves) → leaving x number leaves .replied ≡ repliedBy (writes leaves)
+left-replied x number all = refl
+left-replied x number flowClosed = refl
+left-replied x number allERROR = refl
+left-replied x number allRETRY = refl
 
 pub nothing-written : {A : Type 0} (status : ℕ) → _≡_ {A = Option ℕ} option.none (option.some status) → A
 nothing-written status e = absurd (let z : _≡_ {A = ℕ} 0 1 = cc in omega arith)
@@ -63,7 +70,7 @@ module _ (x : Lent) where
   told number test leaves s = record { status = s; type = λ status e h. both (is11 (x .packet)) test h .0 }
 
   agree : Each (Agrees x) (table x)
-  unfolding table headRows
+  unfolding table lentRows headRows given streamRows messageRows
   agree =
       quiet 19 _ all refl refl and quiet 12 _ all refl refl and quiet 1 _ all refl refl and quiet 2 _ all refl refl and quiet 3 _ all refl refl and quiet 4 _ all refl refl
       and quiet 1 _ all refl refl and quiet 5 _ all refl refl and quiet 1 _ all refl refl and quiet 6 _ flowClosed refl refl and quiet 7 _ flowClosed refl refl
@@ -88,23 +95,23 @@ module _ (x : Lent) where
 
   -- ---- An accepted packet
 
-  pub stream-silent : is11 (x .packet) ≡ false → statusOf x (stream.accepted (stateIn x) (x .streamMemory) (x .packet) (segmentIn x) .says) ≡ option.none
+  pub stream-silent : is11 (x .packet) ≡ false → statusOf x (stream.accepted (stateIn x) (x .desk .streamMemory) (x .packet) (segmentIn x) .says) ≡ option.none
   unfolding stream.accepted streamRoom.placed
   stream-silent t = chosen (λ (s : Said). statusOf x s ≡ option.none) (segmentIn x .ends) _ held refl (rw t)
 
   -- DONE, and in the buffer
   record Done (j : messageRoom.MessageJoined) : Type 0 where
     status : statusOf x (j .says) ≡ option.some DONE
-    response : j .response ≡ answered (x .response) (x .packet) DONE
+    response : j .response ≡ answered (x .desk .response) (x .packet) DONE
 
-  placed-done : is11 (x .packet) ≡ true → (n marks last : ℕ) → Done (messageRoom.messagePlaced (stateIn x) (x .messageMemory) (x .response) (x .packet) (messageSegmentIn x) n marks last)
+  placed-done : is11 (x .packet) ≡ true → (n marks last : ℕ) → Done (messageRoom.messagePlaced (stateIn x) (x .desk .messageMemory) (x .desk .response) (x .packet) (messageSegmentIn x) n marks last)
   unfolding messageRoom.messagePlaced
   placed-done t n marks last = record {
     status = chosen (λ (s : Said). statusOf x s ≡ option.some DONE) (messageRoom.complete (messageSegmentIn x) (messageRoom.marksWith (messageSegmentIn x) marks)) _ held refl (rw t);
     response = refl;
   }
 
-  message-done : is11 (x .packet) ≡ true → Done (message.messageAccepted (stateIn x) (x .messageMemory) (x .response) (x .packet) (messageSegmentIn x))
+  message-done : is11 (x .packet) ≡ true → Done (message.messageAccepted (stateIn x) (x .desk .messageMemory) (x .desk .response) (x .packet) (messageSegmentIn x))
   unfolding message.messageAccepted message.deliveredAtOnce
   message-done t =
       chosen Done (isSingle (messageSegmentIn x)) _ _ (record { status = refl; response = refl })
@@ -115,23 +122,35 @@ module _ (x : Lent) where
   by-status : (s : Option ℕ) (response : List ℕ) (says : Said) → statusOf x says ≡ s → response ≡ responseLeft x s → response ≡ responseLeft x (statusOf x says)
   by-status s response says a b = b ∙ ap (responseLeft x) (sym a)
 
-  stream-left : is9 (x .packet) ≡ true → accepting x .response ≡ responseLeft x (statusOf x (accepting x .says))
-  stream-left n = rw n (by-status option.none (x .response) (stream.accepted (stateIn x) (x .streamMemory) (x .packet) (segmentIn x) .says) (stream-silent (one-type (x .packet) n)) refl)
+  stream-left : is9 (x .packet) ≡ true → accepting x .desk .response ≡ responseLeft x (statusOf x (accepting x .says))
+  stream-left n = rw n (by-status option.none (x .desk .response) (stream.accepted (stateIn x) (x .desk .streamMemory) (x .packet) (segmentIn x) .says) (stream-silent (one-type (x .packet) n)) refl)
 
-  message-left : is9 (x .packet) ≡ false → is11 (x .packet) ≡ true → accepting x .response ≡ responseLeft x (statusOf x (accepting x .says))
+  message-left : is9 (x .packet) ≡ false → is11 (x .packet) ≡ true → accepting x .desk .response ≡ responseLeft x (statusOf x (accepting x .says))
   message-left n t =
-      let j = message.messageAccepted (stateIn x) (x .messageMemory) (x .response) (x .packet) (messageSegmentIn x) in
+      let j = message.messageAccepted (stateIn x) (x .desk .messageMemory) (x .desk .response) (x .packet) (messageSegmentIn x) in
       let d = message-done t in
       rw n (by-status (option.some DONE) (j .response) (j .says) (d .status) (d .response))
 
   pub said-status : (number : ℕ) (leaves : Leaves) → statusOf x (leaving x number leaves .says) ≡ statusIn statuses number
   said-status number leaves = ap (statusOf x) (number-said x number leaves)
 
-  left : (v : Verdict) → verdict (table x) ≡ v → outcome x v .response ≡ responseLeft x (statusOf x (outcome x v .says))
+  left : (v : Verdict) → verdict (table x) ≡ v → outcome x v .desk .response ≡ responseLeft x (statusOf x (outcome x v .says))
   left (refuse number leaves) e =
-      by-status (writes leaves) (leaving x number leaves .response) (leaving x number leaves .says) (said-status number leaves ∙ refused-so number leaves e .status) (left-response x number leaves)
+      by-status (writes leaves) (leaving x number leaves .desk .response) (leaving x number leaves .says) (said-status number leaves ∙ refused-so number leaves e .status) (left-response x number leaves)
   left accept e = by-test (is9 (x .packet)) stream-left (λ n. message-left n (other-type x (none-held (table x) e) n))
 
-pub responses-exactly : ResponsesExactly
+  -- how many bytes
+  counts : (v : Verdict) → verdict (table x) ≡ v → outcome x v .replied ≡ repliedBy (statusOf x (outcome x v .says))
+  counts (refuse number leaves) e = left-replied x number leaves ∙ ap repliedBy (sym (said-status number leaves ∙ refused-so number leaves e .status))
+  counts accept e =
+      by-test (is9 (x .packet))
+      (λ n. rw n (ap repliedBy (sym (stream-silent (one-type (x .packet) n)))))
+      (λ n. rw n (ap repliedBy (sym (message-done (other-type x (none-held (table x) e) n) .status))))
+
+pub written-by : (x : Lent) → reading x .desk .response ≡ responseLeft x (statusOf x (reading x .says))
 unfolding reading
-responses-exactly x = left x (verdict (table x)) refl
+written-by x = left x (verdict (table x)) refl
+
+pub counted : (x : Lent) → reading x .replied ≡ repliedBy (statusOf x (reading x .says))
+unfolding reading
+counted x = counts x (verdict (table x)) refl

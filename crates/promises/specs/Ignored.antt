@@ -8,7 +8,9 @@ use lib.Dec.{eqb, ltb}
 use Rattle.lists.specs.Bytes.{byte}
 use Rattle.wire.specs.Packet.{packetType, header}
 use Rattle.wire.specs.Type9.{flags, isP, segmentOf}
-use Rattle.reading.specs.Read.{reading, lent}
+use Rattle.reading.specs.Desk.{Desk}
+use Rattle.reading.specs.Table.{lent}
+use Rattle.reading.specs.Read.{reading}
 
 -- byte i is the pad of a type 9 packet: the last byte, where P is set and there are data
 unfoldable pub isPad : List ℕ → ℕ → Bool
@@ -29,8 +31,7 @@ pub record DifferInIgnored (p q : List ℕ) : Type 0 where
 -- everything else lent the same, they are answered alike, and leave the same words, memories and response
 abbrev pub ReservedAndPadIgnored : Type 0
 ReservedAndPadIgnored =
-    (words streamMemory messageMemory response p q : List ℕ) → DifferInIgnored p q
-    → reading (lent words streamMemory messageMemory response p) ≡ reading (lent words streamMemory messageMemory response q)
+    (d : Desk) (p q : List ℕ) → DifferInIgnored p q → reading (lent d p) ≡ reading (lent d q)
 
 -- such a pair: the first packet of the paper's sample log, and the same with all three reserved bits and the pad set
 abbrev pub plainPacket : List ℕ

@@ -1,2 +1,5 @@
-pub mod Statements
+pub mod ByTable
+pub mod Responses
+pub mod GoodStates
+pub mod Determinism
 pub mod Ignored

@@ -8,3 +8,4 @@ pub mod Left
 pub mod Response
 pub mod Spoken
 pub mod Computing
+pub mod Lent

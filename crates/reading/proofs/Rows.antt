@@ -4,12 +4,12 @@ use mathlib.Core.Path.{_≡_, refl, ap, sym, _∙_}
 use mathlib.Core.List.{List, _++_}
 use mathlib.Core.Bool.{Bool, true, false, cond, not, _||_, _&&_}
 use lib.ListN.{length}
-use borrow.Author.Tests.{eq-eqb, ne-eqb}
+use borrow.Author.Tests.{eq-eqb}
 use Rattle.lists.specs.Each.{Each}
 use Rattle.lists.proofs.Tests.{by-test, _and_}
 use Rattle.tables.specs.Refusals.{Row, Leaves, all, Verdict, refuse, accept, verdict, given}
 use Rattle.tables.proofs.Exactly.{every-row, none-held}
-use Rattle.tables.proofs.Joined.{orElse, verdict-joined}
+use Rattle.tables.proofs.Joined.{orElse, verdict-joined, joined-refuses}
 use Rattle.wire.specs.declared.Parsed.{Parsed}
 use Rattle.wire.specs.declared.Parsed.the-variants.{Refused, Stream, Message}
 use Rattle.wire.specs.Parsed.{parsedBy, parsed}
@@ -21,9 +21,10 @@ use Rattle.streams.specs.Rows.{streamRows}
 use Rattle.streams.specs.Step as stream
 use Rattle.messages.specs.Rows.{messageRows}
 use Rattle.messages.specs.Step.{messageStepped}
-use Rattle.reading.specs.Table.{Lent, stateIn, segmentIn, messageSegmentIn, isState, wrongSizes, lentRows, table}
+use Rattle.reading.specs.Table.{Lent, stateIn, segmentIn, messageSegmentIn, isState, wrongSizes, lentRows, lentRefusal, table}
 use Rattle.reading.specs.Read.{Left, ofStream, ofMessage, leaving, reading, outcome}
 use Rattle.reading.proofs.Cases.{by-row, by-end}
+use Rattle.reading.proofs.Lent.{lent-refused}
 use Rattle.reading.proofs.StreamRows.{stream-rows}
 use Rattle.reading.proofs.MessageRows.{message-rows}
 
@@ -70,18 +71,12 @@ module _ (x : Lent) (whole : length (x .desk .words) ≡ stateWords) (fine : nam
           (λ n. rw n (message-typed n (other-type (x .packet) (stateIn x .setup .device) (none-held _ e) n)))
 
 module _ (x : Lent) where
-  -- a buffer that is no state: 12
-  pub no-words : (length (x .desk .words) ≡ stateWords → ⊥) → leaving x 12 all ≡ reading x
-  no-words l = sym (flat x ∙ rw (ne-eqb (length (x .desk .words)) stateWords l))
+  -- rows 19 and 12
+  pub refused-lent : (number : ℕ) → number ≡ lentRefusal (x .desk) → (number ≡ 0 → ⊥) → leaving x number all ≡ reading x
+  unfolding reading table
+  refused-lent number e n = sym (ap (outcome x) (joined-refuses (lentRows (x .desk)) _ number all (lent-refused (x .desk) number e n)))
 
-  module _ (l : length (x .desk .words) ≡ stateWords) where
-    pub named : namedBy19 (stateIn x) ≡ true → leaving x 19 all ≡ reading x
-    named h = sym (flat x ∙ rw (eq-eqb (length (x .desk .words)) stateWords l, h))
-
-    module _ (h : namedBy19 (stateIn x) ≡ false) where
-      pub missized : wrongSizes (x .desk) ≡ true → leaving x 12 all ≡ reading x
-      missized m = sym (flat x ∙ rw (eq-eqb (length (x .desk .words)) stateWords l, h, m))
-
-      -- what remains once rows 19 and 12 have passed
-      pub by-packet : wrongSizes (x .desk) ≡ false → reading x ≡ byParsed x (parsed (stateIn x .setup .device) (x .packet))
-      by-packet m = flat x ∙ (rw (eq-eqb (length (x .desk .words)) stateWords l, h, m) (packet-rows x l h))
+  -- what remains once they have passed
+  pub by-packet : length (x .desk .words) ≡ stateWords → namedBy19 (stateIn x) ≡ false → wrongSizes (x .desk) ≡ false
+      → reading x ≡ byParsed x (parsed (stateIn x .setup .device) (x .packet))
+  by-packet l h m = flat x ∙ (rw (eq-eqb (length (x .desk .words)) stateWords l, h, m) (packet-rows x l h))

@@ -5,7 +5,7 @@ use mathlib.Core.List.{List, [], _∷_, _++_}
 use mathlib.Core.Bool.{Bool, not, _||_, _&&_}
 use lib.ListN.{length}
 use lib.Dec.{eqb, ltb}
-use Rattle.tables.specs.Refusals.{Row, row, all, given}
+use Rattle.tables.specs.Refusals.{Row, row, all, numberOf, verdict, given}
 use Rattle.wire.specs.declared.Segment.{Segment}
 use Rattle.wire.specs.declared.MessageSegment.{MessageSegment}
 use Rattle.wire.specs.Type9.{segmentOf}
@@ -56,6 +56,10 @@ lentRows d =
     -- a lent memory of the wrong size, or response buffer under 7
     ∷ row 12 (not (isState d) || wrongSizes d) all
     ∷ []
+
+-- what everything lent is refused with, before a packet is looked at: 19 or 12; 0: with nothing
+unfoldable pub lentRefusal : Desk → ℕ
+lentRefusal d = numberOf (verdict (lentRows d))
 
 unfoldable pub table : Lent → List Row
 table x =

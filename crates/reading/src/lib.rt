@@ -8,7 +8,7 @@ ghost use lib.ListN.{length};
 ghost use Rattle.contexts.specs.Words.{stateOf, stateWords};
 ghost use Rattle.refusal19.specs.Refusal19.{namedBy19};
 ghost use Rattle.reading.specs.Desk.{desk};
-ghost use Rattle.reading.specs.Table.{lent, wrongSizes};
+ghost use Rattle.reading.specs.Table.{lent, wrongSizes, lentRefusal};
 ghost use Rattle.reading.specs.Read.{ReadPromise};
 ghost use Rattle.reading.specs.Inside.{ReadyToRead, Refusal};
 
@@ -40,6 +40,25 @@ pub fn wrong_memory(
         return true;
     }
     response.len() < responses::SIZE
+}
+
+// What everything lent is refused with, rows 19 and 12: 19, 12 or 0. A run over many packets asks once.
+pub fn lent_refusal(
+    state: &[usize],
+    stream_memory: &[u8],
+    message_memory: &[u8],
+    response: &[u8],
+) -> usize
+    ensures { λ r. ⌜ r ≡ lentRefusal (desk (now (state .entry)) (now («stream_memory» .entry)) (now («message_memory» .entry)) (now (response .entry))) ⌝ }
+{
+    let number = refusal19::state_refusal(state);
+    if number != 0 {
+        return number;
+    }
+    if wrong_memory(state, stream_memory, message_memory, response) {
+        return 12;
+    }
+    0
 }
 
 // Reads one packet. Every caller has tested the state and the memories; a run over many packets tests them once.

@@ -1,1 +1,2 @@
 pub mod Refusal19
+pub mod Lent

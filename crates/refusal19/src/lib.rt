@@ -1,12 +1,15 @@
-// Refusal 19: which states it names. The test walks all contexts, so it stands in one place, and a run over many packets makes it once.
+// Refusal 19: which states it names; and what a lent state is refused with, before anything else is looked at. The test walks all contexts,
+// so it stands in one place, and a run over many packets makes it once.
 use contexts::MessageContext;
 use contexts::StreamContext;
 ghost use mathlib.Core.Path.{_≡_};
-ghost use Prim.Native.Nat.{_<_};
+ghost use Prim.Native.Nat.{_<_, _≤_};
 ghost use lib.ListN.{length};
 ghost use Rattle.lists.specs.First.{any};
+ghost use Rattle.contexts.specs.State.{streamContexts};
 ghost use Rattle.contexts.specs.Words.{stateOf, stateWords};
 ghost use Rattle.refusal19.specs.Refusal19.{badRoom, badStream, badLast, badMarks, badMessage, namedBy19};
+ghost use Rattle.refusal19.specs.Lent.{stateRefusal, hasRoom};
 
 // Whether R is under the MTU or over 65,536.
 pub fn bad_room(mtu: usize, room: usize) -> bool
@@ -126,4 +129,31 @@ pub fn named_by_19(state: &[usize]) -> bool
         return true;
     }
     any_bad_message(state)
+}
+
+// What a lent state is refused with: 12 where the buffer is no state, 19, or 0.
+pub fn state_refusal(state: &[usize]) -> usize
+    ensures { λ r. ⌜ r ≡ stateRefusal (now (state .entry)) ⌝ }
+{
+    if state.len() != contexts::WORDS {
+        return 12;
+    }
+    if named_by_19(state) {
+        return 19;
+    }
+    0
+}
+
+// Whether a memory of that size has so many rooms, n is one of them, and it holds l bytes. Every caller knows the rooms to be few and small.
+pub fn has_room(rooms: usize, room: usize, size: usize, n: usize, l: usize) -> bool
+    requires { ⌜ (rooms ≤ streamContexts) × (room ≤ 65536) ⌝ }
+    ensures { λ r. ⌜ r ≡ hasRoom rooms room size n l ⌝ }
+{
+    if size != rooms * room {
+        return false;
+    }
+    if rooms <= n {
+        return false;
+    }
+    l <= room
 }

@@ -1,37 +1,40 @@
--- The length in an answer is that of the bytes that lie in its room: rows 8 and 10 leave a context below 16, row 9 a total of at most R,
--- and row 12 a memory of 16 R bytes, so no room reaches past the memory. This holds of every board, whatever its state.
-use Prim.Native.Nat.{ℕ, _+_, _-_, _*_, _≤_, _<_}
-use mathlib.Core.Path.{_≡_, refl, sym, subst}
-use mathlib.Core.List.{List}
-use mathlib.Core.Bool.{Bool, true, false, cond, not, _||_, _&&_, false≢true}
+-- What a delivery leaves: rows 19 and 12 leave a good state and memories of their sizes, rows 8 and 10 a context below 16, row 9 a total of at
+-- most R. So no room reaches past the memory, and the length in an answer is that of the bytes that lie in its room, whatever the desk.
+use Prim.Native.Nat.{ℕ, _+_, _*_, _≤_, _<_}
+use mathlib.Core.Path.{_≡_, refl, ap, sym, _∙_}
+use mathlib.Core.List.{List, [], _∷_}
+use mathlib.Core.Bool.{Bool, true, false, cond, not, _&&_, false≢true}
 use native.Mathlib.Omega.{arith}
-use native.Mathlib.Nat.{mul-le-mul-right}
-use lib.ListN.{length, take, drop, length-append, length-take, length-drop}
+use lib.ListN.{length, length-take, length-set}
 use lib.Dec.{eqb, ltb}
 use borrow.Author.Tests.{eqb-true, ltb-true, ltb-false, not-false}
-use Rattle.lists.specs.Bytes.{written}
 use Rattle.answers.specs.Answers as answers
-use Rattle.tables.specs.Refusals.{Leaves, all, flowClosed, allERROR, allRETRY, Verdict, refuse, accept, verdict, none, given}
+use Rattle.tables.specs.Refusals.{Row, Leaves, all, flowClosed, allERROR, allRETRY, Verdict, refuse, accept, verdict, none, given}
 use Rattle.tables.proofs.Exactly.{none-held}
 use Rattle.wire.specs.declared.Flow.{Flow}
 use Rattle.wire.specs.declared.Segment.{Segment}
 use Rattle.wire.specs.declared.MessageSegment.{MessageSegment}
 use Rattle.wire.specs.Type11.{isSingle, mailbox}
 use Rattle.wire.specs.Head.{is9, headRows}
-use Rattle.sizes.specs.Sizes.{bytesOf}
+use Rattle.sizes.specs.Sizes.{bytesOf, dataLength}
 use Rattle.rules.specs.Messages.{lastWith}
 use Rattle.messages.specs.Rows.{messageFound as found, messageOpen, messageRows}
-use Rattle.contexts.specs.State.{State, freeStream, freeMessage, messageIn}
+use Rattle.contexts.specs.State.{Setup, State, freeStream, freeMessage, messageIn}
+use Rattle.contexts.specs.Words.{stateWords}
+use Rattle.refusal19.specs.Refusal19.{namedBy19}
+use Rattle.refusal19.proofs.Good.{neither}
 use Rattle.streams.specs.Rows.{foundFor, flowOpen, heldBefore, total, notOpen, passesRoom, noneFree, streamRows}
 use Rattle.stream_rooms.specs.Placing as placing
 use Rattle.streams.specs.Joining as stream
+use Rattle.streams.proofs.Kept as streams
 use Rattle.message_rooms.specs.Placing as boxes
 use Rattle.messages.specs.Joining as message
-use Rattle.reading.specs.Desk.{Desk, stateOn}
 use Rattle.reading.specs.Table.{Lent, lent, stateIn, segmentIn, messageSegmentIn, isState, wrongSizes, lentRows, table}
-use Rattle.reading.specs.Read.{ofStream, ofMessage, leaving, outcome, reading}
+use Rattle.reading.specs.Read.{Left, ofStream, ofMessage, leaving, outcome, reading}
+use Rattle.reading.specs.Inside.{Fit, ReadyToRead}
 use Rattle.reading.proofs.Left.{sizes-fit}
-use Rattle.flows.specs.Deliveries.{inRoom}
+use Rattle.reading.proofs.Kept.{settled, room-kept}
+use Rattle.flows.proofs.Rooms.{stored-length, room-length}
 use Rattle.sending.specs.OfSendings.{LengthIsMeasured}
 
 -- the answer is no delivery
@@ -75,61 +78,32 @@ messages-none s memory response p m = go (isSingle m) (messageOpen s m)
     go false true = answer-none m (found s m) (boxes.marksWith m (messageIn s (found s m) .marks)) (lastWith m (messageIn s (found s m) .last))
     go false false = answer-none m (freeMessage s) (boxes.marksWith m 0) (lastWith m 0)
 
--- ---- A room within the memory
+-- ---- What a delivery leaves
 
-length-inside : (m : List ℕ) (from size : ℕ) → from + size ≤ length m → length (take size (drop from m)) ≡ size
-length-inside m from size h = simp (length-take, length-drop) (omega arith)
+-- everything lent fits again; the context is one of so many, and the length no longer than its room
+pub record Delivers (rooms room : ℕ) (y : Left) (context size : ℕ) : Type 0 where
+  pub fit : Fit (y .desk)
+  pub below : context < rooms
+  pub within : size ≤ room
 
--- what is written does not make a memory shorter
-length-written-ge : (memory bytes : List ℕ) (at : ℕ) → at ≤ length memory → length memory ≤ length (written memory at bytes)
-unfolding written
-length-written-ge memory bytes at h = simp (length-append, length-take, length-drop) (omega arith)
+-- the test of the first row with that number: it failed, where all did
+abbrev pub testOf : ℕ → List Row → Bool
+testOf number [] = false
+testOf number (r ∷ rows) = cond (eqb (r .number) number) (r .holds) (testOf number rows)
 
--- what rows 8 to 10 and 12 leave
-record Placeable (s : State) (memory : List ℕ) (g : Segment) : Type 0 where
-  size : length memory ≡ 16 * s .setup .room
-  context : stream.contextFor s g < 16
-  fits : total s g ≤ s .setup .room
-
-measured-stream : (s : State) (memory p : List ℕ) (g : Segment) → Placeable s memory g → (context : ℕ) (flow : Flow) (st size : ℕ)
-    → stream.accepted s memory p g .says ≡ answers.delivered context flow st size
-    → length (inRoom (s .setup .room) (stream.accepted s memory p g .memory) context size) ≡ size
-unfolding stream.accepted placing.placed
-measured-stream s memory p g ok context flow st size = go (g .ends)
+pub row-passed : (number : ℕ) (rows : List Row) → none rows → testOf number rows ≡ false
+unfolding none
+row-passed number [] passed = refl
+row-passed number (r ∷ rows) passed = go (eqb (r .number) number) (row-passed number rows (passed .1))
   where
-    n : ℕ
-    n = stream.contextFor s g
+    go : (b : Bool) → testOf number rows ≡ false → cond b (r .holds) (testOf number rows) ≡ false
+    go true later = passed .0
+    go false later = later
 
-    stored : List ℕ
-    stored = written memory (n * s .setup .room + heldBefore s g) (placing.dataOf p g)
-
-    inside : (size : ℕ) → size ≡ total s g → length (inRoom (s .setup .room) stored n size) ≡ size
-    inside size e =
-        let below : n * s .setup .room + s .setup .room ≤ 16 * s .setup .room = omega (arith, mul-le-mul-right (s .setup .room) (ok .context)) in
-        let long : length memory ≤ length stored = length-written-ge memory (placing.dataOf p g) (n * s .setup .room + heldBefore s g) (omega (arith, ok .fits, ok .size)) in
-        length-inside stored (n * s .setup .room) size (omega (arith, ok .fits, ok .size))
-
-    go : (t : Bool) → cond t (answers.delivered n (g .flow) (stream.streamID s g) (total s g)) answers.held ≡ answers.delivered context flow st size
-        → length (inRoom (s .setup .room) stored context size) ≡ size
-    go true e =
-        let c : n ≡ context = cc in
-        let z : total s g ≡ size = cc in
-        subst (λ (j : ℕ). length (inRoom (s .setup .room) stored j size) ≡ size) c (inside size (sym z))
-    go false e = absurd (held-none context flow st size e)
-
--- ---- The rows
-
-or-false : (a b : Bool) → (a || b) ≡ false → (a ≡ false) × (b ≡ false)
-or-false true b e = (e, cc)
-or-false false b e = (refl, e)
-
--- a test of type 9 packets that does not hold of one
-of-9 : (nine b : Bool) → nine ≡ true → (nine && b) ≡ false → b ≡ false
-of-9 true b e h = h
-of-9 false b e h = absurd (false≢true e)
-
-right-size : (d : Desk) → wrongSizes d ≡ false → length (d .streamMemory) ≡ 16 * stateOn d .setup .room
-right-size d e = sizes-fit d e .0
+-- a row's own test, where the packet has the row's type
+pub of-type : (type b : Bool) → type ≡ true → (type && b) ≡ false → b ≡ false
+of-type true b t e = e
+of-type false b t e = absurd (false≢true t)
 
 below-16 : (s : State) (g : Segment) → notOpen s g ≡ false → noneFree s g ≡ false → stream.contextFor s g < 16
 unfolding notOpen noneFree
@@ -140,36 +114,98 @@ below-16 s g e8 e10 = go (g .begins) (flowOpen s g) refl e8 e10
     go true false e h8 h10 = ltb-true (freeStream s) 16 (not-false (ltb (freeStream s) 16) h10)
     go false false e h8 h10 = absurd (false≢true (sym h8))
 
-pub length-is-measured : LengthIsMeasured
-unfolding reading
-length-is-measured b p context flow st size = by-verdict (verdict (table x)) refl
-  where
-    x : Lent
-    x = lent b p
+data-short : (p : List ℕ) (g : Segment) → length (placing.dataOf p g) ≤ dataLength g
+data-short p g = simp length-take (omega arith)
 
-    placeable : is9 (x .packet) ≡ true → none (table x) → Placeable (stateIn x) (b .streamMemory) (segmentIn x)
-    placeable nine rows =
-        unfold none table lentRows headRows given streamRows messageRows in
-        let row-8 = rows .1 .1 .1 .1 .1 .1 .1 .1 .1 .1 .1 in
-        let row-9 = row-8 .1 in
-        let row-10 = row-9 .1 in
+module _ (x : Lent) (passed : none (table x)) where
+  -- rows 19 and 12
+  pub was-ready : ReadyToRead (x .desk)
+  unfolding none table lentRows headRows given streamRows messageRows
+  was-ready =
+      let row-12 = neither (not (isState (x .desk))) (wrongSizes (x .desk)) (passed .1 .0) in
+      let is-state : isState (x .desk) ≡ true = not-false (isState (x .desk)) (row-12 .0) in
+      let sizes = sizes-fit (x .desk) (row-12 .1) in
+      record {
+        fit = record {
+          whole = eqb-true (length (x .desk .words)) stateWords is-state;
+          good = of-type (isState (x .desk)) (namedBy19 (stateIn x)) is-state (row-passed 19 (table x) passed);
+          rooms = sizes .0;
+          boxes = sizes .1;
+        };
+        reply = sizes .2;
+      }
+
+  module _ (nine : is9 (x .packet) ≡ true) where
+    abbrev g : Segment
+    g = segmentIn x
+
+    abbrev joined : placing.Joined
+    joined = stream.accepted (stateIn x) (x .desk .streamMemory) (x .packet) g
+
+    context-below : stream.contextFor (stateIn x) g < 16
+    unfolding table lentRows headRows given streamRows messageRows
+    context-below = below-16 (stateIn x) g (of-type (is9 (x .packet)) _ nine (row-passed 8 (table x) passed)) (of-type (is9 (x .packet)) _ nine (row-passed 10 (table x) passed))
+
+    row-9 : passesRoom (stateIn x) g ≡ false
+    unfolding table lentRows headRows given streamRows messageRows
+    row-9 = of-type (is9 (x .packet)) _ nine (row-passed 9 (table x) passed)
+
+    fits : total (stateIn x) g ≤ stateIn x .setup .room
+    unfolding passesRoom
+    fits = ltb-false (stateIn x .setup .room) (total (stateIn x) g) row-9
+
+    good-after : namedBy19 (joined .state) ≡ false
+    unfolding table lentRows headRows given streamRows messageRows
+    good-after = streams.accepted-kept (stateIn x) (x .desk .streamMemory) (x .packet) g (was-ready .fit .good) (of-type (is9 (x .packet)) _ nine (row-passed 6 (table x) passed)) row-9
+
+    stream-fit : Fit (ofStream x joined .desk)
+    unfolding stream.accepted placing.placed
+    stream-fit =
+        let kept = settled (x .desk .words) (joined .state) (record { setup = refl; streams = simp length-set; messages = refl }) good-after in
+        let stored = stored-length (stateIn x .setup .room) (x .desk .streamMemory) (was-ready .fit .rooms) (stream.contextFor (stateIn x) g) context-below (heldBefore (stateIn x) g)
+        (placing.dataOf (x .packet) g) (omega (arith, data-short (x .packet) g, fits)) in
         record {
-          size = right-size b (or-false (not (isState b)) (wrongSizes b) (rows .1 .0) .1);
-          context = below-16 (stateIn x) (segmentIn x) (of-9 (is9 (x .packet)) _ nine (row-8 .0)) (of-9 (is9 (x .packet)) _ nine (row-10 .0));
-          fits = unfold passesRoom in (ltb-false (stateIn x .setup .room) (total (stateIn x) (segmentIn x)) (of-9 (is9 (x .packet)) _ nine (row-9 .0)));
+          whole = kept .whole;
+          good = kept .good;
+          rooms = stored ∙ (was-ready .fit .rooms ∙ ap (λ (t : Setup). 16 * t .room) (sym (kept .setup)));
+          boxes = was-ready .fit .boxes;
         }
 
+    stream-delivers : (context : ℕ) (flow : Flow) (st size : ℕ) → joined .says ≡ answers.delivered context flow st size → Delivers 16 (stateIn x .setup .room) (ofStream x joined) context size
+    unfolding stream.accepted placing.placed
+    stream-delivers context flow st size = go (g .ends)
+      where
+        n : ℕ
+        n = stream.contextFor (stateIn x) g
+
+        go : (t : Bool) → cond t (answers.delivered n (g .flow) (stream.streamID (stateIn x) g) (total (stateIn x) g)) answers.held ≡ answers.delivered context flow st size
+            → Delivers 16 (stateIn x .setup .room) (ofStream x joined) context size
+        go true e =
+            let same-context : n ≡ context = cc in
+            let same-size : total (stateIn x) g ≡ size = cc in
+            record { fit = stream-fit; below = omega (arith, context-below); within = omega (arith, fits) }
+        go false e = absurd (held-none context flow st size e)
+
+pub delivers : (x : Lent) (context : ℕ) (flow : Flow) (st size : ℕ) → reading x .says ≡ answers.delivered context flow st size → Delivers 16 (stateIn x .setup .room) (reading x) context size
+unfolding reading
+delivers x context flow st size = by-verdict (verdict (table x)) refl
+  where
     by-type : (t : Bool) → is9 (x .packet) ≡ t → none (table x)
         → (cond t
-        (ofStream x (stream.accepted (stateIn x) (b .streamMemory) p (segmentIn x)))
-        (ofMessage x (message.messageAccepted (stateIn x) (b .messageMemory) (b .response) p (messageSegmentIn x)))) .says ≡ answers.delivered context flow st size
-        → length (inRoom (stateIn x .setup .room) ((cond t
-        (ofStream x (stream.accepted (stateIn x) (b .streamMemory) p (segmentIn x)))
-        (ofMessage x (message.messageAccepted (stateIn x) (b .messageMemory) (b .response) p (messageSegmentIn x)))) .desk .streamMemory) context size) ≡ size
-    by-type true nine rows e = measured-stream (stateIn x) (b .streamMemory) p (segmentIn x) (placeable nine rows) context flow st size e
-    by-type false nine rows e = absurd (messages-none (stateIn x) (b .messageMemory) (b .response) p (messageSegmentIn x) context flow st size e)
+        (ofStream x (stream.accepted (stateIn x) (x .desk .streamMemory) (x .packet) (segmentIn x)))
+        (ofMessage x (message.messageAccepted (stateIn x) (x .desk .messageMemory) (x .desk .response) (x .packet) (messageSegmentIn x)))) .says ≡ answers.delivered context flow st size
+        → Delivers 16 (stateIn x .setup .room) (cond t
+        (ofStream x (stream.accepted (stateIn x) (x .desk .streamMemory) (x .packet) (segmentIn x)))
+        (ofMessage x (message.messageAccepted (stateIn x) (x .desk .messageMemory) (x .desk .response) (x .packet) (messageSegmentIn x)))) context size
+    by-type true nine passed e = stream-delivers x passed nine context flow st size e
+    by-type false nine passed e = absurd (messages-none (stateIn x) (x .desk .messageMemory) (x .desk .response) (x .packet) (messageSegmentIn x) context flow st size e)
 
-    by-verdict : (v : Verdict) → verdict (table x) ≡ v → outcome x v .says ≡ answers.delivered context flow st size
-        → length (inRoom (stateIn x .setup .room) (outcome x v .desk .streamMemory) context size) ≡ size
+    by-verdict : (v : Verdict) → verdict (table x) ≡ v → outcome x v .says ≡ answers.delivered context flow st size → Delivers 16 (stateIn x .setup .room) (outcome x v) context size
     by-verdict (refuse number leaves) e d = absurd (leaving-none x number leaves context flow st size d)
     by-verdict accept e d = by-type (is9 (x .packet)) refl (none-held (table x) e) d
+
+pub length-is-measured : LengthIsMeasured
+length-is-measured d p context flow st size e =
+    let left = delivers (lent d p) context flow st size e in
+    let rooms : length (reading (lent d p) .desk .streamMemory) ≡ 16 * stateIn (lent d p) .setup .room = left .fit .rooms ∙ ap (λ (r : ℕ). 16 * r) (room-kept (lent d p)) in
+    room-length (stateIn (lent d p) .setup .room) context size (reading (lent d p) .desk .streamMemory) rooms (left .below) (left .within)

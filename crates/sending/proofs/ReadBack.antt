@@ -95,12 +95,12 @@ module _ (setup : Setup) (flow : Flow) (s : Sent) (b : Desk) (ranges : Ranges se
 
   -- the board before packet k
   record Before (k : ℕ) : Type 0 where
-    ok : begins .Ok (deskAt setup flow s b k)
-    has : view (deskAt setup flow s b k) flow ≡ before k
+    ok : begins .Ok (deskAt read setup flow s b k)
+    has : view (deskAt read setup flow s b k) flow ≡ before k
 
-  call : (k : ℕ) → k < packetCount (setup .mtu) s → Before k → Own (begins .Ok) setup flow (deskAt setup flow s b k) (packetAt setup flow s k)
+  call : (k : ℕ) → k < packetCount (setup .mtu) s → Before k → Own (begins .Ok) setup flow (deskAt read setup flow s b k) (packetAt setup flow s k)
   call k below at =
-      by-own setup (flow ∷ []) (begins .Ok) (begins .law) (begins .own-R) flow (among-itself flow) (deskAt setup flow s b k) (packetAt setup flow s k) (at .ok)
+      by-own setup (flow ∷ []) (begins .Ok) (begins .law) (begins .own-R) flow (among-itself flow) (deskAt read setup flow s b k) (packetAt setup flow s k) (at .ok)
       (proper-packet setup flow ranges s fair k below)
 
   reached : (k : ℕ) → k < packetCount (setup .mtu) s → Before k
@@ -114,20 +114,20 @@ module _ (setup : Setup) (flow : Flow) (s : Sent) (b : Desk) (ranges : Ranges se
       }
 
   tells-at : (k : ℕ) (told : Told) → k < packetCount (setup .mtu) s → packetStep setup (before k) (packetAt setup flow s k) .told ≡ told
-      → Tells (setup .room) (deskAt setup flow s b (suc k) .streamMemory) flow (read (deskAt setup flow s b k) (packetAt setup flow s k) .says) told
+      → Tells (setup .room) (deskAt read setup flow s b (suc k) .streamMemory) flow (read (deskAt read setup flow s b k) (packetAt setup flow s k) .says) told
   tells-at k told below e =
       let at = reached k below in
-      subst (Tells (setup .room) (deskAt setup flow s b (suc k) .streamMemory) flow (read (deskAt setup flow s b k) (packetAt setup flow s k) .says))
+      subst (Tells (setup .room) (deskAt read setup flow s b (suc k) .streamMemory) flow (read (deskAt read setup flow s b k) (packetAt setup flow s k) .says))
       (ap (λ (o : Option PDU). packetStep setup o (packetAt setup flow s k) .told) (at .has) ∙ e) (call k below at .tells)
 
-  reads-back : ReadsBack setup flow s b
+  reads-back : ReadsBack read setup flow s b
   reads-back = record {
     each = λ k h. tells-at k held (omega arith) (ap (λ (x : FlowOutcome). x .told) (step-inner k h .1));
     last = λ k e.
-        hands-back (setup .room) flow (s .pdu) (deskAt setup flow s b (suc k)) _
+        hands-back (setup .room) flow (s .pdu) (deskAt read setup flow s b (suc k)) _
         (λ context other stream size e′.
-        ap (λ (r : ℕ). length (inRoom r (deskAt setup flow s b (suc k) .streamMemory) context size)) (sym (begins .own-R (deskAt setup flow s b k) (reached k (omega arith) .ok)))
-        ∙ length-is-measured (deskAt setup flow s b k) (packetAt setup flow s k) context other stream size e′)
+        ap (λ (r : ℕ). length (inRoom r (deskAt read setup flow s b (suc k) .streamMemory) context size)) (sym (begins .own-R (deskAt read setup flow s b k) (reached k (omega arith) .ok)))
+        ∙ length-is-measured (deskAt read setup flow s b k) (packetAt setup flow s k) context other stream size e′)
         (tells-at k (delivered (s .pdu)) (omega arith) (step-last k e));
   }
 

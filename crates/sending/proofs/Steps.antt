@@ -131,7 +131,7 @@ module _ (setup : Setup) (flow : Flow) (ranges : Ranges setup flow) (s : Sent) (
         heading = in-range k;
         allowed = ranges .allowed .allowed-MTU;
         bytes = fair .bytes;
-        some-byte = fair .some-byte;
+        some-byte = omega (arith, fair .some-byte);
         size = omega (arith, fair .fits, most-R);
         segment = below;
       })
@@ -177,7 +177,7 @@ module _ (setup : Setup) (flow : Flow) (ranges : Ranges setup flow) (s : Sent) (
   bounds = count-bounds (setup .mtu) (length bytes) mtu-pos
 
   pub some-packet : 0 < packetCount (setup .mtu) s
-  some-packet = count-pos (setup .mtu) (length bytes) (ranges .allowed .allowed-MTU) (fair .some-byte)
+  some-packet = count-pos (setup .mtu) (length bytes) (ranges .allowed .allowed-MTU) (omega (arith, fair .some-byte))
 
   -- the last holds what is left, 1 to MTU
   pub last-size : (k : ℕ) → suc k ≡ packetCount (setup .mtu) s → (k * (setup .mtu) < length bytes) × (length bytes ≤ k * (setup .mtu) + (setup .mtu)) × (length (segmentData (setup .mtu) bytes k) + k * (setup .mtu) ≡ length bytes)

@@ -1,5 +1,5 @@
 -- What holds of a sending, as statements (document 01, demands 2 and 3). Each is proved in proofs/; nothing here is part of a proof.
-use Prim.Native.Nat.{ℕ, zero, suc, _<_}
+use Prim.Native.Nat.{ℕ, zero, suc, _≤_, _<_}
 use mathlib.Core.Path.{_≡_}
 use mathlib.Core.List.{List, [], _∷_}
 use mathlib.Core.Option.{none}
@@ -10,10 +10,10 @@ use Rattle.cutting.specs.Cutting.{packetOf}
 use Rattle.flows.specs.OneFlow.{PDU}
 use Rattle.contexts.specs.State.{Setup}
 use Rattle.reading.specs.Desk.{Desk, stateOn}
-use Rattle.flows.specs.Deliveries.{read, after, deliveries, inRoom, view}
+use Rattle.flows.specs.Deliveries.{Endpoint, read, after, deliveries, inRoom, view}
 use Rattle.flows.specs.Fresh.{Allowed, Fresh}
 use Rattle.flows.specs.ByFlow.{ByFlow}
-use Rattle.sending.specs.Sending.{Sent, packetCount, headingFor, FairPDU, Ranges, Sending, flowsOf, packets, whole, Fair, FairAnyLoss}
+use Rattle.sending.specs.Sending.{Sent, packetCount, headingFor, FairPDU, Ranges, Sending, flowsOf, packets, whole, FairlySent, Fair, FairAnyLoss}
 
 -- A desk of that setup on which no flow is open, and from which on the laws between a flow and the endpoint hold.
 pub record Begins (setup : Setup) (flows : List Flow) (b : Desk) : Type 1 where
@@ -23,9 +23,12 @@ pub record Begins (setup : Setup) (flows : List Flow) (b : Desk) : Type 1 where
   pub own-R : stateOn b .setup .room ≡ setup .room
   pub closed : (flow : Flow) → view b flow ≡ none
 
--- a desk that was just set up begins, once the laws hold of it
+-- a desk that was just set up begins, for at most sixteen flows; so for those of a sending
 abbrev pub FreshBegins : Type 1
-FreshBegins = (setup : Setup) (flows : List Flow) (b : Desk) (Ok : Desk → Type 0) → ByFlow setup flows Ok → Ok b → Fresh setup b → Begins setup flows b
+FreshBegins = (setup : Setup) (flows : List Flow) (b : Desk) → length flows ≤ 16 → Fresh setup b → Begins setup flows b
+
+abbrev pub SendingBegins : Type 1
+SendingBegins = (setup : Setup) (s : Sending) (b : Desk) → FairlySent setup s → Fresh setup b → Begins setup (flowsOf s) b
 
 -- ---- Demand 3
 
@@ -65,10 +68,13 @@ SamePacketsSameWhole =
 abbrev pub packetAt : Setup → Flow → Sent → ℕ → List ℕ
 packetAt setup flow s k = packetOf (headingFor (setup .device) flow s k) (setup .mtu) (s .pdu .bytes) k
 
--- the desk after the first k packets
-abbrev pub deskAt : Setup → Flow → Sent → Desk → ℕ → Desk
-deskAt setup flow s b zero = b
-deskAt setup flow s b (suc k) = after (deskAt setup flow s b k) (packetAt setup flow s k)
+-- the desk after the first k packets, and what packet k gets there
+abbrev pub deskAt : Endpoint → Setup → Flow → Sent → Desk → ℕ → Desk
+deskAt e setup flow s d zero = d
+deskAt e setup flow s d (suc k) = e (deskAt e setup flow s d k) (packetAt setup flow s k) .desk
+
+abbrev pub saysAt : Endpoint → Setup → Flow → Sent → Desk → ℕ → Said
+saysAt e setup flow s d k = e (deskAt e setup flow s d k) (packetAt setup flow s k) .says
 
 -- delivered from some context: flow, streamID and length, and the room then holds exactly the PDU's bytes
 pub record HandsBack (R : ℕ) (flow : Flow) (p : PDU) (b : Desk) (says : Said) : Type 0 where
@@ -82,12 +88,12 @@ LengthIsMeasured =
     (b : Desk) (p : List ℕ) (context : ℕ) (flow : Flow) (stream size : ℕ) → read b p .says ≡ delivered context flow stream size
     → length (inRoom (stateOn b .setup .room) (after b p .streamMemory) context size) ≡ size
 
--- one PDU alone: every packet but the last is held, and the last delivers the PDU
-pub record ReadsBack (setup : Setup) (flow : Flow) (s : Sent) (b : Desk) : Type 0 where
-  pub each : (k : ℕ) → suc k < packetCount (setup .mtu) s → read (deskAt setup flow s b k) (packetAt setup flow s k) .says ≡ held
-  pub last : (k : ℕ) → suc k ≡ packetCount (setup .mtu) s → HandsBack (setup .room) flow (s .pdu) (deskAt setup flow s b (suc k)) (read (deskAt setup flow s b k) (packetAt setup flow s k) .says)
+-- one PDU alone, read by an endpoint: every packet but the last is held, and the last delivers the PDU
+pub record ReadsBack (e : Endpoint) (setup : Setup) (flow : Flow) (s : Sent) (d : Desk) : Type 0 where
+  pub each : (k : ℕ) → suc k < packetCount (setup .mtu) s → saysAt e setup flow s d k ≡ held
+  pub last : (k : ℕ) → suc k ≡ packetCount (setup .mtu) s → HandsBack (setup .room) flow (s .pdu) (deskAt e setup flow s d (suc k)) (saysAt e setup flow s d k)
 
 abbrev pub ReadBack : Type 1
 ReadBack =
     (setup : Setup) (flow : Flow) (s : Sent) (b : Desk) → Ranges setup flow → FairPDU (setup .room) s → Begins setup (flow ∷ []) b
-    → ReadsBack setup flow s b
+    → ReadsBack read setup flow s b

@@ -34,6 +34,11 @@ pub data VerdictOf (L : Type 0) : Type 0 where
 abbrev pub Verdict : Type 0
 Verdict = VerdictOf Leaves
 
+-- its number; 0: accepted
+abbrev pub numberOf : {L : Type 0} → VerdictOf L → ℕ
+numberOf (refuse number leaves) = number
+numberOf accept = 0
+
 -- the first row whose test holds; none: accepted
 unfoldable pub verdict : {L : Type 0} → List (RowOf L) → VerdictOf L
 verdict [] = accept

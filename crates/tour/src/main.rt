@@ -17,14 +17,13 @@ fn line(answer: Answer) {
         }
         Answer::Delivered {
             context: _,
-            source,
-            cos,
+            flow,
             stream,
             length,
         } => {
             print_text(b"pdu");
-            number(source);
-            number(cos);
+            number(flow.source);
+            number(flow.cos);
             number(stream);
             number(length);
         }

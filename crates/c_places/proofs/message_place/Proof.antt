@@ -1,46 +1,22 @@
 -- `c_places::message_place` meets its contract: nowhere without a state, else the room's place.
-use Rattle.c_places.proofs.Laws.{message-short, message-named, message-there}
-use Rattle.c_places.specs.Places.{placeOf}
-use mathlib.Core.Path.{ap, sym, _∙_}
+use mathlib.Core.Path.{ap, _∙_}
 use borrow.Author.Needs.{needs}
+use Rattle.c_places.specs.Places.{placeOf}
+use Rattle.c_places.proofs.Laws.{message-nowhere, message-there}
 use Rattle.c_places.proofs.message_place.Statement.{statement}
 use Rattle.c_places.proofs.message_place.Tie as tie
 
-nowhere-requires : tie.Need-nowhere-requires
-nowhere-requires c κs = search needs
-
+-- no state, or one that 19 names
 returns : tie.Need-returns
 returns c =
-    let s = c .before .before .before in
-    c .nowhere .ensures ∙ ap placeOf (message-short (s .args .state .now) (s .args .size) (s .args .n) (s .args .l) (c .before .if1 .taken))
+    let test = c .before in
+    c .nowhere .ensures ∙ ap placeOf (message-nowhere _ _ _ _ _ (test .before .state-refusal .ensures) (test .if1 .taken))
 
-named-by-19-requires : tie.Need-named-by-19-requires
-named-by-19-requires c κs = search needs
-
-nowhere-requires-2 : tie.Need-nowhere-requires-2
-nowhere-requires-2 c κs = search needs
-
+-- the room's place
 returns-2 : tie.Need-returns-2
 returns-2 c =
-    let s = c .before .before .before .before .before in
-    c .nowhere2 .ensures ∙ ap placeOf (message-named (s .args .state .now) (s .args .size) (s .args .n) (s .args .l) (c .before .before .before .if1 .left) (sym (c .before .before .named-by-19 .ensures) ∙ c .before .if2 .taken))
-
-room-at-requires : tie.Need-room-at-requires
-room-at-requires c κs = search needs
-
-returns-3 : tie.Need-returns-3
-returns-3 c =
-    let s = c .before .before .before .before .before in
-    c .room-at .ensures ∙ ap placeOf (message-there (s .args .state .now) (s .args .size) (s .args .n) (s .args .l) (c .before .before .before .if1 .left) (sym (c .before .before .named-by-19 .ensures) ∙ c .before .if2 .left))
+    let fine = c .before in
+    c .room-at .ensures ∙ ap placeOf (message-there _ _ _ _ _ (fine .before .state-refusal .ensures) (fine .if1 .left))
 
 pub message-place-spec : {M : Type 1} → statement M
-message-place-spec =
-    tie.close
-    (tie.spec
-    nowhere-requires
-    returns
-    named-by-19-requires
-    nowhere-requires-2
-    returns-2
-    room-at-requires
-    returns-3)
+message-place-spec = tie.close (tie.spec (λ c κs. search needs) (λ c κs. search needs) returns (λ c κs. search needs) returns-2)

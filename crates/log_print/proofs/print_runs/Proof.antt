@@ -60,7 +60,7 @@ returns : tie.Need-returns Inv-loop μ-loop
 returns c =
     let called = c .before .before .before .before .before .before .before .before in
     let i = called .before .before .before .before .before .before .loop .inv in
-    omega (arith, adds-last _ _ _ _ _ _ _ _ (called .run .ensures .0) (i .few) (c .if1 .taken), i .whole)
+    omega (arith, adds-last (desk _ _ _ _) _ _ _ _ _ (desk _ _ _ _) _ (called .run .ensures .0) (i .few) (c .if1 .taken), i .whole)
 
 -- one more run: it has come on
 loop-less : tie.Need-loop-less Inv-loop μ-loop
@@ -76,14 +76,14 @@ loop-again c =
     let i = called .before .before .before .before .before .before .loop .inv in
     let r = called .run in
     let o = r .ensures .1 .1 (omega (arith, i .buffer)) (c .if1 .left) in
-    let m = adds-more _ _ _ _ _ _ _ _ (r .ensures .0) (i .few) (c .if1 .left) in
+    let m = adds-more (desk _ _ _ _) _ _ _ _ _ (desk _ _ _ _) _ (r .ensures .0) (i .few) (c .if1 .left) in
     record {
       words = r .kept .0 ∙ i .words;
       streams = r .kept .1 .0 ∙ i .streams;
       messages = r .kept .1 .1 .0 ∙ i .messages;
       reply = r .kept .1 .1 .1 .0 ∙ i .reply;
       buffer = r .kept .1 .1 .1 .1 .1 .1 .1 .0 ∙ i .buffer;
-      few = few-behind _ _ _ _ _ _ _ _ (r .ensures .0) (i .few);
+      few = few-behind (desk _ _ _ _) _ _ _ _ _ (desk _ _ _ _) _ (r .ensures .0) (i .few);
       inside = o .1;
       fits = omega (arith, o .0, i .fits, i .buffer, r .ensures .1 .0);
       whole = omega (arith, m, i .whole);

@@ -1,6 +1,7 @@
 -- `log_run::next_line` meets its contract: by what stands at the place.
 use native.Mathlib.Omega.{arith}
 use mathlib.Core.Path.{sym, _∙_}
+use Rattle.reading.specs.Desk.{desk}
 use Rattle.log_run.proofs.Laws.{at-end, at-bad, at-record, neither, packet-size}
 use Rattle.log_records.proofs.Found.{inside}
 use borrow.Author.Needs.{needs}
@@ -12,7 +13,7 @@ returns : tie.Need-returns
 returns c =
     let put = c .before .before in
     let told = put .before .before in
-    (at-end _ _ _ _ _ _ _ (sym (told .before .before .next-record .ensures) ∙ told .enum-told .given .1) (put .write-end .ensures .0), put .write-end .ensures .1)
+    (at-end (desk _ _ _ _) _ _ _ _ _ _ (sym (told .before .before .next-record .ensures) ∙ told .enum-told .given .1) (put .write-end .ensures .0), put .write-end .ensures .1)
 
 -- a log that is bad there
 returns-2 : tie.Need-returns-2
@@ -21,7 +22,7 @@ returns-2 c =
     let no-record = put .before .before in
     let found = no-record .before .before in
     let bad = neither _ (no-record .before .match .keys2) (no-record .match2 .keys2) in
-    (at-bad _ _ _ _ _ _ _ (sym (found .next-record .ensures) ∙ bad) (put .write-bad .ensures .0), put .write-bad .ensures .1)
+    (at-bad (desk _ _ _ _) _ _ _ _ _ _ (sym (found .next-record .ensures) ∙ bad) (put .write-bad .ensures .0), put .write-bad .ensures .1)
 
 -- a record: its packet lies inside the log
 sub-read : tie.Need-sub-read
@@ -49,7 +50,7 @@ returns-3 c =
     let told = called .before .before .before .before .before .before .before in
     let e = sym (told .before .before .before .next-record .ensures) ∙ told .found .given .1 in
     let r = inside _ _ _ _ _ e in (
-      at-record _ _ _ _ _ _ _ _ _ (called .read .result) _ _ _ _ _ _ e (packet-size _ _ _ _ _ e) (called .read .ensures) (put .write-line .ensures .0),
+      at-record (desk _ _ _ _) _ _ _ _ _ _ _ _ (called .read .result) _ _ _ _ _ _ e (packet-size _ _ _ _ _ e) (called .read .ensures) (put .write-line .ensures .0),
       (put .write-line .ensures .1, r .onward, r .within),
     )
 

@@ -63,7 +63,7 @@ loop-again c =
       n .kept .1 .0 ∙ i .1,
       n .kept .1 .1 .0 ∙ i .2,
       n .kept .1 .1 .1 .0 ∙ i .3,
-      turn _ _ _ _ _ _ _ _ _ _ (i .4) _ _ _ _ _ (c .before .piece .given .1) (tested .loop-test .taken) (n .ensures .1) (n .ensures .0),
+      turn _ _ _ _ _ _ _ _ _ _ (i .4) _ _ _ (desk _ _ _ _) _ (c .before .piece .given .1) (tested .loop-test .taken) (n .ensures .1) (n .ensures .0),
     )
 
 -- the last line
@@ -83,8 +83,8 @@ returns-2 c =
     let g = tested .before .loop .inv .4 in
     let n = called .next-line in
     let last = c .before .piece2 .given .1 in
-    let p = ends _ _ _ _ _ _ _ _ _ _ g _ _ _ _ last (tested .loop-test .taken) (n .ensures .1) (n .ensures .0) in
-    (p, onward-by _ _ _ _ _ _ _ _ p (omega (arith, of-last _ _ _ _ (n .ensures .1) last, g .fits, g .same)))
+    let p = ends _ _ _ _ _ _ _ _ _ _ g _ _ (desk _ _ _ _) _ last (tested .loop-test .taken) (n .ensures .1) (n .ensures .0) in
+    (p, onward-by _ _ _ _ _ _ (desk _ _ _ _) _ p (omega (arith, of-last _ _ _ _ (n .ensures .1) last, g .fits, g .same)))
 
 -- no room for one more line
 returns-3 : tie.Need-returns-3 Inv-loop μ-loop

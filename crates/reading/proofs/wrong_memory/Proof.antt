@@ -1,15 +1,12 @@
 -- `reading::wrong_memory` meets its contract: each return follows from the tests on the way; 16 R fits, since R is at most 65,536.
-use Rattle.refusal19.proofs.Good.{good}
-use Rattle.contexts.specs.Words.{stateOf}
-use Rattle.reading.specs.Table.{wrongSizes}
-use borrow.Author.Tests.{eq-eqb, ne-eqb}
 use native.Mathlib.Omega.{arith}
+use borrow.Author.Tests.{eq-eqb, ne-eqb}
 use borrow.Author.Needs.{needs}
+use Rattle.contexts.specs.Words.{stateOf}
+use Rattle.refusal19.proofs.Good.{good}
+use Rattle.reading.specs.Table.{wrongSizes}
 use Rattle.reading.proofs.wrong_memory.Statement.{statement}
 use Rattle.reading.proofs.wrong_memory.Tie as tie
-
-room-requires : tie.Need-room-requires
-room-requires c κs = search needs
 
 mul-if1 : tie.Need-mul-if1
 mul-if1 c =
@@ -17,17 +14,24 @@ mul-if1 c =
     let g = good (stateOf (s .args .state .now)) (s .pre .1) in
     omega (arith, g .room, c .room .ensures)
 
+-- the stream memory
 returns : tie.Need-returns
 unfolding wrongSizes
 returns c = simp (← c .before .room .ensures, ne-eqb _ _ (c .if1 .taken))
 
+-- the message memory
 returns-2 : tie.Need-returns-2
 unfolding wrongSizes
-returns-2 c = simp (← c .before .before .room .ensures, eq-eqb _ _ (c .before .if1 .left), ne-eqb _ _ (c .if2 .taken))
+returns-2 c =
+    let streams = c .before in
+    simp (← streams .before .room .ensures, eq-eqb _ _ (streams .if1 .left), ne-eqb _ _ (c .if2 .taken))
 
+-- the response buffer
 returns-3 : tie.Need-returns-3
 unfolding wrongSizes
-returns-3 c = simp (← c .before .before .room .ensures, eq-eqb _ _ (c .before .if1 .left), eq-eqb _ _ (c .if2 .left))
+returns-3 c =
+    let streams = c .before in
+    simp (← streams .before .room .ensures, eq-eqb _ _ (streams .if1 .left), eq-eqb _ _ (c .if2 .left))
 
 pub wrong-memory-spec : {M : Type 1} → statement M
-wrong-memory-spec = tie.close (tie.spec room-requires mul-if1 returns returns-2 returns-3)
+wrong-memory-spec = tie.close (tie.spec (λ c κs. search needs) mul-if1 returns returns-2 returns-3)

@@ -1,0 +1,119 @@
+-- The premises can be met.
+use Prim.Native.Nat.{ℕ, zero, suc, _+_}
+use mathlib.Core.Path.{_≡_, refl}
+use mathlib.Core.List.{List, [], _∷_}
+use native.Mathlib.Omega.{arith}
+use lib.ListN.{length, take, drop, replicate}
+use denote.Ref.{RefT}
+use Rattle.answers.specs.Answers.{Said, held, delivered, message, refused, said}
+use Rattle.tables.specs.Refusals.{verdict}
+use Rattle.wire.specs.declared.Flow.{Flow}
+use Rattle.wire.specs.Parsed.{parsed}
+use Rattle.sizes.specs.Sizes.{badMTU}
+use Rattle.refusal19.specs.Refusal19.{badRoom}
+use Rattle.contexts.specs.State.{Setup}
+use Rattle.contexts.specs.Words.{stateWords}
+use Rattle.reading.specs.Desk.{Desk, withResponse}
+use Rattle.reading.specs.Table.{Lent, lent}
+use Rattle.reading.specs.Read.{reading}
+use Rattle.reading.proofs.Spoken.{answered-by, promised}
+use Rattle.cutting.specs.Cutting.{segmentCount}
+use Rattle.endpoint.specs.Calls.{Part, setupTable, setup, streamRoom}
+use Rattle.flows.specs.Deliveries.{Delivery}
+use Rattle.flows.specs.Fresh.{Allowed, zeroDesk}
+use Rattle.flows.specs.ByFlow.{AreBytes}
+use Rattle.sending.specs.Sending.{Sent, packetCount, putOf, packets, FairPDU}
+use Rattle.sending.specs.OfSendings.{packetAt}
+use Rattle.sending.specs.Joint.{isJoint}
+use Rattle.sending.specs.Mixture.{smallSetup, mixture}
+use Rattle.sending.proofs.Decided.{each-by, under, are-bytes, fair-PDU, deciding}
+use Rattle.paper_examples.proofs.Computing.{computing}
+use Rattle.demands.specs.Calls.{Fetches, room, none-held, none-message, none-refused, Reads, stop, call, Writes, written-all, write}
+use Rattle.demands.specs.OfCalls.{SetUp}
+use Rattle.demands.specs.Witnesses.{CallsNotEmpty, AllowedNotEmpty, FlowsNotEmpty, endLost, startLost, JointNotEmpty}
+use Rattle.demands.proofs.Demands.{zeros-fresh}
+use Rattle.demands.proofs.Writing.{counted, written-well}
+
+-- ---- Calls
+
+sets-up : (s : Setup) → Allowed s → SetUp s (zeroDesk s)
+unfolding setup setupTable verdict
+sets-up s allowed = record {
+  device-ID = allowed .device-ID;
+  before = replicate stateWords 0;
+  ready = rw (allowed .allowed-MTU, allowed .allowed-R);
+  lends = zeros-fresh s allowed .lends;
+}
+
+-- a room call can be made over any memory
+fetch-made : (d : Desk) (says : Said) → (fetched : List Delivery) × Fetches d says fetched
+fetch-made d held = (_, none-held)
+fetch-made d (message context source letter mailbox size) = (_, none-message)
+fetch-made d (refused number) = (_, none-refused)
+fetch-made d (delivered context flow stream size) = (_, room memory handed refl (record { block = refl; offset = refl; bytes = refl }))
+  where
+    q : Part
+    q = streamRoom (d .words) (length (d .streamMemory)) context size
+
+    memory : RefT (List ℕ)
+    memory = record { ptr = (0, 0); name = 0; now = d .streamMemory }
+
+    handed : RefT (List ℕ)
+    handed = record { ptr = (0, 0 + q .from); name = 0; now = take (q .size) (drop (q .from) (d .streamMemory)) }
+
+-- a call for each packet, with a response buffer of 7
+calls-made : (ps : List (List ℕ)) (d : Desk) → (ds : List Delivery) × Reads d ps ds
+calls-made [] d = ([], stop)
+calls-made (p ∷ ps) d =
+    let x : Lent = lent (withResponse d (replicate 7 0)) p in
+    let fetch = fetch-made (reading x .desk) (said (answered-by x .answer)) in
+    let rest = calls-made ps (reading x .desk) in
+    (_, call (answered-by x) (replicate 7 0) (omega arith) (promised x) (fetch .1) (rest .1))
+
+-- the writer, with a buffer as long as the packet
+module _ (s : Setup) (flow : Flow) (x : Sent) (allowed : Allowed s) (fair : FairPDU (s .room) x) where
+  writes-made : (n k : ℕ) → k + n ≡ packetCount (s .mtu) x → (ps : List (List ℕ)) × Writes s flow x k n ps
+  writes-made zero k e = (_, written-all)
+  writes-made (suc n) k e =
+      let packet : List ℕ = packetAt s flow x k in
+      (_, write packet _ _ (written-well s flow x allowed fair packet k (omega arith) (omega arith)) (writes-made n (suc k) (omega arith) .1))
+
+pub calls-not-empty : CallsNotEmpty
+calls-not-empty = record {
+  sets-up = sets-up;
+  reads = λ d ps. calls-made ps d;
+  writes = λ s flow x count allowed fair says. writes-made s flow x allowed fair count 0 (omega (arith, says, counted s flow x allowed fair));
+}
+
+pub allowed-not-empty : AllowedNotEmpty
+unfolding badMTU badRoom
+allowed-not-empty = record { device-ID = omega arith; allowed-MTU = refl; allowed-R = refl }
+
+-- ---- Packets of two flows
+
+small-allowed : Allowed smallSetup
+unfolding badMTU badRoom
+small-allowed = record { device-ID = omega arith; allowed-MTU = refl; allowed-R = refl }
+
+pub flows-not-empty : FlowsNotEmpty
+unfolding deciding computing parsed putOf
+flows-not-empty = record {
+  fresh = zeros-fresh smallSetup small-allowed;
+  few = omega arith;
+  bytes = each-by AreBytes (under 256) are-bytes (packets smallSetup mixture) refl;
+  occur = (refl, (refl, (refl, (refl, (refl, (refl, (refl, tt)))))));
+}
+
+-- ---- A joint
+pub joint-not-empty : JointNotEmpty
+unfolding deciding segmentCount isJoint
+joint-not-empty = record {
+  pair = record {
+    ranges = record { allowed = allowed-not-empty; source = omega arith; cos = omega arith };
+    first-fair = fair-PDU 2048 endLost refl;
+    second-fair = fair-PDU 2048 startLost refl;
+    first-loses = refl;
+    second-loses = refl;
+  };
+  joint = refl;
+}

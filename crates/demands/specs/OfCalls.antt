@@ -1,0 +1,67 @@
+-- DEMANDS 2 AND 3 OF THE CALLS THAT PEOPLE MAKE. Of calls from C and of bursts: c_promises/specs/OfCalls.antt.
+use Prim.Native.Nat.{ℕ, _≤_, _<_}
+use mathlib.Core.Path.{_≡_}
+use mathlib.Core.List.{List, [], _∷_}
+use mathlib.Core.Bool.{false}
+use lib.ListN.{length}
+use Rattle.answers.specs.declared.Begun.the-variants.{Ready}
+use Rattle.wire.specs.declared.Flow.{Flow}
+use Rattle.sizes.specs.Sizes.{badMTU}
+use Rattle.contexts.specs.State.{Setup}
+use Rattle.reading.specs.Desk.{Desk}
+use Rattle.endpoint.specs.Calls.{SetupPromise}
+use Rattle.segments.specs.Writer.{CountPromise}
+use Rattle.flows.specs.Deliveries.{Delivery, delivery}
+use Rattle.flows.specs.Fresh.{Lends, Fresh}
+use Rattle.sending.specs.Sending.{Sent, Sending, packets, whole, FairPDU, FairlySent, OneLossEach, NoNeighboursLose, Fair}
+use Rattle.demands.specs.Calls.{Reads, Writes}
+
+-- From fresh: `setup` said ready, for a device ID of 16 bits, and left the desk's words; and memories that 12 allows are lent, whatever is in them
+pub record SetUp (setup : Setup) (d : Desk) : Type 0 where
+  pub device-ID : setup .device < 65536
+  pub before : List ℕ
+  pub ready : SetupPromise before (setup .device) (setup .mtu) (setup .room) Ready (d .words)
+  pub lends : Lends setup d
+
+abbrev pub SetUpIsFresh : Type 0
+SetUpIsFresh = (setup : Setup) (d : Desk) → SetUp setup d → Fresh setup d
+
+-- DEMAND 2, of the calls: `setup`, as many calls of the writer as `segment_count` says, and a call of `read` for each packet with what is fetched
+-- after it. They deliver exactly that PDU
+abbrev pub Demand2OfCalls : Type 0
+Demand2OfCalls =
+    (setup : Setup) (d : Desk) (flow : Flow) (s : Sent) (count : ℕ) (ps : List (List ℕ)) (ds : List Delivery)
+    -- an endpoint of that address and MTU, from fresh
+    → SetUp setup d
+    -- a PDU that its room holds, with fields in their ranges
+    → flow .source < 65536 → flow .cos < 256 → FairPDU (setup .room) s
+    -- segments 0 to count-1, each written into any buffer
+    → CountPromise (setup .mtu) (length (s .pdu .bytes)) count → Writes setup flow s 0 count ps
+    -- read one after the other
+    → Reads d ps ds
+    → ds ≡ delivery flow (s .pdu) ∷ []
+
+-- DEMAND 3, of the calls. Its sentence stands here clause by clause, each above what says it; 'one PDU at a time on each, cut by the rules, addressed
+-- to the endpoint, each flow in order' is how `packets` is made of a sending: at its turn a flow puts its next packet on
+abbrev pub Demand3OfCalls : Type 0
+Demand3OfCalls =
+    (setup : Setup) (d : Desk) (s : Sending) (ds : List Delivery)
+    -- From fresh:
+    → SetUp setup d
+    -- whole PDUs, each no longer than a room (its field `flows`), on at most sixteen flows (`sixteen`), flows mixed at will, message packets between
+    -- (`turns`: these, and any others that are no type 9 segment for us);
+    → FairlySent setup s
+    -- no PDU loses more than one packet,
+    → OneLossEach setup s
+    -- no two neighbouring PDUs on one flow both lose one;
+    → NoNeighboursLose setup s
+    -- nobody abandons a context or writes the memories between (each call takes what the one before left).
+    → Reads d (packets setup s) ds
+    -- Then the PDUs delivered are exactly those that lost nothing, with flow, stream and bytes, in the order of their last packets
+    → ds ≡ whole setup s
+
+-- so two sendings that leave the same packets agree on every whole PDU
+abbrev pub Corollary3 : Type 0
+Corollary3 =
+    (setup : Setup) (s s′ : Sending) → setup .device < 65536 → badMTU (setup .mtu) ≡ false → setup .room ≤ 65536
+    → Fair setup s → Fair setup s′ → packets setup s ≡ packets setup s′ → whole setup s ≡ whole setup s′

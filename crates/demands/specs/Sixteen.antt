@@ -1,0 +1,85 @@
+-- DEMAND 3 AT ITS FULL: sixteen PDUs open at once, a lost start, a lost middle, and between them a message, packets of other types, for another
+-- device, and malformed ones. MTU 32, R 96, device 1.
+use Prim.Native.Nat.{ℕ}
+use mathlib.Core.Path.{_≡_}
+use mathlib.Core.List.{List, [], _∷_, _++_, map}
+use lib.ListN.{replicate}
+use Rattle.contexts.specs.State.{Setup, fixed, freeStream}
+use Rattle.reading.specs.Desk.{Desk, stateOn}
+use Rattle.flows.specs.OneFlow.{pdu}
+use Rattle.flows.specs.Deliveries.{Delivery, delivery, after, deliveries}
+use Rattle.flows.specs.Fresh.{zeroDesk}
+use Rattle.sending.specs.Sending.{Sent, losses, FlowSent, Turn, next, between, Sending, packets, whole, Fair}
+use Rattle.sending.specs.OfSendings.{firstTurns}
+use Rattle.sending.specs.Mixture.{letterOne, reservedSsize}
+use Rattle.paper_examples.specs.Example.{counting}
+use Rattle.paper_examples.specs.Table.{sourceOf}
+
+abbrev pub sixteenSetup : Setup
+sixteenSetup = fixed 1 32 96
+
+-- 40 bytes of n on stream n, a start and an end; also without its start
+abbrev pub forty : ℕ → Sent
+forty n = record { pdu = pdu n (replicate 40 n); lost = []; priorities = [] }
+
+abbrev pub startless : Sent
+startless = record { pdu = pdu 100 (replicate 40 100); lost = 0 ∷ []; priorities = [] }
+
+-- 96 bytes, which fill a room: a start, a continuation that is lost, and an end
+abbrev pub middleless : Sent
+middleless = record { pdu = pdu 2 (replicate 96 2); lost = 1 ∷ []; priorities = [] }
+
+abbrev pub sendsForty : ℕ → FlowSent
+sendsForty n = record { flow = sourceOf n; sent = forty n ∷ [] }
+
+-- the flows of these sources put a packet on, in this order
+abbrev pub eachPuts : List ℕ → List Turn
+eachPuts sources = map (λ (n : ℕ). next (sourceOf n)) sources
+
+-- packets between: a message; a reserved ssize; type 5; a start for device 2; a start on flow 3 with xh=1; one of flow 4 that is cut short; 8-bit IDs;
+-- and no byte at all
+abbrev pub others : List (List ℕ)
+others =
+    letterOne
+    ∷ reservedSsize
+    ∷ (0x15 ∷ 0x00 ∷ 0x01 ∷ 0x00 ∷ 0x03 ∷ 0x05 ∷ 0x80 ∷ 0x00 ∷ 0x07 ∷ replicate 32 9)
+    ∷ (0x19 ∷ 0x00 ∷ 0x02 ∷ 0x00 ∷ 0x03 ∷ 0x05 ∷ 0x80 ∷ 0x00 ∷ 0x07 ∷ replicate 32 9)
+    ∷ (0x19 ∷ 0x00 ∷ 0x01 ∷ 0x00 ∷ 0x03 ∷ 0x05 ∷ 0x84 ∷ 0x00 ∷ 0x07 ∷ replicate 32 9)
+    ∷ (0x19 ∷ 0x00 ∷ 0x01 ∷ 0x00 ∷ 0x04 ∷ 0x05 ∷ 0x80 ∷ 0x00 ∷ [])
+    ∷ (0x09 ∷ 0x00 ∷ 0x01 ∷ 0x00 ∷ 0x04 ∷ 0x05 ∷ 0x80 ∷ 0x00 ∷ 0x07 ∷ replicate 32 9)
+    ∷ []
+    ∷ []
+
+-- Flow 1: a PDU without its start, of which the end comes; then sixteen starts; the others; and the rest of each flow, the last first. Flow 2 loses
+-- its middle, and its end comes last
+abbrev pub sixteenOpen : Sending
+sixteenOpen = record {
+  flows =
+      record { flow = sourceOf 1; sent = startless ∷ forty 1 ∷ [] }
+      ∷ record { flow = sourceOf 2; sent = middleless ∷ [] }
+      ∷ map sendsForty (counting 3 14);
+  turns =
+      eachPuts (1 ∷ 1 ∷ [])
+      ++ (eachPuts (counting 1 16)
+      ++ (map between others
+      ++ eachPuts (16 ∷ 15 ∷ 14 ∷ 13 ∷ 12 ∷ 11 ∷ 10 ∷ 9 ∷ 8 ∷ 7 ∷ 6 ∷ 5 ∷ 4 ∷ 3 ∷ 2 ∷ 1 ∷ 2 ∷ [])));
+}
+
+-- the desk after packets
+abbrev pub deskAfter : Desk → List (List ℕ) → Desk
+deskAfter d [] = d
+deskAfter d (p ∷ ps) = deskAfter (after d p) ps
+
+pub record SixteenAtOnce : Type 0 where
+  pub fair : Fair sixteenSetup sixteenOpen
+  pub start-lost : losses 32 startless ≡ 1
+  pub middle-lost : losses 32 middleless ≡ 1
+  -- after the starts no stream context is free: sixteen PDUs are open
+  pub all-open : freeStream (stateOn (deskAfter (zeroDesk sixteenSetup) (packets sixteenSetup (firstTurns 18 sixteenOpen)))) ≡ 16
+  -- and these are whole, in the order of their last packets: all but the two that lost something
+  pub complete : whole sixteenSetup sixteenOpen
+      ≡ map (λ (n : ℕ). delivery (sourceOf n) (pdu n (replicate 40 n))) (16 ∷ 15 ∷ 14 ∷ 13 ∷ 12 ∷ 11 ∷ 10 ∷ 9 ∷ 8 ∷ 7 ∷ 6 ∷ 5 ∷ 4 ∷ 3 ∷ 1 ∷ [])
+
+-- the endpoint, packet by packet from a fresh desk, delivers them: by computation, with no law between
+abbrev pub SixteenDelivered : Type 0
+SixteenDelivered = deliveries (zeroDesk sixteenSetup) (packets sixteenSetup sixteenOpen) ≡ whole sixteenSetup sixteenOpen

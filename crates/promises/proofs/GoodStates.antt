@@ -1,0 +1,69 @@
+-- Good states: setup makes one, and reading and abandoning leave one.
+use Prim.Native.Nat.{ℕ}
+use mathlib.Core.Path.{_≡_, refl, ap, sym, _∙_, subst}
+use mathlib.Core.List.{List}
+use mathlib.Core.Bool.{Bool, true, false}
+use native.Mathlib.Omega.{arith}
+use lib.ListN.{length-set}
+use Rattle.tables.specs.Refusals.{Verdict, VerdictOf, refuse, accept, verdict, none}
+use Rattle.answers.specs.Answers.{SetupSaid, ready, setupRefused, AbandonSaid}
+use Rattle.tables.proofs.Exactly.{none-held}
+use Rattle.contexts.specs.State.{State, fresh, fixed, withStream, withMessage, closedStream, closedMessage, streamContexts, messageContexts}
+use Rattle.contexts.specs.Words.{stateOf, wordsOf}
+use Rattle.refusal19.specs.Refusal19.{namedBy19}
+use Rattle.contexts.proofs.Words.{state-of, length-words}
+use Rattle.refusal19.proofs.Kept.{fresh-good, stream-kept, message-kept, closed-stream, closed-message}
+use Rattle.reading.specs.Good.{GoodWords, StillGood}
+use Rattle.reading.proofs.Kept.{settled, unchanged, stays-good}
+use Rattle.wire.specs.Packet.{header}
+use Rattle.answers.specs.declared.Begun.the-variants.{Ready}
+use Rattle.endpoint.specs.Calls.{SetupPromise, Stands, stands, SetupLeaves, setupTable, setup, setupBy, abandonTable, abandonBy, abandonStream, abandonMessage}
+use Rattle.promises.specs.GoodStates.{GoodStatesStay}
+
+-- ---- setup
+good-words : (device mtu room : ℕ) → namedBy19 (fresh (fixed device mtu room)) ≡ false → GoodWords (wordsOf (fresh (fixed device mtu room)))
+good-words device mtu room g = record { whole = length-words (fresh (fixed device mtu room)) refl refl; good = ap namedBy19 (state-of (fresh (fixed device mtu room)) refl refl) ∙ g }
+
+passed : (words : List ℕ) (device mtu room : ℕ) → none (setupTable words mtu room) → GoodWords (wordsOf (fresh (fixed device mtu room)))
+unfolding none setupTable
+passed words device mtu room n = good-words device mtu room (fresh-good (fixed device mtu room) (n .1 .0) (n .1 .1 .0))
+
+module _ (words : List ℕ) (device mtu room : ℕ) (after : List ℕ) where
+  by-setup : (v : VerdictOf SetupLeaves) → verdict (setupTable words mtu room) ≡ v → stands ready after ≡ setupBy words device mtu room v → GoodWords after
+  by-setup (refuse number leaves) e p =
+      let says : ready ≡ setupRefused number = ap (λ (s : Stands SetupSaid). s .says) p in
+      absurd (let z : _≡_ {A = ℕ} 0 1 = cc in omega arith)
+  by-setup accept e p = subst GoodWords (sym (ap (λ (s : Stands SetupSaid). s .words) p)) (passed words device mtu room (none-held (setupTable words mtu room) e))
+
+  setup-good : SetupPromise words device mtu room Ready after → GoodWords after
+  unfolding setup
+  setup-good p = by-setup (verdict (setupTable words mtu room)) refl p
+
+-- ---- abandoning
+by-verdict : (words : List ℕ) (isFree : Bool) (after : State) (v : Verdict) → GoodWords words → StillGood (stateOf words) (wordsOf after) → StillGood (stateOf words) (abandonBy words isFree after v .words)
+by-verdict words isFree after (refuse number leaves) g a = unchanged words (g .whole) (g .good)
+by-verdict words true after accept g a = unchanged words (g .whole) (g .good)
+by-verdict words false after accept g a = a
+
+module _ (words : List ℕ) (n : ℕ) (g : GoodWords words) where
+  abandon-stream-good : StillGood (stateOf words) (abandonStream words n .words)
+  unfolding abandonStream
+  abandon-stream-good =
+      by-verdict words _ _ (verdict (abandonTable words streamContexts n)) g
+      (settled words (withStream (stateOf words) n closedStream) (record { setup = refl; streams = simp length-set; messages = refl })
+      (stream-kept (stateOf words) n closedStream (g .good) (closed-stream (stateOf words .setup .room))))
+
+  abandon-message-good : StillGood (stateOf words) (abandonMessage words n .words)
+  unfolding abandonMessage
+  abandon-message-good =
+      by-verdict words _ _ (verdict (abandonTable words messageContexts n)) g
+      (settled words (withMessage (stateOf words) n closedMessage) (record { setup = refl; streams = refl; messages = simp length-set })
+      (message-kept (stateOf words) n closedMessage (g .good) closed-message))
+
+pub good-states-stay : GoodStatesStay
+good-states-stay = record {
+  set-up = setup-good;
+  read = λ x g bytes. stays-good x (g .whole) (g .good) (bytes header);
+  abandon-stream = abandon-stream-good;
+  abandon-message = abandon-message-good;
+}

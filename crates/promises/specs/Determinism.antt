@@ -1,0 +1,31 @@
+-- Determinism: of each call, any two outcomes that its promise allows are one, in the answer, the state and every lent byte. No exceptions.
+use Prim.Native.Nat.{ℕ}
+use mathlib.Core.Path.{_≡_}
+use mathlib.Core.List.{List}
+use denote.Ref.{RefT, now}
+use Rattle.answers.specs.declared.Reading.{Reading}
+use Rattle.answers.specs.declared.Begun.{Begun}
+use Rattle.answers.specs.declared.Abandoned.{Abandoned}
+use Rattle.answers.specs.declared.Written.{Written}
+use Rattle.answers.specs.Once.{Outcome, OneOutcome}
+use Rattle.reading.specs.Desk.{Desk}
+use Rattle.reading.specs.Table.{Lent}
+use Rattle.reading.specs.Read.{ReadPromise}
+use Rattle.endpoint.specs.Calls.{SetupPromise, AbandonStreamPromise, AbandonMessagePromise, StreamRoomPromise, MessageRoomPromise, LengthPromise}
+use Rattle.cutting.specs.declared.Heading.{Heading}
+use Rattle.segments.specs.Writer.{WritePromise, CountPromise}
+
+-- a room that is handed back: its place in the caller's memory and its bytes
+abbrev pub OneRoom : (RefT (List ℕ) → Type 0) → Type 0
+OneRoom allowed = (r r′ : RefT (List ℕ)) → allowed r → allowed r′ → (r .ptr .0 ≡ r′ .ptr .0) × (r .ptr .1 ≡ r′ .ptr .1) × (now r ≡ now r′)
+
+pub record OneOutcomeEach : Type 0 where
+  pub state-length : OneOutcome LengthPromise
+  pub setup : (words : List ℕ) (device mtu room : ℕ) → OneOutcome (λ (y : Outcome Begun (List ℕ)). SetupPromise words device mtu room (y .answer) (y .after))
+  pub read : (x : Lent) → OneOutcome (λ (y : Outcome Reading Desk). ReadPromise x (y .answer) (y .after))
+  pub abandon-stream : (words : List ℕ) (n : ℕ) → OneOutcome (λ (y : Outcome Abandoned (List ℕ)). AbandonStreamPromise words n (y .answer) (y .after))
+  pub abandon-message : (words : List ℕ) (n : ℕ) → OneOutcome (λ (y : Outcome Abandoned (List ℕ)). AbandonMessagePromise words n (y .answer) (y .after))
+  pub stream-room : (words : List ℕ) (memory : RefT (List ℕ)) (n l : ℕ) → OneRoom (StreamRoomPromise words memory n l)
+  pub message-room : (words : List ℕ) (memory : RefT (List ℕ)) (n l : ℕ) → OneRoom (MessageRoomPromise words memory n l)
+  pub segment-count : (mtu size : ℕ) → OneOutcome (CountPromise mtu size)
+  pub write-segment : (out : List ℕ) (h : Heading) (mtu : ℕ) (pdu : List ℕ) (k : ℕ) → OneOutcome (λ (y : Outcome Written (List ℕ)). WritePromise out h mtu pdu k (y .answer) (y .after))
