@@ -1,3 +1,3 @@
 mod Packets
-pub mod Turns
+pub mod Steps
 pub mod Tests

@@ -1,5 +1,5 @@
--- One packet of a burst: its slot is a response buffer that row 12 allows, what reading leaves goes where the definition says,
--- and the state stays good.
+-- One packet of a burst: its slot is a response buffer that row 12 allows, what reading leaves goes where the definition says, and the desk
+-- stays fit.
 use Prim.Native.Nat.{ℕ, _+_, _-_, _*_, _<_}
 use mathlib.Core.Path.{_≡_, ap, ap₂, sym, _∙_}
 use mathlib.Core.List.{List, _++_}
@@ -11,56 +11,69 @@ use Rattle.lists.specs.Bytes.{written}
 use Rattle.lists.proofs.Written.{written-is}
 use Rattle.answers.specs.declared.Reading.{Reading}
 use Rattle.answers.specs.Answers.{said}
-use Rattle.contexts.specs.Words.{stateOf}
-use Rattle.reading.specs.Read.{Left, lent, reading, ReadPromise}
+use Rattle.contexts.specs.State.{Setup, streamContexts}
+use Rattle.reading.specs.Desk.{Desk, stateOn, withResponse}
+use Rattle.reading.specs.Table.{lent}
+use Rattle.reading.specs.Read.{Left, left, reading, ReadPromise}
 use Rattle.reading.specs.Good.{StillGood}
-use Rattle.reading.specs.Inside.{Fit, ReadyToRead}
+use Rattle.reading.specs.Inside.{Fit}
 use Rattle.reading.proofs.Kept.{stays-good}
 use Rattle.c_reports.specs.declared.Report.{Report}
-use Rattle.c_reports.specs.Reports.{reportOf, wordsOfReport}
-use Rattle.c_bursts.specs.Bursts.{run, slot, answersPlaced}
-use Rattle.c_bursts.specs.Inside.{Room, PacketPromise}
-
--- the 8 bytes that are lent
-slot-size : (n : ℕ) → 8 * n + 8 - 8 * n ≡ 8
-slot-size n = omega arith
+use Rattle.c_reports.specs.Reports.{reportOf, reportWords, wordsOfReport}
+use Rattle.c_bursts.specs.Bursts.{slotBytes, Run, run, slot, lentIn, readIn, reportFor, answersPlaced}
+use Rattle.c_bursts.specs.Inside.{ReadyToRun, PacketPromise}
 
 -- a part of as many bytes, put back
-pub put-back : (memory part : List ℕ) (at k : ℕ) → length part ≡ k → putMid at k memory part ≡ written memory at part
+put-back : (memory part : List ℕ) (at k : ℕ) → length part ≡ k → putMid at k memory part ≡ written memory at part
 put-back memory part at k e = rw (written-is) (ap (λ (l : List ℕ). take at memory ++ (part ++ l)) (drop-drop k at memory ∙ ap (λ (n : ℕ). drop (at + n) memory) (sym e)))
 
-module _ (words streams messages responses reports : List ℕ) (count : ℕ) (fit : Fit words streams messages) (room : Room responses reports count 1) where
+module _ (r : Run) (ready : ReadyToRun r 1) where
+  -- the bytes from the slot's place to its end
+  abbrev size : ℕ
+  size = slotBytes * r .count + slotBytes - slotBytes * r .count
+
+  size-is : size ≡ slotBytes
+  size-is = omega arith
+
+  -- the slot as it is lent, and the desk with it
   abbrev lentSlot : List ℕ
-  lentSlot = midOf (8 * count) (8 * count + 8 - 8 * count) responses
+  lentSlot = midOf (slotBytes * r .count) size (r .desk .response)
 
-  slot-is : lentSlot ≡ slot responses count
-  slot-is = ap (λ (k : ℕ). take k (drop (8 * count) responses)) (slot-size count)
+  abbrev lentDesk : Desk
+  lentDesk = withResponse (r .desk) lentSlot
 
-  slot-length : length lentSlot ≡ 8
-  slot-length = ap length slot-is ∙ simp (length-take, length-drop) (omega (arith, room .replies))
+  slot-is : lentSlot ≡ slot (r .desk .response) (r .count)
+  slot-is = ap (λ (k : ℕ). take k (drop (slotBytes * r .count) (r .desk .response))) size-is
 
-  pub ready : ReadyToRead words streams messages lentSlot
-  ready = record { fit = fit; reply = omega (arith, slot-length) }
+  slot-length : length lentSlot ≡ slotBytes
+  slot-length = ap length slot-is ∙ simp (length-take, length-drop) (omega (arith, ready .space .replies))
 
-  module _ (packet : List ℕ) (r : Reading) (words′ streams′ messages′ reply reports′ : List ℕ) (report : Report) (promise : ReadPromise (lent words streams messages lentSlot packet) r words′ streams′ messages′ reply) where
-    here : Left
-    here = reading (lent words streams messages lentSlot packet)
+  -- what reading left: in its memories, in its slot, and with the report beside it
+  module _ (packet : List ℕ) (small : getD packet 5 0 < 256) (x : Reading) (after : Desk) (promise : ReadPromise (lent lentDesk packet) x after) where
+    as-defined : left (said (x .answer)) (x .dropped) (x .response) after ≡ readIn r packet
+    as-defined = promise ∙ ap (λ (s : List ℕ). reading (lent (withResponse (r .desk) s) packet)) slot-is
 
-    pub packet-read : length reply ≡ length lentSlot → report ≡ reportOf (said (r .answer)) (r .dropped) packet → reports′ ≡ written reports (9 * count) (wordsOfReport report)
-        → PacketPromise (run words streams messages responses reports count 0) packet (report .kind) words′ streams′ messages′ (putMid (8 * count) (8 * count + 8 - 8 * count) responses reply) reports′
-    packet-read same e f = record {
-      leaves =
-          ap₂ (λ (x y : List ℕ). run words′ streams′ messages′ x y (count + 1) 0) (put-back responses reply (8 * count) (8 * count + 8 - 8 * count) (same ∙ slot-length ∙ sym (slot-size count)))
-          (f ∙ ap (λ (x : Report). written reports (9 * count) (wordsOfReport x)) e)
-          ∙ (ap (answersPlaced (run words streams messages responses reports count 0) packet 0) promise
-          ∙ ap (λ (s : List ℕ). answersPlaced (run words streams messages responses reports count 0) packet 0 (reading (lent words streams messages s packet))) slot-is);
-      kind =
-          ap (λ (x : Report). x .kind) e
-          ∙ (ap (λ (x : Left). reportOf (x .says) (x .dropped) packet .kind) promise
-          ∙ ap (λ (s : List ℕ). reportOf (reading (lent words streams messages s packet) .says) (reading (lent words streams messages s packet) .dropped) packet .kind) slot-is);
-    }
+    still-good : StillGood (stateOn (r .desk)) (after .words)
+    still-good = rw (ap (λ (l : Left). l .desk .words) as-defined) (stays-good (lentIn r packet) (ready .fit .whole) (ready .fit .good) small)
 
-    pub still-fit : getD packet 5 0 < 256 → length streams′ ≡ length streams → length messages′ ≡ length messages → Fit words′ streams′ messages′
-    still-fit small s m =
-        let kept : StillGood (stateOf words) words′ = rw (ap (λ (x : Left). x .words) promise) (stays-good (lent words streams messages lentSlot packet) (fit .whole) (fit .good) small) in
-        record { whole = kept .whole; good = kept .good; rooms = s ∙ fit .rooms ∙ ap (λ (n : ℕ). 16 * n) (sym (kept .room)); boxes = m ∙ fit .boxes }
+    module _ (streams : length (after .streamMemory) ≡ length (r .desk .streamMemory)) (messages : length (after .messageMemory) ≡ length (r .desk .messageMemory)) where
+      still-fit : (response : List ℕ) → Fit (withResponse after response)
+      still-fit response = record {
+        whole = still-good .whole;
+        good = still-good .good;
+        rooms = streams ∙ ready .fit .rooms ∙ ap (λ (f : Setup). streamContexts * f .room) (sym (still-good .setup));
+        boxes = messages ∙ ready .fit .boxes;
+      }
+
+      pub packet-read : length (after .response) ≡ length lentSlot
+          → (report : Report) (reports : List ℕ) → report ≡ reportOf (said (x .answer)) (x .dropped) (x .response) → reports ≡ written (r .reports) (reportWords * r .count) (wordsOfReport report)
+          → PacketPromise r packet (report .kind) (withResponse after (putMid (slotBytes * r .count) size (r .desk .response) (after .response))) reports
+      packet-read slot report reports e f = record {
+        leaves =
+            ap₂ (λ (a b : List ℕ). run (withResponse after a) b (r .count + 1) (r .next))
+            (put-back (r .desk .response) (after .response) (slotBytes * r .count) size (slot ∙ slot-length ∙ sym size-is))
+            (f ∙ ap (λ (w : Report). written (r .reports) (reportWords * r .count) (wordsOfReport w)) e)
+            ∙ ap (answersPlaced r (r .next)) as-defined;
+        reported = ap (λ (w : Report). w .kind) e ∙ ap (λ (l : Left). reportFor l .kind) as-defined;
+        fit = still-fit _;
+      }

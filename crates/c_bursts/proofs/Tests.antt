@@ -1,4 +1,4 @@
--- The tests before a burst: rows 19 and 12; and the room that the lent buffers give.
+-- The tests before a burst, rows 19 and 12; and the room that the lent buffers give.
 use Prim.Native.Nat.{ℕ, _/_}
 use mathlib.Core.Path.{_≡_}
 use mathlib.Core.List.{List}
@@ -8,45 +8,54 @@ use native.Mathlib.Nat.{min-le-left, min-le-right}
 use lib.ListN.{length}
 use borrow.Author.Tests.{eq-eqb, ne-eqb}
 use Rattle.tables.specs.Refusals.{verdict}
-use Rattle.contexts.specs.Words.{stateOf, stateWords}
+use Rattle.contexts.specs.Words.{stateWords}
 use Rattle.refusal19.specs.Refusal19.{namedBy19}
-use Rattle.reading.specs.Table.{wrongSizes, table}
-use Rattle.reading.proofs.Left.{sizes-fit}
-use Rattle.c_bursts.specs.Bursts.{Run, Finished, finished, answering, refusedAll, readBurst, lentTable, ran, roomFor}
+use Rattle.reading.specs.Desk.{Desk, stateOn}
+use Rattle.reading.specs.Table.{wrongSizes, lentRows}
 use Rattle.reading.specs.Inside.{Fit}
+use Rattle.reading.proofs.Left.{sizes-fit}
+use Rattle.c_reports.specs.Reports.{reportWords}
+use Rattle.c_bursts.specs.declared.Burst.{Burst}
+use Rattle.c_bursts.specs.Bursts.{slotBytes, run, Finished, answering, refusedAll, ran, roomFor, readBurst, BurstPromise}
 use Rattle.c_bursts.specs.Inside.{Room}
 
-module _ (pause : ℕ) (r : Run) (burst : List ℕ) where
-  abbrev refusing : ℕ → Finished
-  refusing number = finished (answering refusedAll number 0 0) (r .words) (r .streamMemory) (r .messageMemory) (r .responses) (r .reports)
+module _ (pause : ℕ) (d : Desk) (reports burst : List ℕ) (answer : Burst) where
+  -- the burst is refused as a whole
+  abbrev Refuses : ℕ → Type 0
+  Refuses number = answer ≡ answering refusedAll number 0 0 → BurstPromise pause d reports burst answer d reports
 
-  pub short : (length (r .words) ≡ stateWords → ⊥) → refusing 12 ≡ readBurst pause r burst
-  unfolding readBurst lentTable table verdict
-  short l = rw (ne-eqb (length (r .words)) stateWords l)
+  pub short : (length (d .words) ≡ stateWords → ⊥) → Refuses 12
+  unfolding readBurst lentRows verdict
+  short l a = rw (a, ne-eqb (length (d .words)) stateWords l)
 
-  module _ (l : length (r .words) ≡ stateWords) where
-    pub named : namedBy19 (stateOf (r .words)) ≡ true → refusing 19 ≡ readBurst pause r burst
-    unfolding readBurst lentTable table verdict
-    named h = rw (eq-eqb (length (r .words)) stateWords l, h)
+  module _ (l : length (d .words) ≡ stateWords) where
+    pub named : namedBy19 (stateOn d) ≡ true → Refuses 19
+    unfolding readBurst lentRows verdict
+    named h a = rw (a, eq-eqb (length (d .words)) stateWords l, h)
 
-    module _ (h : namedBy19 (stateOf (r .words)) ≡ false) where
-      pub missized : wrongSizes (stateOf (r .words)) (r .streamMemory) (r .messageMemory) (r .responses) ≡ true → refusing 12 ≡ readBurst pause r burst
-      unfolding readBurst lentTable table verdict
-      missized w = rw (eq-eqb (length (r .words)) stateWords l, h, w)
+    pub missized : namedBy19 (stateOn d) ≡ false → wrongSizes d ≡ true → Refuses 12
+    unfolding readBurst lentRows verdict
+    missized h w a = rw (a, eq-eqb (length (d .words)) stateWords l, h, w)
 
-      module _ (w : wrongSizes (stateOf (r .words)) (r .streamMemory) (r .messageMemory) (r .responses) ≡ false) where
-        pub accepted : ran pause (roomFor (length (r .reports)) (length (r .responses))) burst r ≡ readBurst pause r burst
-        unfolding readBurst lentTable table verdict
-        accepted = rw (eq-eqb (length (r .words)) stateWords l, h, w)
+-- neither row holds
+pub record Passed (d : Desk) : Type 0 where
+  pub whole : length (d .words) ≡ stateWords
+  pub good : namedBy19 (stateOn d) ≡ false
+  pub sized : wrongSizes d ≡ false
 
-        pub fits : Fit (r .words) (r .streamMemory) (r .messageMemory)
-        fits =
-            let s = sizes-fit (stateOf (r .words)) (r .streamMemory) (r .messageMemory) (r .responses) w in
-            record { whole = l; good = h; rooms = s .0; boxes = s .1 }
+pub accepted : (pause : ℕ) (d : Desk) (reports burst : List ℕ) (room : ℕ) (x : Finished) → Passed d → room ≡ roomFor (length reports) (length (d .response))
+    → x ≡ ran pause room burst (run d reports 0 0) → x ≡ readBurst pause d reports burst
+unfolding readBurst lentRows verdict
+accepted pause d reports burst room x p e f = rw (eq-eqb (length (d .words)) stateWords (p .whole), p .good, p .sized, ← e) f
 
-pub has-room : (responses reports : List ℕ) → Room responses reports 0 (roomFor (length reports) (length responses))
+pub fits : (d : Desk) → Passed d → Fit d
+fits d p =
+    let s = sizes-fit d (p .sized) in
+    record { whole = p .whole; good = p .good; rooms = s .0; boxes = s .1 }
+
+pub has-room : (d : Desk) (reports : List ℕ) → Room (run d reports 0 0) (roomFor (length reports) (length (d .response)))
 unfolding roomFor
-has-room responses reports =
-    let a = min-le-left (length reports / 9) (length responses / 8) in
-    let b = min-le-right (length reports / 9) (length responses / 8) in
+has-room d reports =
+    let a = min-le-left (length reports / reportWords) (length (d .response) / slotBytes) in
+    let b = min-le-right (length reports / reportWords) (length (d .response) / slotBytes) in
     record { replies = omega (arith, b); answers = omega (arith, a) }

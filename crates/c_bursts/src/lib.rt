@@ -2,9 +2,9 @@
 // by what the one before left, and has a report and a response of its own.
 use log_records::Next;
 ghost use mathlib.Core.Path.{_≡_};
+ghost use Rattle.reading.specs.Desk.{desk};
 ghost use Rattle.c_bursts.specs.Bursts.{run, pauseOf, refusedAll, answering, roomFor, BurstPromise};
-ghost use Rattle.reading.specs.Inside.{Fit};
-ghost use Rattle.c_bursts.specs.Inside.{Room, PacketPromise, TurnPromise, RunPromise};
+ghost use Rattle.c_bursts.specs.Inside.{ReadyToRun, PacketPromise, StepPromise, RunPromise};
 
 // The bytes of `responses` that each packet has for its own.
 pub const SLOT: usize = 8;
@@ -30,7 +30,7 @@ pub struct Burst {
 }
 
 // 0 where the burst goes on, else why it stops; the packets read so far, and where the next record begins.
-pub struct Turn {
+pub struct Step {
     pub stop: usize,
     pub count: usize,
     pub next: usize,
@@ -46,10 +46,9 @@ fn read_packet(
     packet: &[u8],
     count: usize,
 ) -> usize
-    requires { ⌜ Fit (now state) (now «stream_memory») (now «message_memory») ⌝ }
-    requires { ⌜ Room (now responses) (now reports) count 1 ⌝ }
-    ensures { λ r. ⌜ PacketPromise (run (now (state .entry)) (now («stream_memory» .entry)) (now («message_memory» .entry)) (now (responses .entry)) (now (reports .entry)) count 0) (now (packet .entry)) r (now (state .exit)) (now («stream_memory» .exit)) (now («message_memory» .exit)) (now (responses .exit)) (now (reports .exit)) ⌝ }
-    ensures { λ r. ⌜ Fit (now (state .exit)) (now («stream_memory» .exit)) (now («message_memory» .exit)) ⌝ }
+    requires { ⌜ ReadyToRun (run (desk (now state) (now «stream_memory») (now «message_memory») (now responses)) (now reports) count 0) 1 ⌝ }
+    ensures { λ r. ⌜ PacketPromise (run (desk (now (state .entry)) (now («stream_memory» .entry)) (now («message_memory» .entry)) (now (responses .entry))) (now (reports .entry)) count 0)
+        (now (packet .entry)) r (desk (now (state .exit)) (now («stream_memory» .exit)) (now («message_memory» .exit)) (now (responses .exit))) (now (reports .exit)) ⌝ }
 {
     let at = SLOT * count;
     let end = at + SLOT;
@@ -60,7 +59,7 @@ fn read_packet(
         &mut responses[at..end],
         packet,
     );
-    let report = c_reports::reported(reading, packet);
+    let report = c_reports::reported(reading);
     c_reports::put(reports, c_reports::WORDS * count, report);
     report.kind
 }
@@ -81,8 +80,8 @@ fn pausing(pause: usize, kind: usize) -> usize
     0
 }
 
-// One turn: the record at a place is read, where there is one and it has room. There is room for `room` packets more.
-fn turn_at(
+// One step: the record at a place is read, where there is one and it has room. There is room for `room` packets more.
+fn step_at(
     state: &mut [usize],
     stream_memory: &mut [u8],
     message_memory: &mut [u8],
@@ -93,19 +92,19 @@ fn turn_at(
     room: usize,
     count: usize,
     at: usize,
-) -> Turn
-    requires { ⌜ Fit (now state) (now «stream_memory») (now «message_memory») ⌝ }
-    requires { ⌜ Room (now responses) (now reports) count room ⌝ }
-    ensures { λ r. ⌜ TurnPromise pause room (now (burst .entry)) (run (now (state .entry)) (now («stream_memory» .entry)) (now («message_memory» .entry)) (now (responses .entry)) (now (reports .entry)) count at) r (now (state .exit)) (now («stream_memory» .exit)) (now («message_memory» .exit)) (now (responses .exit)) (now (reports .exit)) ⌝ }
-    ensures { λ r. ⌜ Fit (now (state .exit)) (now («stream_memory» .exit)) (now («message_memory» .exit)) ⌝ }
+) -> Step
+    requires { ⌜ ReadyToRun (run (desk (now state) (now «stream_memory») (now «message_memory») (now responses)) (now reports) count at) room ⌝ }
+    ensures { λ r. ⌜ StepPromise pause room (now (burst .entry))
+        (run (desk (now (state .entry)) (now («stream_memory» .entry)) (now («message_memory» .entry)) (now (responses .entry))) (now (reports .entry)) count at)
+        r (desk (now (state .exit)) (now («stream_memory» .exit)) (now («message_memory» .exit)) (now (responses .exit))) (now (reports .exit)) ⌝ }
 {
     match log_records::next_record(burst, at) {
-        Next::End => Turn {
+        Next::End => Step {
             stop: END,
             count,
             next: at,
         },
-        Next::Bad => Turn {
+        Next::Bad => Step {
             stop: BAD,
             count,
             next: at,
@@ -116,7 +115,7 @@ fn turn_at(
             next,
         } => {
             if room == 0 {
-                return Turn {
+                return Step {
                     stop: FULL,
                     count,
                     next: at,
@@ -131,7 +130,7 @@ fn turn_at(
                 &burst[from..next],
                 count,
             );
-            Turn {
+            Step {
                 stop: pausing(pause, kind),
                 count: count + 1,
                 next,
@@ -140,7 +139,7 @@ fn turn_at(
     }
 }
 
-// Turn after turn, until one stops. There is room for `room` packets.
+// Step after step, until one stops. There is room for `room` packets.
 fn run_over(
     state: &mut [usize],
     stream_memory: &mut [u8],
@@ -151,15 +150,16 @@ fn run_over(
     pause: usize,
     room: usize,
 ) -> Burst
-    requires { ⌜ Fit (now state) (now «stream_memory») (now «message_memory») ⌝ }
-    requires { ⌜ Room (now responses) (now reports) 0 room ⌝ }
-    ensures { λ r. ⌜ RunPromise pause room (now (burst .entry)) (run (now (state .entry)) (now («stream_memory» .entry)) (now («message_memory» .entry)) (now (responses .entry)) (now (reports .entry)) 0 0) r (now (state .exit)) (now («stream_memory» .exit)) (now («message_memory» .exit)) (now (responses .exit)) (now (reports .exit)) ⌝ }
+    requires { ⌜ ReadyToRun (run (desk (now state) (now «stream_memory») (now «message_memory») (now responses)) (now reports) 0 0) room ⌝ }
+    ensures { λ r. ⌜ RunPromise pause room (now (burst .entry))
+        (run (desk (now (state .entry)) (now («stream_memory» .entry)) (now («message_memory» .entry)) (now (responses .entry))) (now (reports .entry)) 0 0)
+        r (desk (now (state .exit)) (now («stream_memory» .exit)) (now («message_memory» .exit)) (now (responses .exit))) (now (reports .exit)) ⌝ }
 {
     let mut left = room;
     let mut count = 0;
     let mut at = 0;
     loop {
-        let t = turn_at(
+        let t = step_at(
             state,
             stream_memory,
             message_memory,
@@ -220,7 +220,8 @@ pub fn read_burst(
     burst: &[u8],
     pause: usize,
 ) -> Burst
-    ensures { λ r. ⌜ BurstPromise pause (run (now (state .entry)) (now («stream_memory» .entry)) (now («message_memory» .entry)) (now (responses .entry)) (now (reports .entry)) 0 0) (now (burst .entry)) r (now (state .exit)) (now («stream_memory» .exit)) (now («message_memory» .exit)) (now (responses .exit)) (now (reports .exit)) ⌝ }
+    ensures { λ r. ⌜ BurstPromise pause (desk (now (state .entry)) (now («stream_memory» .entry)) (now («message_memory» .entry)) (now (responses .entry))) (now (reports .entry))
+        (now (burst .entry)) r (desk (now (state .exit)) (now («stream_memory» .exit)) (now («message_memory» .exit)) (now (responses .exit))) (now (reports .exit)) ⌝ }
 {
     if state.len() != contexts::WORDS {
         return refused(12);

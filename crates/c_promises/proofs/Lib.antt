@@ -2,6 +2,8 @@ mod Once
 mod Reply
 mod Whole
 mod FromC
+mod Places
+mod Behind
 mod InBursts
 mod NotEmpty
 mod Paused

@@ -1,54 +1,63 @@
 -- Bursts with a pause over the packets of the mixture: they stop at a message, at a PDU, at another, and at the end. By computation.
 use mathlib.Core.Path.{_≡_, refl, subst}
-use mathlib.Core.List.{List, [], _++_}
-use Prim.Native.Nat.{ℕ, _-_, _*_}
+use mathlib.Core.List.{List, [], _∷_, _++_}
+use Prim.Native.Nat.{ℕ}
 use native.Mathlib.Omega.{arith}
-use lib.ListN.{take, drop, replicate}
-use Rattle.contexts.specs.State.{fresh, fixed}
-use Rattle.contexts.specs.Words.{stateOf, wordsOf}
+use lib.ListN.{length, drop}
+use Rattle.reading.specs.Desk.{Desk, withResponse}
 use Rattle.paper_examples.proofs.Computing.{computing}
 use Rattle.log_records.specs.Records.{recordFrom, longRecord, nextRecord}
 use Rattle.log_records.specs.Written.{lengthBytes, writtenLog}
+use Rattle.endpoint.specs.Calls.{noState, roomPart, streamRoom}
+use Rattle.c_reports.specs.declared.Report.{Report}
 use Rattle.c_reports.specs.Reports.{reportOf}
-use Rattle.flows.specs.Board.{Delivery, freshBoard}
+use Rattle.flows.specs.OneFlow.{pdu}
+use Rattle.flows.specs.Deliveries.{Delivery, delivery}
+use Rattle.flows.specs.Fresh.{zeroDesk}
 use Rattle.sending.specs.Sending.{putOf, packets, whole}
-use Rattle.sending.specs.Mixture.{mixture}
-use Rattle.c_bursts.specs.Bursts.{run, Finished, finished, atEnd, atDelivery, pauseOf, turn, ran, roomFor, lentTable, readBurst}
-use Rattle.c_promises.specs.OfCalls.{reportDelivers, Bursts, ended, paused, PausedBurstsNotEmpty}
+use Rattle.sending.specs.Mixture.{smallSetup, mixture}
+use Rattle.c_places.specs.Places.{placeOf}
+use Rattle.c_bursts.specs.Bursts.{Finished, atEnd, atDelivery, pauseOf, stepIn, ran, roomFor, readBurst}
+use Rattle.c_promises.specs.OfCalls.{deskForSeven, sevenReports, bytesAt, flowIn, FetchesFromC, at-place, nothing, lastReport, PausedCall, Bursts, ended, paused, PausedBurstsNotEmpty}
 
 -- what a proof by computation looks through, bursts too
 unfoldable in-bursts : Unit {0}
-unfolding computing putOf recordFrom longRecord nextRecord lengthBytes reportOf pauseOf turn ran roomFor lentTable readBurst
+unfolding computing putOf recordFrom longRecord nextRecord lengthBytes reportOf pauseOf stepIn ran roomFor readBurst noState roomPart streamRoom
 in-bursts = tt
 
--- a call with room for seven
-abbrev again : (words streamMemory messageMemory burst : List ℕ) → Finished
-again words streamMemory messageMemory burst = readBurst 1 (run words streamMemory messageMemory (replicate 56 0) (replicate 63 0) 0 0) burst
+-- a call with room for seven, asked to pause
+abbrev again : Desk → List ℕ → Finished
+again d burst = readBurst 1 (withResponse d (deskForSeven .response)) sevenReports burst
+
+called : (d : Desk) (burst : List ℕ) → PausedCall d burst (again d burst)
+called d burst = record { pause = 1; asked = λ z. omega (arith, z); responses = deskForSeven .response; reports = sevenReports; promised = refl }
+
+-- what is fetched after a report of a PDU
+abbrev fetched : Finished → List Delivery
+fetched f =
+    let r = lastReport f in
+    delivery (flowIn r) (pdu (r .«stream_or_mailbox») (bytesAt (f .desk .streamMemory) (placeOf (streamRoom (f .desk .words) (length (f .desk .streamMemory)) (r .context) (r .length))))) ∷ []
 
 abbrev log : List ℕ
-log = writtenLog (packets 1 32 mixture)
+log = writtenLog (packets smallSetup mixture)
 
 abbrev first : Finished
-first = again (wordsOf (fresh (fixed 1 32 64))) (replicate 1024 0) (replicate 32768 0) log
+first = again (zeroDesk smallSetup) log
 
 abbrev log′ : List ℕ
 log′ = drop (first .answer .next) log
 
 abbrev second : Finished
-second = again (first .words) (first .streamMemory) (first .messageMemory) log′
+second = again (first .desk) log′
 
 abbrev log″ : List ℕ
 log″ = drop (second .answer .next) log′
 
 abbrev third : Finished
-third = again (second .words) (second .streamMemory) (second .messageMemory) log″
+third = again (second .desk) log″
 
 abbrev last : Finished
-last = again (third .words) (third .streamMemory) (third .messageMemory) (drop (third .answer .next) log″)
-
--- what a call leaves is what it promises
-itself : (f : Finished) → finished (f .answer) (f .words) (f .streamMemory) (f .messageMemory) (f .responses) (f .reports) ≡ f
-itself f = refl
+last = again (third .desk) (drop (third .answer .next) log″)
 
 first-stops : first .answer .stop ≡ atDelivery
 unfolding in-bursts
@@ -66,18 +75,27 @@ last-ends : last .answer .stop ≡ atEnd
 unfolding in-bursts
 last-ends = refl
 
--- what the last report of a call delivers
-abbrev gives : Finished → List Delivery
-gives f = reportDelivers (stateOf (f .words) .setup .room) (f .streamMemory) (take 9 (drop (9 * (f .answer .count - 1)) (f .reports)))
+-- a message, and two PDUs
+first-kind : lastReport first .kind ≡ 3
+unfolding in-bursts
+first-kind = refl
 
-they-deliver : gives first ++ (gives second ++ (gives third ++ [])) ≡ whole 1 32 mixture
+second-kind : lastReport second .kind ≡ 2
+unfolding in-bursts
+second-kind = refl
+
+third-kind : lastReport third .kind ≡ 2
+unfolding in-bursts
+third-kind = refl
+
+they-deliver : fetched second ++ (fetched third ++ []) ≡ whole smallSetup mixture
 unfolding in-bursts
 they-deliver = refl
 
 pub paused-bursts-not-empty : PausedBurstsNotEmpty
 paused-bursts-not-empty =
-    subst (Bursts (freshBoard 1 32 64 (replicate 1024 0) (replicate 32768 0) (replicate 7 0)) log) they-deliver
-    (paused 1 (first .answer) (replicate 56 0) (replicate 63 0) (first .words) (first .streamMemory) (first .messageMemory) (first .responses) (first .reports) (λ z. omega (arith, z)) (itself first) first-stops
-    (paused 1 (second .answer) (replicate 56 0) (replicate 63 0) (second .words) (second .streamMemory) (second .messageMemory) (second .responses) (second .reports) (λ z. omega (arith, z)) (itself second) second-stops
-    (paused 1 (third .answer) (replicate 56 0) (replicate 63 0) (third .words) (third .streamMemory) (third .messageMemory) (third .responses) (third .reports) (λ z. omega (arith, z)) (itself third) third-stops
-    (ended 1 (last .answer) (replicate 56 0) (replicate 63 0) (last .words) (last .streamMemory) (last .messageMemory) (last .responses) (last .reports) (λ z. omega (arith, z)) (itself last) last-ends))))
+    subst (Bursts (zeroDesk smallSetup) log) they-deliver
+    (paused first (called _ _) first-stops (nothing (λ z. omega (arith, z, first-kind)))
+    (paused second (called _ _) second-stops (at-place _ second-kind refl)
+    (paused third (called _ _) third-stops (at-place _ third-kind refl)
+    (ended last (called _ _) last-ends))))

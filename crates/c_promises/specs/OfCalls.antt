@@ -1,106 +1,143 @@
 -- What holds of the functions that C calls, as statements. Each is proved in proofs/.
-use Prim.Native.Nat.{ℕ, _-_, _*_, _≤_}
+use Prim.Native.Nat.{ℕ, _-_, _*_, _≤_, _<_}
 use mathlib.Core.Path.{_≡_}
 use mathlib.Core.List.{List, [], _∷_, _++_, map}
 use mathlib.Core.Bool.{true, cond}
 use lib.ListN.{length, take, drop, replicate}
 use lib.Dec.{eqb}
-use Rattle.lists.specs.Bytes.{byte}
 use Rattle.lists.specs.Rows.{rows}
+use Rattle.tables.specs.Refusals.{accept}
 use Rattle.answers.specs.declared.Begun.the-variants.{Ready}
-use Rattle.tables.specs.Refusals.{accept, verdict}
+use Rattle.answers.specs.Once.{Outcome, OneOutcome, Once}
 use Rattle.wire.specs.declared.Flow.{Flow}
-use Rattle.responses.specs.Type13.{answered}
-use Rattle.contexts.specs.State.{fresh, fixed}
-use Rattle.contexts.specs.Words.{stateOf, wordsOf}
-use Rattle.reading.specs.Table.{Lent}
-use Rattle.reading.specs.Read.{lent, reading}
-use Rattle.endpoint.specs.Calls.{SetupPromise}
+use Rattle.responses.specs.Type13.{responseSize, answered}
+use Rattle.contexts.specs.State.{Setup}
+use Rattle.message_rooms.specs.Placing.{messageRoomBytes}
+use Rattle.reading.specs.Desk.{Desk, stateOn, withResponse}
+use Rattle.reading.specs.Table.{Lent, lent}
+use Rattle.reading.specs.Read.{reading}
+use Rattle.endpoint.specs.Calls.{part, SetupPromise}
+use Rattle.cutting.specs.declared.Heading.{Heading}
 use Rattle.flows.specs.OneFlow.{pdu}
-use Rattle.flows.specs.Board.{Board, Delivery, delivery, inRoom, Lends, freshBoard}
+use Rattle.flows.specs.Deliveries.{Delivery, delivery}
+use Rattle.flows.specs.Fresh.{Lends, zeroDesk}
+use Rattle.flows.specs.ByFlow.{AreBytes}
 use Rattle.sending.specs.Sending.{Sending, packets, whole, Fair}
-use Rattle.sending.specs.Mixture.{mixture}
-use Rattle.promises.specs.Statements.{Reads}
-use Rattle.c_reports.specs.declared.Numbers.{Numbers}
-use Rattle.c_reports.specs.declared.Report.{Report}
-use Rattle.c_reports.specs.Reports.{responseOf, wordsOfReport}
-use Rattle.c_places.specs.declared.Place.{Place}
-use Rattle.c_places.specs.Places.{StreamPlacePromise, MessagePlacePromise}
-use Rattle.c_bursts.specs.declared.Burst.{Burst}
+use Rattle.sending.specs.Mixture.{smallSetup, mixture}
+use Rattle.demands.specs.Calls.{Reads}
+use Rattle.demands.specs.OfCalls.{SetUp}
 use Rattle.log_records.specs.Records.{records, recordsOf}
 use Rattle.log_records.specs.Written.{writtenLog, AllShort}
-use Rattle.c_bursts.specs.Bursts.{Run, run, behind, turned, atEnd, isFull, atDelivery, answering, stopped, lentTable, roomFor, readBurst, BurstPromise}
-use Rattle.cutting.specs.declared.Heading.{Heading}
+use Rattle.c_reports.specs.declared.Numbers.{Numbers}
+use Rattle.c_reports.specs.declared.Report.{Report}
+use Rattle.c_reports.specs.Reports.{reportWords, reportIn}
+use Rattle.c_places.specs.declared.Place.{Place}
+use Rattle.c_places.specs.Places.{placeOf, StreamPlacePromise, MessagePlacePromise}
+use Rattle.c_bursts.specs.declared.Burst.{Burst}
+use Rattle.c_bursts.specs.Bursts.{slotBytes, Run, run, reportFor, behind, stepLeft, atEnd, isFull, atDelivery, answering, stopped, Finished, roomFor, burstVerdict, readBurst, BurstPromise}
 use Rattle.kaiverohm.specs.Exports.{SetupFromCPromise, ReadFromCPromise, AbandonStreamFromCPromise, AbandonMessageFromCPromise, WriteFromCPromise}
 
 -- ---- What a report says of the response is what reading wrote there.
 
 -- the bytes of response that a report names, and the response buffer as it is left: none and as it was, or seven and a response to the packet
 pub data Reply (x : Lent) : ℕ → List ℕ → Type 0 where
-  silent : Reply x 0 (x .response)
-  answers : (status : ℕ) → Reply x responseSize (answered (x .response) (x .packet) status)
+  silent : Reply x 0 (x .desk .response)
+  answers : (status : ℕ) → Reply x responseSize (answered (x .desk .response) (x .packet) status)
 
 abbrev pub ReportsReply : Type 0
-ReportsReply = (x : Lent) → Reply x (responseOf (reading x .says) (x .packet)) (reading x .response)
+ReportsReply = (x : Lent) → Reply x (reportFor (reading x) .response) (reading x .desk .response)
 
--- ---- A burst of whole records that has room for all its packets is read to its end: as many reports as packets, each packet read by what
--- the one before left.
+-- ---- A burst of whole records that has room for all its packets is read to its end: as many reports as packets, each packet read at the
+-- desk that the one before left.
 
 -- the packets one after another; the next record then begins at `end`
 abbrev pub allRead : ℕ → Run → List (List ℕ) → Run
-allRead end r [] = run (r .words) (r .streamMemory) (r .messageMemory) (r .responses) (r .reports) (r .count) end
+allRead end r [] = run (r .desk) (r .reports) (r .count) end
 allRead end r (packet ∷ packets) = allRead end (behind r packet end) packets
 
--- state and memories that rows 19 and 12 pass, whole records, and room for a report and a response of each
-pub record WholeBurst (r : Run) (burst : List ℕ) (packets : List (List ℕ)) : Type 0 where
-  pub none-read : r .count ≡ 0
-  pub start : r .next ≡ 0
+-- whole records, a desk that rows 19 and 12 pass, and room for a report and a response of each packet
+pub record WholeBurst (d : Desk) (reports burst : List ℕ) (packets : List (List ℕ)) : Type 0 where
   pub whole-records : recordsOf burst ≡ records packets true
-  pub passed : verdict (lentTable (lent (r .words) (r .streamMemory) (r .messageMemory) (r .responses) [])) ≡ accept
-  pub room : length packets ≤ roomFor (length (r .reports)) (length (r .responses))
+  pub passed : burstVerdict d ≡ accept
+  pub room : length packets ≤ roomFor (length reports) (length (d .response))
 
 abbrev pub BurstIsCalls : Type 0
 BurstIsCalls =
-    (r : Run) (burst : List ℕ) (packets : List (List ℕ)) → WholeBurst r burst packets
-    → readBurst 0 r burst ≡ stopped (turned atEnd (allRead (length burst) r packets))
+    (d : Desk) (reports burst : List ℕ) (packets : List (List ℕ)) → WholeBurst d reports burst packets
+    → readBurst 0 d reports burst ≡ stopped (stepLeft atEnd (allRead (length burst) (run d reports 0 0) packets))
 
--- these premises can be met: the packets of a sending with losses, mixed flows and messages between, a state as setup makes it, and room for seven
+-- a desk that was just set up, with responses for seven; and their reports
+abbrev pub deskForSeven : Desk
+deskForSeven = withResponse (zeroDesk smallSetup) (replicate (slotBytes * 7) 0)
+
+abbrev pub sevenReports : List ℕ
+sevenReports = replicate (reportWords * 7) 0
+
+-- these premises can be met: by the packets of a sending with losses, mixed flows and messages between, of which there are seven
 pub record BurstNotEmpty : Type 0 where
-  pub short : AllShort (packets 1 32 mixture)
-  pub whole-burst : WholeBurst (run (wordsOf (fresh (fixed 1 32 64))) (replicate 1024 0) (replicate 32768 0) (replicate 56 0) (replicate 63 0) 0 0) (writtenLog (packets 1 32 mixture)) (packets 1 32 mixture)
+  pub short : AllShort (packets smallSetup mixture)
+  pub whole-burst : WholeBurst deskForSeven sevenReports (writtenLog (packets smallSetup mixture)) (packets smallSetup mixture)
+
+-- ---- The room of what is delivered, from C: after a delivery the room call with the report's context and length answers the whole place, no
+-- empty one: the part that Rattle's call hands back. Of PDUs (kind 2) and of messages (kind 3).
+
+pub record RoomOfDeliveredFromC : Type 0 where
+  pub of-PDU : (x : Lent) (place : Place) → reportFor (reading x) .kind ≡ 2
+      → StreamPlacePromise (reading x .desk .words) (length (reading x .desk .streamMemory)) (reportFor (reading x) .context) (reportFor (reading x) .length) place
+      → place ≡ placeOf (part (reportFor (reading x) .context * stateOn (reading x .desk) .setup .room) (reportFor (reading x) .length))
+  pub of-message : (x : Lent) (place : Place) → AreBytes (x .packet) → reportFor (reading x) .kind ≡ 3
+      → MessagePlacePromise (reading x .desk .words) (length (reading x .desk .messageMemory)) (reportFor (reading x) .context) (reportFor (reading x) .length) place
+      → place ≡ placeOf (part (reportFor (reading x) .context * messageRoomBytes) (reportFor (reading x) .length))
 
 -- ---- Demand 3 from C: what a caller makes of the reports is exactly what is whole.
 
--- the PDU that the nine words of a report name, if one: those of kind 2, with the bytes that its room holds
-abbrev pub reportDelivers : ℕ → List ℕ → List ℕ → List Delivery
-reportDelivers R streamMemory report =
-    cond (eqb (byte report 0) 2)
-    (delivery (record { source = byte report 5; cos = byte report 6 }) (pdu (byte report 7) (inRoom R streamMemory (byte report 4) (byte report 8))) ∷ [])
-    []
+-- the bytes at a place of a memory
+abbrev pub bytesAt : List ℕ → Place → List ℕ
+bytesAt memory place = take (place .length) (drop (place .offset) memory)
 
--- calls of `kaiverohm_read`, one for each packet, as `Reads` of the page of statements; and what their reports deliver
-pub data ReadsFromC : Board → List (List ℕ) → List Delivery → Type 0 where
-  no-more : {b : Board} → ReadsFromC b [] []
-  one-more : {b : Board} {p : List ℕ} {ps : List (List ℕ)} {ds : List Delivery} (r : Report) (given words streamMemory messageMemory response : List ℕ)
+-- the flow that a report names
+abbrev pub flowIn : Report → Flow
+flowIn r = record { source = r .source; cos = r .«cos_or_letter» }
+
+-- What a caller in C fetches after a report. A PDU is delivered (kind 2): one call of `kaiverohm_stream_room` with the report's context and length,
+-- for the stream memory as it was left; its bytes are those at the place that the call answers. After any other report nothing is fetched
+pub data FetchesFromC (d : Desk) (r : Report) : List Delivery → Type 0 where
+  at-place : (place : Place) → r .kind ≡ 2
+      → StreamPlacePromise (d .words) (length (d .streamMemory)) (r .context) (r .length) place
+      → FetchesFromC d r (delivery (flowIn r) (pdu (r .«stream_or_mailbox») (bytesAt (d .streamMemory) place)) ∷ [])
+  nothing : (r .kind ≡ 2 → ⊥) → FetchesFromC d r []
+
+-- calls of `kaiverohm_read`, one for each packet, as `Reads` (demands/specs/Calls.antt); and what is fetched after their reports
+pub data ReadsFromC : Desk → List (List ℕ) → List Delivery → Type 0 where
+  no-more : {d : Desk} → ReadsFromC d [] []
+  one-more : {d left : Desk} {p : List ℕ} {ps : List (List ℕ)} {fetched ds : List Delivery} (r : Report) (given : List ℕ)
       → responseSize ≤ length given
-      → ReadFromCPromise (lent (b .words) (b .streamMemory) (b .messageMemory) given p) r words streamMemory messageMemory response
-      → ReadsFromC (record { words = words; streamMemory = streamMemory; messageMemory = messageMemory; response = response }) ps ds
-      → ReadsFromC b (p ∷ ps) (reportDelivers (stateOf words .setup .room) streamMemory (wordsOfReport r) ++ ds)
+      → ReadFromCPromise (lent (withResponse d given) p) r left
+      → FetchesFromC left r fetched
+      → ReadsFromC left ps ds
+      → ReadsFromC d (p ∷ ps) (fetched ++ ds)
 
 abbrev pub CallsFromCAreReads : Type 0
-CallsFromCAreReads = (b : Board) (ps : List (List ℕ)) (ds : List Delivery) → ReadsFromC b ps ds → Reads b ps ds
+CallsFromCAreReads = (d : Desk) (ps : List (List ℕ)) (ds : List Delivery) → ReadsFromC d ps ds → Reads d ps ds
 
--- a setup from C that says ready (kind 4), and then a call for each packet
+-- from fresh: a setup from C said ready (kind 4), and memories that 12 allows are lent
+pub record SetUpFromC (setup : Setup) (d : Desk) : Type 0 where
+  pub device-ID : setup .device < 65536
+  pub before : List ℕ
+  pub answer : Numbers
+  pub promised : SetupFromCPromise before (setup .device) (setup .mtu) (setup .room) answer (d .words)
+  pub ready : answer .kind ≡ 4
+  pub lends : Lends setup d
+
+-- and then a call for each packet
 abbrev pub Demand3FromC : Type 0
 Demand3FromC =
-    (device mtu R : ℕ) (s : Sending) (r : Numbers) (words after streamMemory messageMemory response : List ℕ) (ds : List Delivery)
-    → SetupFromCPromise words device mtu R r after → r .kind ≡ 4 → Lends R streamMemory messageMemory response → Fair device mtu R s
-    → ReadsFromC (record { words = after; streamMemory = streamMemory; messageMemory = messageMemory; response = response }) (packets device mtu s) ds
-    → ds ≡ whole device mtu s
+    (setup : Setup) (d : Desk) (s : Sending) (ds : List Delivery)
+    → SetUpFromC setup d → Fair setup s
+    → ReadsFromC d (packets setup s) ds
+    → ds ≡ whole setup s
 
 -- A burst is such calls, each with a slot of its own as its response buffer.
-abbrev pub boardOf : Run → Board
-boardOf r = record { words = r .words; streamMemory = r .streamMemory; messageMemory = r .messageMemory; response = r .responses }
 
 -- a PDU by its name: flow, streamID and length
 pub record Name : Type 0 where
@@ -111,117 +148,100 @@ pub record Name : Type 0 where
 abbrev pub nameOf : Delivery → Name
 nameOf d = record { flow = d .flow; stream = d .pdu .stream; size = length (d .pdu .bytes) }
 
--- the names in the reports, of nine words each
-abbrev pub namesIn : List (List ℕ) → List Name
+-- the first n reports of a buffer, and report k
+abbrev pub reportsIn : ℕ → List ℕ → List Report
+reportsIn n reports = map reportIn (rows reportWords n reports)
+
+abbrev pub reportAt : List ℕ → ℕ → Report
+reportAt reports k = reportIn (take reportWords (drop (reportWords * k) reports))
+
+-- the names in reports
+abbrev pub namesIn : List Report → List Name
 namesIn [] = []
-namesIn (report ∷ reports) =
-    cond (eqb (byte report 0) 2) (record { flow = record { source = byte report 5; cos = byte report 6 }; stream = byte report 7; size = byte report 8 } ∷ namesIn reports) (namesIn reports)
+namesIn (r ∷ rs) =
+    cond (eqb (r .kind) 2) (record { flow = flowIn r; stream = r .«stream_or_mailbox»; size = r .length } ∷ namesIn rs) (namesIn rs)
 
 -- Without a pause: all packets are read, by calls that deliver `ds`, and the reports name these. A delivered PDU's bytes are those in its room when
 -- its packet was read; a later packet of the burst may take the room and write over them before the call returns.
-pub record BurstReads (r : Run) (burst : List ℕ) (packets : List (List ℕ)) (answer : Burst) (reports : List ℕ) (ds : List Delivery) : Type 0 where
+pub record BurstReads (d : Desk) (burst : List ℕ) (packets : List (List ℕ)) (answer : Burst) (reports : List ℕ) (ds : List Delivery) : Type 0 where
   pub all-read : answer ≡ answering atEnd 0 (length packets) (length burst)
-  pub reads : Reads (boardOf r) packets ds
-  pub names : namesIn (rows 9 (length packets) reports) ≡ map nameOf ds
+  pub reads : Reads d packets ds
+  pub names : namesIn (reportsIn (length packets) reports) ≡ map nameOf ds
 
 abbrev pub BurstIsReads : Type 0
 BurstIsReads =
-    (r : Run) (burst : List ℕ) (packets : List (List ℕ)) (answer : Burst) (words streamMemory messageMemory responses reports : List ℕ)
-    → WholeBurst r burst packets → BurstPromise 0 r burst answer words streamMemory messageMemory responses reports
-    → (ds : List Delivery) × BurstReads r burst packets answer reports ds
+    (d : Desk) (reports burst : List ℕ) (packets : List (List ℕ)) (answer : Burst) (after : Desk) (reports′ : List ℕ)
+    → WholeBurst d reports burst packets → BurstPromise 0 d reports burst answer after reports′
+    → (ds : List Delivery) × BurstReads d burst packets answer reports′ ds
 
 abbrev pub Demand3OfBursts : Type 0
 Demand3OfBursts =
-    (device mtu R : ℕ) (s : Sending) (words after streamMemory messageMemory responses reports burst : List ℕ)
-    (answer : Burst) (words′ streamMemory′ messageMemory′ responses′ reports′ : List ℕ)
-    → SetupPromise words device mtu R Ready after → Fair device mtu R s
-    → WholeBurst (run after streamMemory messageMemory responses reports 0 0) burst (packets device mtu s)
-    → BurstPromise 0 (run after streamMemory messageMemory responses reports 0 0) burst answer words′ streamMemory′ messageMemory′ responses′ reports′
-    → BurstReads (run after streamMemory messageMemory responses reports 0 0) burst (packets device mtu s) answer reports′ (whole device mtu s)
+    (setup : Setup) (s : Sending) (words : List ℕ) (d : Desk) (reports burst : List ℕ) (answer : Burst) (after : Desk) (reports′ : List ℕ)
+    → setup .device < 65536 → SetupPromise words (setup .device) (setup .mtu) (setup .room) Ready (d .words) → Fair setup s
+    → WholeBurst d reports burst (packets setup s) → BurstPromise 0 d reports burst answer after reports′
+    → BurstReads d burst (packets setup s) answer reports′ (whole setup s)
 
--- With a pause the burst stops behind each delivery, so that the bytes are in the room when the call returns. Calls of `read_burst`, each over the records
--- that the one before left unread, with the state and the memories that it left, and with any buffers for responses and reports; until one stops at the
--- end. Where one stopped at a delivery, its last report delivers.
-pub data Bursts : Board → List ℕ → List Delivery → Type 0 where
-  ended : {b : Board} {burst : List ℕ} (pause : ℕ) (answer : Burst) (responses reports words streamMemory messageMemory responses′ reports′ : List ℕ)
-      → (pause ≡ 0 → ⊥)
-      → BurstPromise pause (run (b .words) (b .streamMemory) (b .messageMemory) responses reports 0 0) burst answer words streamMemory messageMemory responses′ reports′
-      → answer .stop ≡ atEnd
-      → Bursts b burst []
-  full : {b : Board} {burst : List ℕ} {ds : List Delivery} (pause : ℕ) (answer : Burst) (responses reports words streamMemory messageMemory responses′ reports′ : List ℕ)
-      → (pause ≡ 0 → ⊥)
-      → BurstPromise pause (run (b .words) (b .streamMemory) (b .messageMemory) responses reports 0 0) burst answer words streamMemory messageMemory responses′ reports′
-      → answer .stop ≡ isFull
-      → Bursts (record { words = words; streamMemory = streamMemory; messageMemory = messageMemory; response = responses′ }) (drop (answer .next) burst) ds
-      → Bursts b burst ds
-  paused : {b : Board} {burst : List ℕ} {ds : List Delivery} (pause : ℕ) (answer : Burst) (responses reports words streamMemory messageMemory responses′ reports′ : List ℕ)
-      → (pause ≡ 0 → ⊥)
-      → BurstPromise pause (run (b .words) (b .streamMemory) (b .messageMemory) responses reports 0 0) burst answer words streamMemory messageMemory responses′ reports′
-      → answer .stop ≡ atDelivery
-      → Bursts (record { words = words; streamMemory = streamMemory; messageMemory = messageMemory; response = responses′ }) (drop (answer .next) burst) ds
-      → Bursts b burst (reportDelivers (stateOf words .setup .room) streamMemory (take 9 (drop (9 * (answer .count - 1)) reports′)) ++ ds)
+-- With a pause the burst stops behind each delivery, so that the bytes are in the room when the call returns.
+
+-- a call that is asked to pause, with any buffers for responses and reports; and how it finished
+pub record PausedCall (d : Desk) (burst : List ℕ) (f : Finished) : Type 0 where
+  pub pause : ℕ
+  pub asked : pause ≡ 0 → ⊥
+  pub responses : List ℕ
+  pub reports : List ℕ
+  pub promised : BurstPromise pause (withResponse d responses) reports burst (f .answer) (f .desk) (f .reports)
+
+-- the last report of a call
+abbrev pub lastReport : Finished → Report
+lastReport f = reportAt (f .reports) (f .answer .count - 1)
+
+-- Such calls, each over the records that the one before left unread, with the state and the memories that it left; until one stops at the
+-- end. Where one stopped at a delivery, the caller fetches what its last report names.
+pub data Bursts : Desk → List ℕ → List Delivery → Type 0 where
+  ended : {d : Desk} {burst : List ℕ} (f : Finished) → PausedCall d burst f → f .answer .stop ≡ atEnd → Bursts d burst []
+  full : {d : Desk} {burst : List ℕ} {ds : List Delivery} (f : Finished) → PausedCall d burst f → f .answer .stop ≡ isFull
+      → Bursts (f .desk) (drop (f .answer .next) burst) ds → Bursts d burst ds
+  paused : {d : Desk} {burst : List ℕ} {fetched ds : List Delivery} (f : Finished) → PausedCall d burst f → f .answer .stop ≡ atDelivery
+      → FetchesFromC (f .desk) (lastReport f) fetched
+      → Bursts (f .desk) (drop (f .answer .next) burst) ds → Bursts d burst (fetched ++ ds)
 
 -- such calls can be made, over the packets of that sending; and these deliver what is whole of it
 abbrev pub PausedBurstsNotEmpty : Type 0
-PausedBurstsNotEmpty = Bursts (freshBoard 1 32 64 (replicate 1024 0) (replicate 32768 0) (replicate responseSize 0)) (writtenLog (packets 1 32 mixture)) (whole 1 32 mixture)
+PausedBurstsNotEmpty = Bursts (zeroDesk smallSetup) (writtenLog (packets smallSetup mixture)) (whole smallSetup mixture)
 
 -- over a burst of written records these are calls for each packet
 abbrev pub PausedBurstsAreReads : Type 0
-PausedBurstsAreReads = (b : Board) (packets : List (List ℕ)) (ds : List Delivery) → AllShort packets → Bursts b (writtenLog packets) ds → Reads b packets ds
+PausedBurstsAreReads = (d : Desk) (packets : List (List ℕ)) (ds : List Delivery) → AllShort packets → Bursts d (writtenLog packets) ds → Reads d packets ds
 
 abbrev pub Demand3OfPausedBursts : Type 0
 Demand3OfPausedBursts =
-    (device mtu R : ℕ) (s : Sending) (words after streamMemory messageMemory response : List ℕ) (ds : List Delivery)
-    → SetupPromise words device mtu R Ready after → Lends R streamMemory messageMemory response → Fair device mtu R s → AllShort (packets device mtu s)
-    → Bursts (record { words = after; streamMemory = streamMemory; messageMemory = messageMemory; response = response }) (writtenLog (packets device mtu s)) ds
-    → ds ≡ whole device mtu s
+    (setup : Setup) (d : Desk) (s : Sending) (ds : List Delivery)
+    → SetUp setup d → Fair setup s
+    → AllShort (packets setup s) → Bursts d (writtenLog (packets setup s)) ds
+    → ds ≡ whole setup s
 
 -- ---- Determinism: any two outcomes that a promise allows are one, in the answer and in everything lent.
 
 abbrev pub SetupFromCOnce : Type 0
-SetupFromCOnce =
-    (words : List ℕ) (device mtu room : ℕ) (r r′ : Numbers) (after after′ : List ℕ)
-    → SetupFromCPromise words device mtu room r after
-    → SetupFromCPromise words device mtu room r′ after′
-    → (r ≡ r′) × (after ≡ after′)
+SetupFromCOnce = (words : List ℕ) (device mtu room : ℕ) → OneOutcome (λ (y : Outcome Numbers (List ℕ)). SetupFromCPromise words device mtu room (y .answer) (y .after))
 
 abbrev pub ReadFromCOnce : Type 0
-ReadFromCOnce =
-    (x : Lent) (r r′ : Report) (words words′ streams streams′ messages messages′ response response′ : List ℕ)
-    → ReadFromCPromise x r words streams messages response
-    → ReadFromCPromise x r′ words′ streams′ messages′ response′
-    → (r ≡ r′) × (words ≡ words′) × (streams ≡ streams′) × (messages ≡ messages′) × (response ≡ response′)
+ReadFromCOnce = Once (λ (x : Lent) (y : Outcome Report Desk). ReadFromCPromise x (y .answer) (y .after))
 
 abbrev pub BurstOnce : Type 0
-BurstOnce =
-    (pause : ℕ) (start : Run) (burst : List ℕ) (r r′ : Burst) (words words′ streams streams′ messages messages′ responses responses′ reports reports′ : List ℕ)
-    → BurstPromise pause start burst r words streams messages responses reports
-    → BurstPromise pause start burst r′ words′ streams′ messages′ responses′ reports′
-    → (r ≡ r′) × (words ≡ words′) × (streams ≡ streams′) × (messages ≡ messages′) × (responses ≡ responses′) × (reports ≡ reports′)
+BurstOnce = (pause : ℕ) (d : Desk) (reports burst : List ℕ) → OneOutcome (λ (y : Finished). BurstPromise pause d reports burst (y .answer) (y .desk) (y .reports))
 
 abbrev pub AbandonStreamFromCOnce : Type 0
-AbandonStreamFromCOnce =
-    (words : List ℕ) (n : ℕ) (r r′ : Numbers) (after after′ : List ℕ)
-    → AbandonStreamFromCPromise words n r after
-    → AbandonStreamFromCPromise words n r′ after′
-    → (r ≡ r′) × (after ≡ after′)
+AbandonStreamFromCOnce = (words : List ℕ) (n : ℕ) → OneOutcome (λ (y : Outcome Numbers (List ℕ)). AbandonStreamFromCPromise words n (y .answer) (y .after))
 
 abbrev pub AbandonMessageFromCOnce : Type 0
-AbandonMessageFromCOnce =
-    (words : List ℕ) (n : ℕ) (r r′ : Numbers) (after after′ : List ℕ)
-    → AbandonMessageFromCPromise words n r after
-    → AbandonMessageFromCPromise words n r′ after′
-    → (r ≡ r′) × (after ≡ after′)
+AbandonMessageFromCOnce = (words : List ℕ) (n : ℕ) → OneOutcome (λ (y : Outcome Numbers (List ℕ)). AbandonMessageFromCPromise words n (y .answer) (y .after))
 
 abbrev pub StreamPlaceOnce : Type 0
-StreamPlaceOnce = (words : List ℕ) (size n l : ℕ) (r r′ : Place) → StreamPlacePromise words size n l r → StreamPlacePromise words size n l r′ → r ≡ r′
+StreamPlaceOnce = (words : List ℕ) (size n l : ℕ) → OneOutcome (StreamPlacePromise words size n l)
 
 abbrev pub MessagePlaceOnce : Type 0
-MessagePlaceOnce = (words : List ℕ) (size n l : ℕ) (r r′ : Place) → MessagePlacePromise words size n l r → MessagePlacePromise words size n l r′ → r ≡ r′
+MessagePlaceOnce = (words : List ℕ) (size n l : ℕ) → OneOutcome (MessagePlacePromise words size n l)
 
 abbrev pub WriteFromCOnce : Type 0
-WriteFromCOnce =
-    (out : List ℕ) (h : Heading) (mtu : ℕ) (pdu : List ℕ) (k : ℕ) (r r′ : Numbers) (after after′ : List ℕ)
-    → WriteFromCPromise out h mtu pdu k r after
-    → WriteFromCPromise out h mtu pdu k r′ after′
-    → (r ≡ r′) × (after ≡ after′)
+WriteFromCOnce = (out : List ℕ) (h : Heading) (mtu : ℕ) (pdu : List ℕ) (k : ℕ) → OneOutcome (λ (y : Outcome Numbers (List ℕ)). WriteFromCPromise out h mtu pdu k (y .answer) (y .after))

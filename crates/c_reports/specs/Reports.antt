@@ -2,54 +2,42 @@
 use Prim.Native.Nat.{ℕ}
 use mathlib.Core.List.{List, [], _∷_}
 use mathlib.Core.Bool.{Bool, cond}
-use lib.Dec.{eqb, ltb}
-use Rattle.answers.specs.Answers.{Said, held, delivered, message, refused, ready, closed, free, wrote}
-use Rattle.wire.specs.Packet.{packetType}
-use Rattle.responses.specs.Type13.{responseSize}
+use Rattle.lists.specs.Bytes.{byte}
+use Rattle.answers.specs.Answers.{Said, held, delivered, message, refused}
+use Rattle.answers.specs.Answers.{SetupSaid, ready, setupRefused, AbandonSaid, closed, free, abandonRefused, WriterSaid, wrote, writeRefused}
 use Rattle.c_reports.specs.declared.Report.{Report}
 use Rattle.c_reports.specs.declared.Numbers.{Numbers}
 
--- a number for each thing that a call says
-abbrev pub kindOf : Said → ℕ
-kindOf (refused number) = 0
-kindOf held = 1
-kindOf (delivered context source cos stream size) = 2
-kindOf (message context source letter mailbox size) = 3
-kindOf ready = 4
-kindOf closed = 5
-kindOf free = 6
-kindOf (wrote size) = 7
+-- ---- the answer of a call that reads no packet: its kind, and the refusal's number or the length written
 
--- the answer of a call that reads no packet: its kind, and the refusal's number or the length written
-abbrev pub numberOf : Said → ℕ
-numberOf (refused number) = number
-numberOf (wrote size) = size
-numberOf held = 0
-numberOf (delivered context source cos stream size) = 0
-numberOf (message context source letter mailbox size) = 0
-numberOf ready = 0
-numberOf closed = 0
-numberOf free = 0
+abbrev pub numbers : ℕ → ℕ → Numbers
+numbers kind number = record { kind = kind; number = number }
 
-abbrev pub numbersOf : Said → Numbers
-numbersOf says = record { kind = kindOf says; number = numberOf says }
+-- the kind of every refusal, of every call
+abbrev pub refusedKind : ℕ
+refusedKind = 0
+
+abbrev pub numbersOfSetup : SetupSaid → Numbers
+numbersOfSetup ready = numbers 4 0
+numbersOfSetup (setupRefused number) = numbers refusedKind number
+
+abbrev pub numbersOfAbandon : AbandonSaid → Numbers
+numbersOfAbandon closed = numbers 5 0
+numbersOfAbandon free = numbers 6 0
+numbersOfAbandon (abandonRefused number) = numbers refusedKind number
+
+abbrev pub numbersOfWriter : WriterSaid → Numbers
+numbersOfWriter (wrote size) = numbers 7 size
+numbersOfWriter (writeRefused number) = numbers refusedKind number
 
 -- ---- the report of a packet
 
-abbrev pub isMessage : List ℕ → Bool
-isMessage packet = eqb (packetType packet) 11
-
--- the bytes of response that reading the packet wrote: every message segment that is accepted, or refused by 20 to 25, has one
-abbrev pub responseOf : Said → List ℕ → ℕ
-responseOf held packet = cond (isMessage packet) responseSize 0
-responseOf (delivered context source cos stream size) packet = 0
-responseOf (message context source letter mailbox size) packet = responseSize
-responseOf (refused number) packet = cond (ltb number 20) 0 responseSize
--- reading says none of these
-responseOf ready packet = 0
-responseOf closed packet = 0
-responseOf free packet = 0
-responseOf (wrote size) packet = 0
+-- a number for each thing that reading says
+abbrev pub kindOf : Said → ℕ
+kindOf (refused number) = refusedKind
+kindOf held = 1
+kindOf (delivered context flow stream size) = 2
+kindOf (message context source letter mailbox size) = 3
 
 abbrev pub flagOf : Bool → ℕ
 flagOf b = cond b 1 0
@@ -69,10 +57,10 @@ plainOf kind number dropped response = record {
 }
 
 -- a report that carries one
-abbrev pub carrying : Said → ℕ → ℕ → ℕ → ℕ → ℕ → ℕ → ℕ → Report
-carrying says dropped response context source cosOrLetter streamOrMailbox size = record {
-  kind = kindOf says;
-  number = numberOf says;
+abbrev pub carrying : ℕ → ℕ → ℕ → ℕ → ℕ → ℕ → ℕ → ℕ → Report
+carrying kind dropped response context source cosOrLetter streamOrMailbox size = record {
+  kind = kind;
+  number = 0;
   dropped = dropped;
   response = response;
   context = context;
@@ -83,21 +71,22 @@ carrying says dropped response context source cosOrLetter streamOrMailbox size =
 }
 
 abbrev pub sayingOf : Said → ℕ → ℕ → Report
-sayingOf (delivered context source cos stream size) dropped response = carrying (delivered context source cos stream size) dropped response context source cos stream size
-sayingOf (message context source letter mailbox size) dropped response = carrying (message context source letter mailbox size) dropped response context source letter mailbox size
-sayingOf held dropped response = plainOf (kindOf held) (numberOf held) dropped response
-sayingOf (refused number) dropped response = plainOf (kindOf (refused number)) (numberOf (refused number)) dropped response
--- reading says none of these
-sayingOf ready dropped response = plainOf (kindOf ready) (numberOf ready) dropped response
-sayingOf closed dropped response = plainOf (kindOf closed) (numberOf closed) dropped response
-sayingOf free dropped response = plainOf (kindOf free) (numberOf free) dropped response
-sayingOf (wrote size) dropped response = plainOf (kindOf (wrote size)) (numberOf (wrote size)) dropped response
+sayingOf (refused number) dropped response = plainOf (kindOf (refused number)) number dropped response
+sayingOf held dropped response = plainOf (kindOf held) 0 dropped response
+sayingOf (delivered context flow stream size) dropped response =
+    carrying (kindOf (delivered context flow stream size)) dropped response context (flow .source) (flow .cos) stream size
+sayingOf (message context source letter mailbox size) dropped response =
+    carrying (kindOf (message context source letter mailbox size)) dropped response context source letter mailbox size
 
--- the report of what reading the packet said, and whether it dropped an open PDU
-unfoldable pub reportOf : Said → Bool → List ℕ → Report
-reportOf says dropped packet = sayingOf says (flagOf dropped) (responseOf says packet)
+-- the report of what reading the packet said, whether it dropped an open PDU, and how many bytes of response it wrote
+unfoldable pub reportOf : Said → Bool → ℕ → Report
+reportOf says dropped replied = sayingOf says (flagOf dropped) replied
 
--- its words in a lent buffer, in the order of its fields
+-- how many words a report takes in a lent buffer
+abbrev pub reportWords : ℕ
+reportWords = 9
+
+-- its words there, in the order of its fields
 abbrev pub wordsOfReport : Report → List ℕ
 wordsOfReport r =
     r .kind
@@ -110,3 +99,17 @@ wordsOfReport r =
     ∷ r .«stream_or_mailbox»
     ∷ r .length
     ∷ []
+
+-- and back: the report that stands in such words
+abbrev pub reportIn : List ℕ → Report
+reportIn words = record {
+  kind = byte words 0;
+  number = byte words 1;
+  dropped = byte words 2;
+  response = byte words 3;
+  context = byte words 4;
+  source = byte words 5;
+  «cos_or_letter» = byte words 6;
+  «stream_or_mailbox» = byte words 7;
+  length = byte words 8;
+}

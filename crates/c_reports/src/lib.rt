@@ -9,7 +9,8 @@ ghost use Prim.Native.Nat.{_+_, _≤_};
 ghost use lib.ListN.{length};
 ghost use Rattle.answers.specs.Answers.{said, saidOfSetup, saidOfAbandon, saidOfWriter};
 ghost use Rattle.lists.specs.Bytes.{written};
-ghost use Rattle.c_reports.specs.Reports.{isMessage, responseOf, flagOf, plainOf, sayingOf, reportOf, wordsOfReport, numbersOf};
+ghost use Rattle.c_reports.specs.Reports.{flagOf, plainOf, sayingOf, reportOf, reportWords, wordsOfReport};
+ghost use Rattle.c_reports.specs.Reports.{numbersOfSetup, numbersOfAbandon, numbersOfWriter};
 
 // The words of a report.
 pub const WORDS: usize = 9;
@@ -26,50 +27,6 @@ pub struct Report {
     pub cos_or_letter: usize,
     pub stream_or_mailbox: usize,
     pub length: usize,
-}
-
-// Whether a packet's type is 11. A packet without bytes has no type.
-fn is_message(packet: &[u8]) -> bool
-    ensures { λ r. ⌜ r ≡ isMessage (now (packet .entry)) ⌝ }
-{
-    if packet.len() == 0 {
-        return false;
-    }
-    lists::wide(packet[0]) % 16 == 11
-}
-
-// The bytes that reading the packet wrote in the front of the response buffer.
-fn response_of(answer: Answer, packet: &[u8]) -> usize
-    ensures { λ r. ⌜ r ≡ responseOf (said answer) (now (packet .entry)) ⌝ }
-{
-    match answer {
-        Answer::Held => {
-            if is_message(packet) {
-                return responses::SIZE;
-            }
-            0
-        }
-        Answer::Delivered {
-            context: _,
-            source: _,
-            cos: _,
-            stream: _,
-            length: _,
-        } => 0,
-        Answer::Message {
-            context: _,
-            source: _,
-            letter: _,
-            mailbox: _,
-            length: _,
-        } => responses::SIZE,
-        Answer::Refused(number) => {
-            if number < 20 {
-                return 0;
-            }
-            responses::SIZE
-        }
-    }
 }
 
 fn flag(b: bool) -> usize
@@ -106,8 +63,7 @@ fn saying(answer: Answer, dropped: usize, response: usize) -> Report
         Answer::Held => plain(1, 0, dropped, response),
         Answer::Delivered {
             context,
-            source,
-            cos,
+            flow,
             stream,
             length,
         } => Report {
@@ -116,8 +72,8 @@ fn saying(answer: Answer, dropped: usize, response: usize) -> Report
             dropped,
             response,
             context,
-            source,
-            cos_or_letter: cos,
+            source: flow.source,
+            cos_or_letter: flow.cos,
             stream_or_mailbox: stream,
             length,
         },
@@ -143,16 +99,16 @@ fn saying(answer: Answer, dropped: usize, response: usize) -> Report
 }
 
 // The report of reading a packet.
-pub fn reported(reading: Reading, packet: &[u8]) -> Report
-    ensures { λ r. ⌜ r ≡ reportOf (said (reading .answer)) (reading .dropped) (now (packet .entry)) ⌝ }
+pub fn reported(reading: Reading) -> Report
+    ensures { λ r. ⌜ r ≡ reportOf (said (reading .answer)) (reading .dropped) (reading .response) ⌝ }
 {
     let answer = reading.answer;
-    saying(answer, flag(reading.dropped), response_of(answer, packet))
+    saying(answer, flag(reading.dropped), reading.response)
 }
 
 // Writes a report as words, from `at` on. Every caller has room for them.
 pub fn put(words: &mut [usize], at: usize, r: Report)
-    requires { ⌜ at + 9 ≤ length (now words) ⌝ }
+    requires { ⌜ at + reportWords ≤ length (now words) ⌝ }
     ensures { λ _. ⌜ now (words .exit) ≡ written (now (words .entry)) at (wordsOfReport r) ⌝ }
 {
     words[at] = r.kind;
@@ -175,7 +131,7 @@ pub struct Numbers {
 
 // What setup answers.
 pub fn of_setup(begun: Begun) -> Numbers
-    ensures { λ r. ⌜ r ≡ numbersOf (saidOfSetup begun) ⌝ }
+    ensures { λ r. ⌜ r ≡ numbersOfSetup (saidOfSetup begun) ⌝ }
 {
     match begun {
         Begun::Ready => Numbers { kind: 4, number: 0 },
@@ -185,7 +141,7 @@ pub fn of_setup(begun: Begun) -> Numbers
 
 // What abandoning a context answers.
 pub fn of_abandon(abandoned: Abandoned) -> Numbers
-    ensures { λ r. ⌜ r ≡ numbersOf (saidOfAbandon abandoned) ⌝ }
+    ensures { λ r. ⌜ r ≡ numbersOfAbandon (saidOfAbandon abandoned) ⌝ }
 {
     match abandoned {
         Abandoned::Closed => Numbers { kind: 5, number: 0 },
@@ -196,7 +152,7 @@ pub fn of_abandon(abandoned: Abandoned) -> Numbers
 
 // What the segment writer answers.
 pub fn of_writer(written: Written) -> Numbers
-    ensures { λ r. ⌜ r ≡ numbersOf (saidOfWriter written) ⌝ }
+    ensures { λ r. ⌜ r ≡ numbersOfWriter (saidOfWriter written) ⌝ }
 {
     match written {
         Written::Length(length) => Numbers {

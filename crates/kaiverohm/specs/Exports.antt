@@ -3,6 +3,7 @@
 use Prim.Native.Nat.{ℕ}
 use mathlib.Core.Path.{_≡_}
 use mathlib.Core.List.{List}
+use Rattle.reading.specs.Desk.{Desk}
 use Rattle.reading.specs.Table.{Lent}
 use Rattle.reading.specs.Read.{reading}
 use Rattle.endpoint.specs.Calls.{setup, abandonStream, abandonMessage}
@@ -10,33 +11,31 @@ use Rattle.cutting.specs.declared.Heading.{Heading}
 use Rattle.segments.specs.Writer.{writing}
 use Rattle.c_reports.specs.declared.Numbers.{Numbers}
 use Rattle.c_reports.specs.declared.Report.{Report}
-use Rattle.c_reports.specs.Reports.{numbersOf, reportOf}
+use Rattle.c_reports.specs.Reports.{numbersOfSetup, numbersOfAbandon, numbersOfWriter}
+use Rattle.c_bursts.specs.Bursts.{reportFor}
 
 -- the promise of `kaiverohm_setup`
 pub record SetupFromCPromise (words : List ℕ) (device mtu room : ℕ) (r : Numbers) (after : List ℕ) : Type 0 where
-  pub answer : r ≡ numbersOf (setup words device mtu room .says)
+  pub answer : r ≡ numbersOfSetup (setup words device mtu room .says)
   pub state : after ≡ setup words device mtu room .words
 
--- the promise of `kaiverohm_read`
-pub record ReadFromCPromise (x : Lent) (r : Report) (words streamMemory messageMemory response : List ℕ) : Type 0 where
-  pub report : r ≡ reportOf (reading x .says) (reading x .dropped) (x .packet)
-  pub state : words ≡ reading x .words
-  pub streams : streamMemory ≡ reading x .streamMemory
-  pub messages : messageMemory ≡ reading x .messageMemory
-  pub reply : response ≡ reading x .response
+-- the promise of `kaiverohm_read`: the report, and the desk as it is left
+pub record ReadFromCPromise (x : Lent) (r : Report) (after : Desk) : Type 0 where
+  pub report : r ≡ reportFor (reading x)
+  pub desk : after ≡ reading x .desk
 
 -- the promises of `kaiverohm_abandon_stream` and `kaiverohm_abandon_message`
 pub record AbandonStreamFromCPromise (words : List ℕ) (n : ℕ) (r : Numbers) (after : List ℕ) : Type 0 where
-  pub answer : r ≡ numbersOf (abandonStream words n .says)
+  pub answer : r ≡ numbersOfAbandon (abandonStream words n .says)
   pub state : after ≡ abandonStream words n .words
 
 pub record AbandonMessageFromCPromise (words : List ℕ) (n : ℕ) (r : Numbers) (after : List ℕ) : Type 0 where
-  pub answer : r ≡ numbersOf (abandonMessage words n .says)
+  pub answer : r ≡ numbersOfAbandon (abandonMessage words n .says)
   pub state : after ≡ abandonMessage words n .words
 
 -- the promise of `kaiverohm_write_segment`
 pub record WriteFromCPromise (out : List ℕ) (h : Heading) (mtu : ℕ) (pdu : List ℕ) (k : ℕ) (r : Numbers) (after : List ℕ) : Type 0 where
-  pub answer : r ≡ numbersOf (writing out h mtu pdu k .says)
+  pub answer : r ≡ numbersOfWriter (writing out h mtu pdu k .says)
   pub packet : after ≡ writing out h mtu pdu k .out
 
 -- The others hand on what their callees promise: `LengthPromise` (endpoint/specs/Calls.antt), `CountPromise` (segments/specs/Writer.antt),

@@ -5,11 +5,12 @@ use c_places::Place;
 use c_reports::Numbers;
 use c_reports::Report;
 use cutting::Heading;
-ghost use Rattle.reading.specs.Read.{lent};
+ghost use Rattle.reading.specs.Desk.{desk};
+ghost use Rattle.reading.specs.Table.{lent};
 ghost use Rattle.endpoint.specs.Calls.{LengthPromise};
 ghost use Rattle.segments.specs.Writer.{CountPromise};
 ghost use Rattle.c_places.specs.Places.{StreamPlacePromise, MessagePlacePromise};
-ghost use Rattle.c_bursts.specs.Bursts.{run, BurstPromise};
+ghost use Rattle.c_bursts.specs.Bursts.{BurstPromise};
 ghost use Rattle.kaiverohm.specs.Exports.{SetupFromCPromise, ReadFromCPromise, AbandonStreamFromCPromise, AbandonMessageFromCPromise, WriteFromCPromise};
 
 // The words of a state.
@@ -42,10 +43,11 @@ pub extern "C" fn kaiverohm_read(
     response: &mut [u8],
     packet: &[u8],
 ) -> Report
-    ensures { λ r. ⌜ ReadFromCPromise (lent (now (state .entry)) (now («stream_memory» .entry)) (now («message_memory» .entry)) (now (response .entry)) (now (packet .entry))) r (now (state .exit)) (now («stream_memory» .exit)) (now («message_memory» .exit)) (now (response .exit)) ⌝ }
+    ensures { λ r. ⌜ ReadFromCPromise (lent (desk (now (state .entry)) (now («stream_memory» .entry)) (now («message_memory» .entry)) (now (response .entry))) (now (packet .entry)))
+        r (desk (now (state .exit)) (now («stream_memory» .exit)) (now («message_memory» .exit)) (now (response .exit))) ⌝ }
 {
     let reading = endpoint::read(state, stream_memory, message_memory, response, packet);
-    c_reports::reported(reading, packet)
+    c_reports::reported(reading)
 }
 
 // Reads the packets of a burst.
@@ -59,7 +61,8 @@ pub extern "C" fn kaiverohm_read_burst(
     burst: &[u8],
     pause: usize,
 ) -> Burst
-    ensures { λ r. ⌜ BurstPromise pause (run (now (state .entry)) (now («stream_memory» .entry)) (now («message_memory» .entry)) (now (responses .entry)) (now (reports .entry)) 0 0) (now (burst .entry)) r (now (state .exit)) (now («stream_memory» .exit)) (now («message_memory» .exit)) (now (responses .exit)) (now (reports .exit)) ⌝ }
+    ensures { λ r. ⌜ BurstPromise pause (desk (now (state .entry)) (now («stream_memory» .entry)) (now («message_memory» .entry)) (now (responses .entry))) (now (reports .entry))
+        (now (burst .entry)) r (desk (now (state .exit)) (now («stream_memory» .exit)) (now («message_memory» .exit)) (now (responses .exit))) (now (reports .exit)) ⌝ }
 {
     c_bursts::read_burst(
         state,

@@ -1,124 +1,23 @@
--- `c_reports::put` meets its contract: nine stores are one run of words.
-use Rattle.c_reports.proofs.Laws.{nine-stores}
+-- `c_reports::put` meets its contract: each word has its place, and the stores are one run of words.
 use lib.ListN.{length-set}
 use native.Mathlib.Omega.{arith}
 use borrow.Author.Needs.{needs}
+use Rattle.c_reports.proofs.Laws.{stored}
 use Rattle.c_reports.proofs.put.Statement.{statement}
 use Rattle.c_reports.proofs.put.Tie as tie
 
-mul-words : tie.Need-mul-words
-mul-words c = search needs
-
-slice-write-words : tie.Need-slice-write-words
-slice-write-words c = search needs
-
-add-words : tie.Need-add-words
-add-words c = search needs
-
-mul-words-2 : tie.Need-mul-words-2
-mul-words-2 c = search needs
-
-slice-write-words-2 : tie.Need-slice-write-words-2
-slice-write-words-2 c = simp length-set (omega arith)
-
-add-words-2 : tie.Need-add-words-2
-add-words-2 c = search needs
-
-mul-words-3 : tie.Need-mul-words-3
-mul-words-3 c = search needs
-
-slice-write-words-3 : tie.Need-slice-write-words-3
-slice-write-words-3 c = simp length-set (omega arith)
-
-add-words-3 : tie.Need-add-words-3
-add-words-3 c = search needs
-
-mul-words-4 : tie.Need-mul-words-4
-mul-words-4 c = search needs
-
-slice-write-words-4 : tie.Need-slice-write-words-4
-slice-write-words-4 c = simp length-set (omega arith)
-
-add-words-4 : tie.Need-add-words-4
-add-words-4 c = search needs
-
-mul-words-5 : tie.Need-mul-words-5
-mul-words-5 c = search needs
-
-slice-write-words-5 : tie.Need-slice-write-words-5
-slice-write-words-5 c = simp length-set (omega arith)
-
-add-words-5 : tie.Need-add-words-5
-add-words-5 c = search needs
-
-mul-words-6 : tie.Need-mul-words-6
-mul-words-6 c = search needs
-
-slice-write-words-6 : tie.Need-slice-write-words-6
-slice-write-words-6 c = simp length-set (omega arith)
-
-add-words-6 : tie.Need-add-words-6
-add-words-6 c = search needs
-
-mul-words-7 : tie.Need-mul-words-7
-mul-words-7 c = search needs
-
-slice-write-words-7 : tie.Need-slice-write-words-7
-slice-write-words-7 c = simp length-set (omega arith)
-
-add-words-7 : tie.Need-add-words-7
-add-words-7 c = search needs
-
-mul-words-8 : tie.Need-mul-words-8
-mul-words-8 c = search needs
-
-slice-write-words-8 : tie.Need-slice-write-words-8
-slice-write-words-8 c = simp length-set (omega arith)
-
-add-words-8 : tie.Need-add-words-8
-add-words-8 c = search needs
-
-mul-words-9 : tie.Need-mul-words-9
-mul-words-9 c = search needs
-
-slice-write-words-9 : tie.Need-slice-write-words-9
-slice-write-words-9 c = simp length-set (omega arith)
-
-same-length : tie.Need-same-length
-same-length c = search needs
-
-returns : tie.Need-returns
-returns c = nine-stores (c .args .words .now) (c .args .at) (c .args .r) (c .pre)
-
+-- for each word: its place has no overflow, lies in the buffer, and the next place
 pub put-spec : {M : Type 1} → statement M
 put-spec =
     tie.close
     (tie.spec
-    mul-words
-    slice-write-words
-    add-words
-    mul-words-2
-    slice-write-words-2
-    add-words-2
-    mul-words-3
-    slice-write-words-3
-    add-words-3
-    mul-words-4
-    slice-write-words-4
-    add-words-4
-    mul-words-5
-    slice-write-words-5
-    add-words-5
-    mul-words-6
-    slice-write-words-6
-    add-words-6
-    mul-words-7
-    slice-write-words-7
-    add-words-7
-    mul-words-8
-    slice-write-words-8
-    add-words-8
-    mul-words-9
-    slice-write-words-9
-    same-length
-    returns)
+    (λ c. search needs) (λ c. search needs) (λ c. search needs)
+    (λ c. search needs) (λ c. simp length-set (omega arith)) (λ c. search needs)
+    (λ c. search needs) (λ c. simp length-set (omega arith)) (λ c. search needs)
+    (λ c. search needs) (λ c. simp length-set (omega arith)) (λ c. search needs)
+    (λ c. search needs) (λ c. simp length-set (omega arith)) (λ c. search needs)
+    (λ c. search needs) (λ c. simp length-set (omega arith)) (λ c. search needs)
+    (λ c. search needs) (λ c. simp length-set (omega arith)) (λ c. search needs)
+    (λ c. search needs) (λ c. simp length-set (omega arith)) (λ c. search needs)
+    (λ c. search needs) (λ c. simp length-set (omega arith)) (λ c. search needs)
+    (λ c. stored _ _ (c .args .r) (c .pre)))
