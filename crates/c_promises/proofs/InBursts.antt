@@ -8,6 +8,7 @@ use native.Mathlib.Omega.{arith}
 use lib.ListN.{length, take, drop, length-replicate}
 use lib.Seq.{take-add, take-take, drop-at, drop-drop, length-take-le}
 use Rattle.lists.specs.Rows.{rows}
+use Rattle.lists.proofs.Tests.{neither}
 use Rattle.answers.specs.declared.Begun.the-variants.{Ready}
 use Rattle.answers.specs.Answers.{Said, held, delivered, message, refused}
 use Rattle.tables.specs.Refusals.{none}
@@ -17,7 +18,6 @@ use Rattle.responses.specs.Type13.{responseSize}
 use Rattle.contexts.specs.State.{Setup, State, fresh, streamContexts}
 use Rattle.contexts.specs.Words.{stateOf, wordsOf}
 use Rattle.contexts.proofs.Words.{state-of}
-use Rattle.refusal19.proofs.Good.{neither}
 use Rattle.reading.specs.Desk.{Desk, desk, stateOn}
 use Rattle.reading.specs.Table.{Lent, isState, wrongSizes, lentRows}
 use Rattle.reading.specs.Read.{reading}

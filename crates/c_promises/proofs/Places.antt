@@ -3,13 +3,13 @@ use Prim.Native.Nat.{_*_}
 use mathlib.Core.Path.{_≡_, refl, ap, _∙_}
 use native.Mathlib.Omega.{arith}
 use lib.ListN.{length}
+use Rattle.lists.specs.Bytes.{AreBytes}
 use Rattle.answers.specs.Answers.{Said, held, delivered, message, refused}
 use Rattle.message_rooms.specs.Placing.{messageRoomBytes}
 use Rattle.reading.specs.Desk.{stateOn}
 use Rattle.reading.specs.Table.{Lent}
 use Rattle.reading.specs.Read.{reading}
 use Rattle.endpoint.specs.Calls.{part}
-use Rattle.flows.specs.ByFlow.{AreBytes}
 use Rattle.demands.proofs.Rooms.{room-of-delivered}
 use Rattle.c_reports.specs.declared.Report.{Report}
 use Rattle.c_reports.specs.Reports.{reportOf}

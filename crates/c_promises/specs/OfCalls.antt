@@ -5,6 +5,7 @@ use mathlib.Core.List.{List, [], _∷_, _++_, map}
 use mathlib.Core.Bool.{true, cond}
 use lib.ListN.{length, take, drop, replicate}
 use lib.Dec.{eqb}
+use Rattle.lists.specs.Bytes.{AreBytes}
 use Rattle.lists.specs.Rows.{rows}
 use Rattle.tables.specs.Refusals.{accept}
 use Rattle.answers.specs.declared.Begun.the-variants.{Ready}
@@ -21,7 +22,6 @@ use Rattle.cutting.specs.declared.Heading.{Heading}
 use Rattle.flows.specs.OneFlow.{pdu}
 use Rattle.flows.specs.Deliveries.{Delivery, delivery}
 use Rattle.flows.specs.Fresh.{Lends, zeroDesk}
-use Rattle.flows.specs.ByFlow.{AreBytes}
 use Rattle.sending.specs.Sending.{Sending, packets, whole, Fair}
 use Rattle.sending.specs.Mixture.{smallSetup, mixture}
 use Rattle.demands.specs.Calls.{Reads}

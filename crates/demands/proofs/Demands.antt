@@ -7,8 +7,8 @@ use lib.ListN.{length, length-replicate}
 use borrow.Author.Tests.{le-ltb}
 use Rattle.answers.specs.Answers.{Said}
 use Rattle.wire.specs.declared.Flow.{Flow}
+use Rattle.sizes.proofs.Laws.{mtu-fits}
 use Rattle.refusal19.specs.Refusal19.{badRoom}
-use Rattle.refusal19.proofs.Good.{mtu-fits}
 use Rattle.contexts.specs.State.{Setup}
 use Rattle.reading.specs.Desk.{Desk, stateOn}
 use Rattle.flows.specs.OneFlow.{pdu}
@@ -22,9 +22,10 @@ use Rattle.sending.proofs.Fresh.{fresh-begins, sending-begins}
 use Rattle.sending.proofs.ReadBack.{read-back}
 use Rattle.sending.proofs.Merge.{delivered-is-whole, delivered-at-every-turn}
 use Rattle.sending.proofs.Joint.{joint-delivered}
+use Rattle.sending.proofs.Untold.{packetsFrom}
 use Rattle.demands.specs.Demands.{OursMeets, OurWriterMeets, Demand3AnyLoss}
 use Rattle.demands.specs.OfCalls.{Corollary3}
-use Rattle.demands.proofs.Writing.{packetsFrom, ours-writes}
+use Rattle.demands.proofs.Writing.{ours-writes}
 use Rattle.demands.proofs.Wider.{widest, same-packets, same-whole, wider}
 
 pub ours-meets : OursMeets

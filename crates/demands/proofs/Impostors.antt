@@ -8,6 +8,7 @@ use lib.ListN.{length, getD, take, drop, replicate, length-replicate}
 use lib.Seq.{getD-drop}
 use lib.Dec.{ltb}
 use Rattle.lists.specs.Each.{Each}
+use Rattle.lists.proofs.Below.{below, below-at}
 use Rattle.answers.specs.Answers.{Said, held, delivered, message, refused, WriterSaid, wrote, writeRefused}
 use Rattle.wire.specs.declared.Flow.{Flow}
 use Rattle.wire.specs.declared.Parsed.{Parsed}
@@ -26,7 +27,7 @@ use Rattle.segments.specs.Writer.{Wrote}
 use Rattle.sending.specs.Sending.{Sent, headingFor, putOf, Ranges, FairPDU, between, Sending, Fair}
 use Rattle.sending.specs.OfSendings.{packetAt, deskAt, saysAt, HandsBack}
 use Rattle.sending.specs.Joint.{inTurn, isJoint, Pair}
-use Rattle.sending.proofs.Decided.{allOf, under, under-at, isFairTurn, isSegment, isFair, fair-PDU, is-fair, deciding}
+use Rattle.sending.proofs.Decided.{allOf, isFairTurn, isSegment, isFair, fair-PDU, is-fair, deciding}
 use Rattle.paper_examples.specs.Example.{counting}
 use Rattle.paper_examples.specs.Table.{sourceOf, firstPDU, secondPDU}
 use Rattle.paper_examples.proofs.Computing.{computing}
@@ -135,8 +136,8 @@ low-part room l context size h = low-take size (drop (context * room) l) (λ i. 
 
 -- the start stores bytes 0 to 31 in a memory of zeros
 low-start : Low (after (zeroDesk here) (packetAt here from2 one 0) .streamMemory)
-unfolding computing under
-low-start i = under-at 39 (after (zeroDesk here) (packetAt here from2 one 0) .streamMemory) i (omega arith) refl
+unfolding computing below
+low-start i = below-at 39 (after (zeroDesk here) (packetAt here from2 one 0) .streamMemory) i (omega arith) refl
 
 module _ (e : Endpoint) (starts-only : StoresOnlyStarts e) where
   abbrev begun : Desk
@@ -213,19 +214,19 @@ keeps joint =
 -- ---- A writer that does nothing: a buffer of zeros is no segment, however long the writer says the packet is
 
 zeros-refused : (says : WriterSaid) (n : ℕ) → isFairTurn here (between (standsIn says (replicate n 0))) ≡ true
-unfolding isFairTurn isSegment under parsed headRows verdict
+unfolding isFairTurn isSegment below parsed headRows verdict
 zeros-refused (writeRefused number) n = refl
 zeros-refused (wrote size) n = go size n
   where
-    zeros-under : (size n : ℕ) → under 256 (take size (replicate n 0)) ≡ true
-    zeros-under zero n = refl
-    zeros-under (suc size) zero = refl
-    zeros-under (suc size) (suc n) = zeros-under size n
+    zeros-below : (size n : ℕ) → below 256 (take size (replicate n 0)) ≡ true
+    zeros-below zero n = refl
+    zeros-below (suc size) zero = refl
+    zeros-below (suc size) (suc n) = zeros-below size n
 
     go : (size n : ℕ) → isFairTurn here (between (take size (replicate n 0))) ≡ true
     go zero n = refl
     go (suc size) zero = refl
-    go (suc size) (suc n) = rw (zeros-under size n) (by-length (ltb (suc (length {A = ℕ} (take size (replicate n 0)))) 5))
+    go (suc size) (suc n) = rw (zeros-below size n) (by-length (ltb (suc (length {A = ℕ} (take size (replicate n 0)))) 5))
       where
         -- row 1, or row 2: tt is not 01
         by-length : (short : Bool) → (not (isSegment (parsedBy (0 ∷ take size (replicate n 0)) (cond short (refuse 1 all) (refuse 2 all)))) && true) ≡ true

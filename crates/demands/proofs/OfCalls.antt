@@ -11,9 +11,10 @@ use Rattle.endpoint.specs.Calls.{Stands, stands, SetupLeaves, setupTable, setup
 use Rattle.flows.specs.Deliveries.{deliveries}
 use Rattle.flows.specs.Fresh.{Fresh}
 use Rattle.sending.specs.Sending.{packetCount}
+use Rattle.sending.proofs.Untold.{packetsFrom}
 use Rattle.demands.specs.OfCalls.{SetUpIsFresh, Demand2OfCalls, Demand3OfCalls}
 use Rattle.demands.proofs.Calls.{calls-deliver}
-use Rattle.demands.proofs.Writing.{packetsFrom, calls-write, counted}
+use Rattle.demands.proofs.Writing.{calls-write, counted}
 use Rattle.demands.proofs.Demands.{ours-meets, one-PDU}
 
 -- ---- Setting up

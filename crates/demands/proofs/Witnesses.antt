@@ -5,6 +5,8 @@ use mathlib.Core.List.{List, [], _∷_}
 use native.Mathlib.Omega.{arith}
 use lib.ListN.{length, take, drop, replicate}
 use denote.Ref.{RefT}
+use Rattle.lists.specs.Bytes.{AreBytes}
+use Rattle.lists.proofs.Below.{below, are-bytes}
 use Rattle.answers.specs.Answers.{Said, held, delivered, message, refused, said}
 use Rattle.tables.specs.Refusals.{verdict}
 use Rattle.wire.specs.declared.Flow.{Flow}
@@ -21,12 +23,11 @@ use Rattle.cutting.specs.Cutting.{segmentCount}
 use Rattle.endpoint.specs.Calls.{Part, setupTable, setup, streamRoom}
 use Rattle.flows.specs.Deliveries.{Delivery}
 use Rattle.flows.specs.Fresh.{Allowed, zeroDesk}
-use Rattle.flows.specs.ByFlow.{AreBytes}
 use Rattle.sending.specs.Sending.{Sent, packetCount, putOf, packets, FairPDU}
 use Rattle.sending.specs.OfSendings.{packetAt}
 use Rattle.sending.specs.Joint.{isJoint}
 use Rattle.sending.specs.Mixture.{smallSetup, mixture}
-use Rattle.sending.proofs.Decided.{each-by, under, are-bytes, fair-PDU, deciding}
+use Rattle.sending.proofs.Decided.{each-by, fair-PDU, deciding}
 use Rattle.paper_examples.proofs.Computing.{computing}
 use Rattle.demands.specs.Calls.{Fetches, room, none-held, none-message, none-refused, Reads, stop, call, Writes, written-all, write}
 use Rattle.demands.specs.OfCalls.{SetUp}
@@ -99,7 +100,7 @@ unfolding deciding computing parsed putOf
 flows-not-empty = record {
   fresh = zeros-fresh smallSetup small-allowed;
   few = omega arith;
-  bytes = each-by AreBytes (under 256) are-bytes (packets smallSetup mixture) refl;
+  bytes = each-by AreBytes (below 256) are-bytes (packets smallSetup mixture) refl;
   occur = (refl, (refl, (refl, (refl, (refl, (refl, (refl, tt)))))));
 }
 

@@ -2,7 +2,7 @@
 use Prim.Native.Nat.{ℕ, zero, suc, _+_, _≤_, _<_}
 use mathlib.Core.Path.{_≡_, refl, ap, ap₂, sym, _∙_}
 use mathlib.Core.Bool.{false, false≢true}
-use mathlib.Core.List.{List, [], _∷_}
+use mathlib.Core.List.{List, _∷_}
 use native.Mathlib.Omega.{arith}
 use lib.ListN.{length, take, drop}
 use lib.Seq.{take-at}
@@ -23,6 +23,7 @@ use Rattle.segments.specs.Writer.{Wrote, wroteOf, writerTable, writing, wroteBy
 use Rattle.flows.specs.Fresh.{Allowed}
 use Rattle.sending.specs.Sending.{Sent, packetCount, headingFor, FairPDU}
 use Rattle.sending.specs.OfSendings.{packetAt}
+use Rattle.sending.proofs.Untold.{packetsFrom}
 use Rattle.demands.specs.Calls.{Writes, written-all, write}
 use Rattle.demands.specs.Demands.{standsIn, writtenBy}
 
@@ -54,12 +55,7 @@ unfolding countToWrite badSize
 counts mtu size m some most = rw (m, ne-eqb size 0 (λ e. omega arith), le-ltb 65536 size most)
 
 module _ (setup : Setup) (flow : Flow) (s : Sent) where
-  -- the packets of a PDU, n from number k on
-  abbrev pub packetsFrom : (k n : ℕ) → List (List ℕ)
-  packetsFrom k zero = []
-  packetsFrom k (suc n) = packetAt setup flow s k ∷ packetsFrom (suc k) n
-
-  pub calls-write : {k n : ℕ} {ps : List (List ℕ)} → Writes setup flow s k n ps → ps ≡ packetsFrom k n
+  pub calls-write : {k n : ℕ} {ps : List (List ℕ)} → Writes setup flow s k n ps → ps ≡ packetsFrom setup flow s k n
   calls-write written-all = refl
   calls-write {k = k} (write out left size promise rest) =
       ap₂ (λ (p : List ℕ) (ps : List (List ℕ)). p ∷ ps) (wrote-packet out (headingFor (setup .device) flow s k) (setup .mtu) (s .pdu .bytes) k size left promise) (calls-write rest)
@@ -89,7 +85,7 @@ module _ (setup : Setup) (flow : Flow) (s : Sent) where
         )
 
     pub ours-writes : (outs : ℕ → List ℕ) → ((k : ℕ) → length (packetAt setup flow s k) ≤ length (outs k)) → (n k : ℕ) → k + n ≡ packetCount (setup .mtu) s
-        → writtenBy writing setup flow s outs k n ≡ packetsFrom k n
+        → writtenBy writing setup flow s outs k n ≡ packetsFrom setup flow s k n
     ours-writes outs long zero k e = refl
     ours-writes outs long (suc n) k e =
         let w = written-well (outs k) k (omega arith) (long k) in

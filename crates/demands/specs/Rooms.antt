@@ -5,12 +5,12 @@ use mathlib.Core.Path.{_≡_}
 use mathlib.Core.List.{List}
 use lib.ListN.{length}
 use denote.Ref.{RefT, now}
+use Rattle.lists.specs.Bytes.{AreBytes}
 use Rattle.answers.specs.Answers.{delivered, message}
 use Rattle.wire.specs.declared.Flow.{Flow}
 use Rattle.reading.specs.Desk.{stateOn, Desk}
 use Rattle.endpoint.specs.Calls.{Part, part, streamRoom, messageRoom, IsPart}
 use Rattle.flows.specs.Deliveries.{read, after, inRoom}
-use Rattle.flows.specs.ByFlow.{AreBytes}
 
 -- What a room call does with an answer's context and length: there are so many rooms of so many bytes in that memory, and `asked` says which
 -- part of a memory of some length the call hands back

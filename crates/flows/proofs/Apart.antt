@@ -5,6 +5,7 @@ use mathlib.Core.Bool.{Bool, true, false}
 use mathlib.Core.Option.{Option, none}
 use mathlib.Core.List.{List, [], _∷_}
 use native.Mathlib.Omega.{arith}
+use Rattle.lists.specs.Bytes.{AreBytes}
 use Rattle.lists.specs.Each.{Each}
 use Rattle.answers.specs.Answers as answers
 use Rattle.wire.specs.declared.Flow.{Flow}
@@ -19,7 +20,7 @@ use Rattle.flows.specs.OneFlow.{PDU, Told, held, delivered, refused, Flo
 use Rattle.contexts.specs.State.{Setup}
 use Rattle.reading.specs.Desk.{Desk}
 use Rattle.flows.specs.Deliveries.{read, after, view}
-use Rattle.flows.specs.ByFlow.{AreBytes, Tells, OwnFlow, NoFlow, ByFlow}
+use Rattle.flows.specs.ByFlow.{Tells, OwnFlow, NoFlow, ByFlow}
 use Rattle.flows.specs.Apart.{FlowAnswer, flowAnswer, heardOf, heardAlone, isOf, packetsOf, answersTo, alone, flowAmong, AmongFlows, FlowsApart, SamePacketsSameAnswers}
 use Rattle.flows.proofs.Flows.{same-true, same-false, ne-same}
 use Rattle.flows.proofs.Fine.{Fine, fresh-fine, fresh-view}

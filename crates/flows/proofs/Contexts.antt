@@ -14,7 +14,7 @@ use Rattle.wire.specs.declared.Flow.{Flow}
 use Rattle.wire.specs.Type9.{sameFlow}
 use Rattle.contexts.specs.declared.StreamContext.{StreamContext}
 use Rattle.contexts.specs.State.{closedStream, isFreeStream, isOfFlow}
-use Rattle.refusal19.proofs.Good.{both}
+use Rattle.lists.proofs.Tests.{both}
 use Rattle.flows.specs.ByFlow.{among}
 use Rattle.flows.proofs.Flows.{same-true, eq-same, pigeon-less}
 

@@ -9,7 +9,8 @@ use lib.Dec.{eqb}
 use borrow.Author.Tests.{eqb-true, eq-eqb}
 use Rattle.wire.specs.declared.Flow.{Flow}
 use Rattle.wire.specs.Type9.{sameFlow}
-use Rattle.refusal19.proofs.Good.{both}
+use Rattle.lists.proofs.Tests.{both}
+use Rattle.lists.specs.First.{any}
 use Rattle.flows.specs.ByFlow.{among}
 
 -- the test of sameness is sameness
@@ -42,7 +43,7 @@ remove k [] = []
 remove k (x ∷ xs) = cond (sameFlow k x) xs (x ∷ remove k xs)
 
 remove-length : (k : Flow) (l : List Flow) → among k l ≡ true → suc (length (remove k l)) ≡ length l
-unfolding remove
+unfolding remove any
 remove-length k [] e = absurd (false≢true e)
 remove-length k (x ∷ xs) e = go (sameFlow k x) e (remove-length k xs)
   where
@@ -52,7 +53,7 @@ remove-length k (x ∷ xs) e = go (sameFlow k x) e (remove-length k xs)
 
 -- another flow stays among them
 remove-among : (k j : Flow) (l : List Flow) → (j ≡ k → ⊥) → among j l ≡ true → among j (remove k l) ≡ true
-unfolding remove
+unfolding remove any
 remove-among k j [] ne e = e
 remove-among k j (x ∷ xs) ne e = go (remove-among k j xs ne) (sameFlow k x) refl (sameFlow j x) refl
   where

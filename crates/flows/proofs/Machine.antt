@@ -6,6 +6,7 @@ use mathlib.Core.Bool.{true}
 use mathlib.Core.Option.{Option}
 use mathlib.Core.List.{List}
 use lib.ListN.{length, length-take, length-drop}
+use Rattle.lists.specs.Bytes.{AreBytes}
 use Rattle.wire.specs.declared.Flow.{Flow}
 use Rattle.wire.specs.declared.Segment.{Segment}
 use Rattle.wire.specs.declared.MessageSegment.{MessageSegment}
@@ -33,7 +34,7 @@ use Rattle.reading.proofs.Kept.{stays-good}
 use Rattle.reading.proofs.Left.{sizes-right}
 use Rattle.flows.specs.OneFlow.{PDU, flowStep}
 use Rattle.flows.specs.Deliveries.{read, deliveredBy, viewOf, view}
-use Rattle.flows.specs.ByFlow.{among, AreBytes, Tells, OwnFlow, NoFlow, ByFlow}
+use Rattle.flows.specs.ByFlow.{among, Tells, OwnFlow, NoFlow, ByFlow}
 use Rattle.flows.proofs.Flows.{same-false}
 use Rattle.flows.proofs.Contexts.{Once, Inside}
 use Rattle.flows.proofs.Seen.{seen}

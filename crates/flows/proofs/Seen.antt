@@ -2,7 +2,7 @@
 use Prim.Native.Nat.{ℕ, _+_, _*_, _≤_, _<_}
 use native.Mathlib.Omega.{arith}
 use mathlib.Core.Path.{_≡_, refl, ap, sym, _∙_, subst}
-use mathlib.Core.Bool.{Bool, true, false, cond, false≢true, true≢false}
+use mathlib.Core.Bool.{true, false, cond, false≢true, true≢false}
 use mathlib.Core.Option.{Option, none, some}
 use mathlib.Core.List.{List, _++_}
 use lib.ListN.{length, set, length-set}
@@ -10,6 +10,7 @@ use lib.Dec.{ltb}
 use lib.Seq.{getD-set-same, getD-set-other}
 use borrow.Author.Tests.{lt-ltb, le-ltb}
 use Rattle.lists.specs.Bytes.{written}
+use Rattle.lists.proofs.Tests.{to-false}
 use Rattle.wire.specs.declared.Flow.{Flow}
 use Rattle.contexts.specs.declared.StreamContext.{StreamContext}
 use Rattle.contexts.specs.State.{closedStream, isFreeStream, isOfFlow}
@@ -56,10 +57,6 @@ pub record After (room : ℕ) (flows : List Flow) (cs : List StreamContext) (mem
   pub sound : Sound room flows cs′ memory′
   pub own-is : seen room cs′ memory′ k ≡ next
   pub others : (l : Flow) → (l ≡ k → ⊥) → seen room cs′ memory′ l ≡ seen room cs memory l
-
-to-false : (b : Bool) → (b ≡ true → ⊥) → b ≡ false
-to-false true h = absurd (h refl)
-to-false false h = refl
 
 module _ (room : ℕ) (flows : List Flow) (cs : List StreamContext) (memory : List ℕ) (ok : Sound room flows cs memory) (k : Flow) (member : among k flows ≡ true) where
   -- Context j becomes c, and the memory changes in room j at most.

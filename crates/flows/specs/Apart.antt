@@ -5,6 +5,7 @@ use mathlib.Core.List.{List, [], _∷_}
 use mathlib.Core.Bool.{Bool, true, false, cond}
 use mathlib.Core.Option.{Option, none}
 use lib.ListN.{length}
+use Rattle.lists.specs.Bytes.{AreBytes}
 use Rattle.lists.specs.Each.{Each}
 use Rattle.answers.specs.Answers as answers
 use Rattle.wire.specs.declared.Flow.{Flow}
@@ -18,7 +19,7 @@ use Rattle.stream_rooms.specs.Placing.{dataOf}
 use Rattle.flows.specs.OneFlow.{PDU, pdu, Told, held, delivered, refused, flowStep}
 use Rattle.flows.specs.Deliveries.{Delivery, delivery, inRoom, read, after}
 use Rattle.flows.specs.Fresh.{Fresh}
-use Rattle.flows.specs.ByFlow.{among, AreBytes}
+use Rattle.flows.specs.ByFlow.{among}
 
 -- ---- what is answered, the context number aside
 

@@ -1,9 +1,10 @@
 -- Each flow by itself: a packet changes its own flow as a one-flow endpoint would, no other flow, and any other packet none.
-use Prim.Native.Nat.{ℕ, _<_}
+use Prim.Native.Nat.{ℕ}
 use mathlib.Core.Path.{_≡_}
 use mathlib.Core.List.{List, [], _∷_}
-use mathlib.Core.Bool.{Bool, true, false, _||_}
-use Rattle.lists.specs.Bytes.{byte}
+use mathlib.Core.Bool.{Bool, true, false}
+use Rattle.lists.specs.Bytes.{AreBytes}
+use Rattle.lists.specs.First.{any}
 use Rattle.answers.specs.Answers as answers
 use Rattle.wire.specs.declared.Flow.{Flow}
 use Rattle.wire.specs.declared.Segment.{Segment}
@@ -19,12 +20,7 @@ use Rattle.flows.specs.Deliveries.{delivery, deliveredBy, read, after, v
 
 -- the flow is one of these
 abbrev pub among : Flow → List Flow → Bool
-among flow [] = false
-among flow (x ∷ xs) = sameFlow flow x || among flow xs
-
--- every entry of a packet is a byte
-abbrev pub AreBytes : List ℕ → Type 0
-AreBytes packet = (i : ℕ) → byte packet i < 256
+among flow flows = any (sameFlow flow) flows
 
 -- an answer of the endpoint is the one-flow endpoint's, context number aside
 abbrev pub Tells : ℕ → List ℕ → Flow → answers.Said → Told → Type 0

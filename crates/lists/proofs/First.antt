@@ -2,15 +2,13 @@
 use Prim.Native.Nat.{ℕ, zero, suc, _≤_, _<_, _+_}
 use mathlib.Core.Path.{_≡_, refl, ap, sym, _∙_}
 use mathlib.Core.List.{List, [], _∷_}
-use mathlib.Core.Bool.{Bool, true, false, cond, false≢true}
+use mathlib.Core.Bool.{Bool, true, false, cond}
 use native.Mathlib.Omega.{arith}
 use native.Mathlib.Numerals.{add-one}
-use native.Mathlib.Decide.{decLt}
 use lib.ListN.{length, getD, drop, drop-of-length-le}
-use lib.Dec.{ltb}
 use lib.Seq.{drop-cons}
-use borrow.Author.Tests.{ltb-false, lt-ltb, le-ltb}
 use Rattle.lists.specs.First.{firstOf, any}
+use Rattle.lists.proofs.Tests.{by-test, neither}
 
 -- what a walk that stands at i knows: none before i passes
 abbrev pub Passed : {A : Type 0} → (A → Bool) → List A → ℕ → Type 0
@@ -66,31 +64,25 @@ first-passes {A} p (x ∷ xs) d h = go (p x) refl h (first-passes p xs d)
 -- where none passes, each does not
 pub none-passes : {A : Type 0} (p : A → Bool) (l : List A) (d : A) → any p l ≡ false → (i : ℕ) → i < length l → p (getD l i d) ≡ false
 unfolding any
-none-passes p l d e i h = first-before p l d i (omega (arith, ltb-false (firstOf p l) (length l) e))
+none-passes p [] d e i h = absurd (omega arith)
+none-passes p (x ∷ xs) d e ℕ.zero h = neither (p x) (any p xs) e .0
+none-passes p (x ∷ xs) d e (suc i) h = none-passes p xs d (neither (p x) (any p xs) e .1) i (omega arith)
 
 -- where each does not, none passes
 pub all-fail : {A : Type 0} (p : A → Bool) (l : List A) (d : A) → ((i : ℕ) → i < length l → p (getD l i d) ≡ false) → any p l ≡ false
 unfolding any
-all-fail p l d f = go (decLt (firstOf p l) (length l))
-  where
-    go : Dec (firstOf p l < length l) → ltb (firstOf p l) (length l) ≡ false
-    go (yes h) =
-        let clash : true ≡ false = sym (first-passes p l d h) ∙ f (firstOf p l) h in
-        lt-ltb (firstOf p l) (length l) h ∙ clash
-    go (no h) = le-ltb (firstOf p l) (length l) (omega arith)
+all-fail p [] d f = refl
+all-fail p (x ∷ xs) d f = rw (f zero (omega arith)) (all-fail p xs d (λ i h. f (suc i) (omega arith)))
 
 -- one that passes is enough
 pub any-found : {A : Type 0} (p : A → Bool) (l : List A) (d : A) (i : ℕ) → i < length l → p (getD l i d) ≡ true → any p l ≡ true
 unfolding any
-any-found p l d i h e = go (decLt i (firstOf p l))
-  where
-    go : Dec (i < firstOf p l) → ltb (firstOf p l) (length l) ≡ true
-    go (yes b) =
-        let clash : false ≡ true = sym (first-before p l d i b) ∙ e in
-        absurd (false≢true clash)
-    go (no b) = lt-ltb (firstOf p l) (length l) (omega arith)
+any-found p [] d i h e = absurd (omega arith)
+any-found p (x ∷ xs) d ℕ.zero h e = rw e
+any-found p (x ∷ xs) d (suc i) h e = by-test (p x) (λ t. rw t) (λ t. rw t (any-found p xs d i (omega arith) e))
 
 -- a walk to the end that found none
 pub any-none : {A : Type 0} (p : A → Bool) (l : List A) (i n : ℕ) → length l ≡ n → i ≤ n → n ≤ i → Passed p l i → any p l ≡ false
 unfolding any
-any-none p l i n z a b w = le-ltb (firstOf p l) (length l) (omega (arith, first-none p l i n z a b w))
+any-none p [] i n z a b w = refl
+any-none p (x ∷ xs) i n z a b w = all-fail p (x ∷ xs) x (λ j h. first-before p (x ∷ xs) x j (omega (arith, first-none p (x ∷ xs) i n z a b w)))

@@ -1,4 +1,5 @@
+pub mod Tests
 pub mod Written
 pub mod First
 pub mod Rows
-pub mod Tests
+pub mod Below

@@ -1,11 +1,15 @@
 -- Bytes in a list: one, two or four as a number, and a run of them written over others.
-use Prim.Native.Nat.{ℕ, _+_, _*_, _/_, _%_}
+use Prim.Native.Nat.{ℕ, _+_, _*_, _/_, _%_, _<_}
 use mathlib.Core.List.{List, _++_}
 use lib.ListN.{length, getD, take, drop}
 
 -- byte n of a packet, counted from 0; 0 past its end
 abbrev pub byte : List ℕ → ℕ → ℕ
 byte p n = getD p n 0
+
+-- every entry is a byte
+abbrev pub AreBytes : List ℕ → Type 0
+AreBytes p = (i : ℕ) → byte p i < 256
 
 -- two bytes as a number, most significant first
 abbrev pub word : List ℕ → ℕ → ℕ

@@ -8,11 +8,11 @@ use lib.ListN.{length, set}
 use lib.Dec.{eqb}
 use borrow.Author.Tests.{eq-eqb, eqb-true}
 use Rattle.lists.specs.First.{firstOf}
+use Rattle.lists.proofs.Tests.{both}
 use Rattle.answers.specs.Answers.{Said, held, delivered, message, refused}
 use Rattle.wire.specs.declared.MessageSegment.{MessageSegment}
 use Rattle.contexts.specs.declared.MessageContext.{MessageContext}
 use Rattle.contexts.specs.State.{closedMessage, isFreeMessage, isOfMessage}
-use Rattle.refusal19.proofs.Good.{both}
 use Rattle.message_rooms.specs.Placing.{kept}
 use Rattle.mailing.specs.Mail.{Posted, mboxOf, mailSegment}
 use Rattle.mailing.specs.Run.{isName}

@@ -5,6 +5,7 @@ use mathlib.Core.List.{List}
 use mathlib.Core.Bool.{true, false}
 use native.Mathlib.Omega.{arith}
 use lib.ListN.{length}
+use Rattle.lists.specs.Bytes.{AreBytes}
 use Rattle.wire.specs.declared.MessageSegment.{MessageSegment}
 use Rattle.wire.specs.declared.Segment.{Segment}
 use Rattle.wire.specs.declared.Parsed.{Parsed}
@@ -29,7 +30,6 @@ use Rattle.reading.proofs.Kept.{stays-good}
 use Rattle.reading.proofs.Left.{sizes-right}
 use Rattle.flows.specs.Deliveries.{read, after}
 use Rattle.flows.specs.Fresh.{Lends}
-use Rattle.flows.specs.ByFlow.{AreBytes}
 use Rattle.flows.proofs.Quiet.{Quiet, quiet-stepped}
 use Rattle.mailing.specs.Mail.{Posted}
 use Rattle.mailing.specs.Run.{isOfMail}

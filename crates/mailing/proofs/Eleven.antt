@@ -1,17 +1,15 @@
 -- Example 11 among other packets: its premises, and by computation what it delivers.
-use Prim.Native.Nat.{ℕ, zero, suc, _<_}
+use Prim.Native.Nat.{ℕ, zero, suc}
 use mathlib.Core.Path.{_≡_, refl}
-use mathlib.Core.List.{List, [], _∷_}
-use mathlib.Core.Bool.{Bool, true, false, _&&_, cond, false≢true}
+use mathlib.Core.List.{[], _∷_}
+use mathlib.Core.Bool.{cond}
 use native.Mathlib.Omega.{arith}
 use lib.ListN.{length, replicate, length-replicate}
-use lib.Dec.{ltb, leb}
-use lib.Pow.{areBytes}
-use borrow.Author.Tests.{ltb-true, ne-eqb, lt-leb}
-use Rattle.lists.specs.Bytes.{byte}
+use lib.Dec.{leb}
+use borrow.Author.Tests.{ne-eqb, lt-leb}
+use Rattle.lists.proofs.Below.{below, are-bytes}
 use Rattle.endpoint.specs.Calls.{noState, roomPart, messageRoom}
 use Rattle.flows.specs.Fresh.{Fresh, paperSetup, paperDesk}
-use Rattle.flows.specs.ByFlow.{AreBytes}
 use Rattle.flows.proofs.Fine.{fresh-fine}
 use Rattle.mailing.specs.Mail.{msglenOf, dataAt, mailPacket}
 use Rattle.mailing.specs.Run.{segment, runPackets, times, ofSegments, contextAtFirst}
@@ -21,16 +19,6 @@ use Rattle.mailing.specs.Eleven.{eleven, fromThree, startBetween, eleven
 use Rattle.reading.proofs.Computing.{reads}
 use Rattle.mailing.proofs.Fetched.{room-call}
 use Rattle.mailing.proofs.Calls.{defined-made}
-
--- a list of bytes, by computation
-are-bytes : (l : List ℕ) → areBytes l ≡ true → AreBytes l
-are-bytes [] e i = omega arith
-are-bytes (b ∷ bs) e i = go (ltb b 256) refl e i (are-bytes bs)
-  where
-    go : (t : Bool) → ltb b 256 ≡ t → (t && areBytes bs) ≡ true → (i : ℕ) → (areBytes bs ≡ true → AreBytes bs) → byte (b ∷ bs) i < 256
-    go true h e zero rest = ltb-true b 256 h
-    go true h e (suc i) rest = rest e i
-    go false h e i rest = absurd (false≢true e)
 
 paper-fresh : Fresh paperSetup paperDesk
 unfolding reads
@@ -60,7 +48,7 @@ unfolding reads
 first-is = refl
 
 run-eleven : MailRun paperDesk eleven elevenTurns elevenCalls
-unfolding reads msglenOf
+unfolding reads msglenOf below
 run-eleven = record {
   start = good-paper;
   postable = record {
@@ -79,7 +67,7 @@ run-eleven = record {
 }
 
 run-log : MailRun paperDesk logMail (segment 0 ∷ []) (definedCalls paperDesk logMail (segment 0 ∷ []))
-unfolding reads msglenOf
+unfolding reads msglenOf below
 run-log = record {
   start = good-paper;
   postable = record {

@@ -8,7 +8,7 @@ use native.Mathlib.Decide.{ℕ-discrete}
 use lib.ListN.{length, take, drop}
 use lib.Dec.{eqb, ltb}
 use borrow.Author.Tests.{eq-eqb, ne-eqb, le-ltb, le-leb}
-use Rattle.lists.specs.Bytes.{high, low}
+use Rattle.lists.specs.Bytes.{high, low, AreBytes}
 use Rattle.lists.specs.Each.{Each}
 use Rattle.wire.specs.Packet.{packetType, destination, tt as ttOf}
 use Rattle.wire.specs.declared.MessageSegment.{MessageSegment}
@@ -20,7 +20,6 @@ use Rattle.wire.specs.Parsed.{parsed}
 use Rattle.sizes.specs.Sizes.{inEights}
 use Rattle.rules.specs.Messages.{judged, reservedSize, badLength, pastLast}
 use Rattle.lists.proofs.Tests.{by-test}
-use Rattle.flows.specs.ByFlow.{AreBytes}
 use Rattle.mailing.specs.Mail.{Posted, priorityAt, segmentSize, msglenOf, dataAt, isAlone, mboxOf, lastField, mailPacket, Postable, mailSegment, MailSegmentsReadBack}
 use Rattle.mailing.proofs.Sizes.{Sized, sized, length-full, length-last}
 

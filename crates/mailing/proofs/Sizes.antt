@@ -10,9 +10,9 @@ use lib.ListN.{length, getD, length-take, length-drop}
 use lib.Dec.{eqb, leb}
 use borrow.Author.Tests.{leb-true, eqb-true}
 use Rattle.lists.specs.Each.{Each}
+use Rattle.lists.proofs.Tests.{both}
 use Rattle.sizes.specs.Sizes.{ssizes, bytesOf, inEights}
 use Rattle.sizes.proofs.Laws.{bytes-le, reserved}
-use Rattle.refusal19.proofs.Good.{both}
 use Rattle.mailing.specs.Mail.{Posted, segmentSize, msglenOf, dataAt, Postable}
 
 -- what holds of each number of a list, and of 0, holds of the i-th

@@ -5,7 +5,7 @@ use mathlib.Core.List.{List, _∷_}
 use mathlib.Core.Bool.{Bool, true, cond}
 use lib.ListN.{length, getD, take, drop}
 use lib.Dec.{eqb}
-use Rattle.lists.specs.Bytes.{high, low}
+use Rattle.lists.specs.Bytes.{high, low, AreBytes}
 use Rattle.answers.specs.Answers.{Said, message}
 use Rattle.wire.specs.Packet as packet
 use Rattle.wire.specs.declared.MessageSegment.{MessageSegment}
@@ -15,7 +15,6 @@ use Rattle.wire.specs.Parsed.{parsed}
 use Rattle.sizes.specs.Sizes.{bytesOf, inEights}
 use Rattle.rules.specs.Messages.{judged}
 use Rattle.message_rooms.specs.Placing.{messageData}
-use Rattle.flows.specs.ByFlow.{AreBytes}
 
 -- a message: who sends it, under which letter, to which mailbox, and its bytes
 pub record Mail : Type 0 where

@@ -5,6 +5,7 @@ use mathlib.Core.List.{List, [], _∷_, _++_, map}
 use mathlib.Core.Bool.{false, cond}
 use lib.ListN.{replicate}
 use lib.Dec.{leb}
+use Rattle.lists.specs.Bytes.{AreBytes}
 use Rattle.lists.specs.Each.{Each}
 use Rattle.answers.specs.Answers.{held}
 use Rattle.wire.specs.Parsed.{parsed}
@@ -13,7 +14,6 @@ use Rattle.reading.specs.Good.{GoodWords}
 use Rattle.reading.specs.Desk.{Desk, stateOn}
 use Rattle.flows.specs.Deliveries.{after, inRoom}
 use Rattle.flows.specs.Fresh.{Lends}
-use Rattle.flows.specs.ByFlow.{AreBytes}
 use Rattle.mailing.specs.Mail.{Posted, msglenOf, mboxOf, Postable, mailAnswer}
 use Rattle.mailing.specs.Run.{MailTurn, runPackets, arrivals, times, isOfMail, FairMailTurn, MailCall, ofSegments, contextAtFirst, saidAt, DoneAt, mailIn, ofName, callsOf}
 

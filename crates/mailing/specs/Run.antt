@@ -4,6 +4,7 @@ use mathlib.Core.Path.{_≡_}
 use mathlib.Core.List.{List, [], _∷_, _++_, map}
 use mathlib.Core.Bool.{Bool, false, cond, _&&_}
 use lib.Dec.{eqb}
+use Rattle.lists.specs.Bytes.{AreBytes}
 use Rattle.answers.specs.Answers.{Said, held, delivered, message, refused}
 use Rattle.wire.specs.declared.Parsed.{Parsed}
 use Rattle.wire.specs.declared.Parsed.the-variants.{Refused, Stream, Message}
@@ -12,7 +13,6 @@ use Rattle.responses.specs.Type13.{DONE, answered}
 use Rattle.contexts.specs.State.{freeMessage}
 use Rattle.reading.specs.Desk.{Desk, stateOn}
 use Rattle.flows.specs.Deliveries.{read, after, inRoom}
-use Rattle.flows.specs.ByFlow.{AreBytes}
 use Rattle.mailing.specs.Mail.{Mail, Posted, mboxOf, mailPacket}
 
 -- ---- What comes

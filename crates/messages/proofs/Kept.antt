@@ -1,14 +1,15 @@
 -- A type 11 packet leaves a state that 19 does not name, where it found one.
 use Prim.Native.Nat.{ℕ, _<_, _+_, _^_}
-use mathlib.Core.Path.{_≡_, refl, ap, ap₂, sym, _∙_, subst}
+use mathlib.Core.Path.{_≡_, ap, ap₂, sym, _∙_, subst}
 use mathlib.Core.List.{List}
-use mathlib.Core.Bool.{Bool, true, false, cond, not}
+use mathlib.Core.Bool.{true, false, cond, not}
 use native.Mathlib.Omega.{arith}
 use native.Mathlib.Decide.{ℕ-discrete}
 use lib.Dec.{eqb}
 use lib.ListN.{length}
 use lib.Pow.{pow-pos}
 use borrow.Author.Tests.{eqb-false, eqb-true, eq-eqb, ne-eqb, ltb-true, not-false}
+use Rattle.lists.proofs.Tests.{by-test, neither}
 use Rattle.wire.specs.declared.MessageSegment.{MessageSegment}
 use Rattle.wire.specs.Type11.{isSingle}
 use Rattle.sizes.specs.Sizes.{bytesOf, inEights}
@@ -17,7 +18,7 @@ use Rattle.contexts.specs.State.{State, messageContexts, messageIn, closedMessa
 use Rattle.marks.specs.Marks.{marked}
 use Rattle.refusal19.specs.Refusal19.{badLast, namedBy19}
 use Rattle.marks.proofs.Bits.{mark-set, mark-other}
-use Rattle.refusal19.proofs.Good.{Message, good, neither, message-found}
+use Rattle.refusal19.proofs.Good.{Message, good, message-found}
 use Rattle.refusal19.proofs.Kept.{closed-message, kept-message, message-kept}
 use Rattle.marks.proofs.Marks.{room-for-mark, nothing-marked}
 use Rattle.message_rooms.specs.Placing.{messagePlaced, kept, complete, marksWith}
@@ -25,10 +26,6 @@ use Rattle.messages.specs.Rows.{messageFound, messageOpen, otherMessage,
 use Rattle.messages.specs.Joining.{messageAccepted, deliveredAtOnce}
 use Rattle.rules.specs.Messages.{reservedSize, badLength, pastLast, lastWith}
 use Rattle.rules.proofs.Laws.{seg-le}
-
-by-test : {P : Type 0} (b : Bool) → (b ≡ true → P) → (b ≡ false → P) → P
-by-test true yes-case no-case = yes-case refl
-by-test false yes-case no-case = no-case refl
 
 -- the kept length of the last segment, with this segment
 last-kept : (m : MessageSegment) (marks last : ℕ) → isSingle m ≡ false → marked marks (m .msgseg) ≡ false → badLength m ≡ false → badLast (kept m marks last) ≡ false

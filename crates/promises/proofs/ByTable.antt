@@ -3,8 +3,9 @@ use Prim.Native.Nat.{ℕ}
 use mathlib.Core.Path.{_≡_, refl, ap, sym, _∙_, subst}
 use mathlib.Core.Logic.{_↔_}
 use mathlib.Core.List.{List}
-use mathlib.Core.Bool.{Bool, true, false, cond}
+use mathlib.Core.Bool.{Bool}
 use native.Mathlib.Omega.{arith}
+use Rattle.lists.proofs.Tests.{chosen}
 use Rattle.tables.specs.Refusals.{RowOf, Leaves, all, flowClosed, allERROR, allRETRY, VerdictOf, refuse, accept, verdict, Decides, none}
 use Rattle.tables.proofs.Exactly.{answered, decided, accepted, none-held}
 use Rattle.answers.specs.Answers.{Said, held, refused, AbandonSaid, abandonRefused}
@@ -61,11 +62,6 @@ no-refusal says = (number : ℕ) → says ≡ refused number → ⊥
 
 held-no : no-refusal held
 held-no number e = let z : _≡_ {A = ℕ} 0 1 = cc in omega arith
-
--- what holds of both holds of the one that is chosen
-pub chosen : {A : Type 0} (P : A → Type 0) (b : Bool) (x y : A) → P x → P y → P (cond b x y)
-chosen P true x y a b = a
-chosen P false x y a b = b
 
 pub number-said : (x : Lent) (number : ℕ) (leaves : Leaves) → leaving x number leaves .says ≡ refused number
 unfolding stream.refusedClosing

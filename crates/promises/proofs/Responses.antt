@@ -5,10 +5,10 @@ use mathlib.Core.Bool.{Bool, true, false, cond}
 use native.Mathlib.Omega.{arith}
 use lib.Dec.{ltb}
 use borrow.Author.Tests.{ltb-true}
+use Rattle.lists.specs.Bytes.{AreBytes}
 use Rattle.wire.specs.Packet.{priority}
 use Rattle.responses.specs.Type13.{above, responseTo}
 use mathlib.Core.List.{List}
-use Rattle.flows.specs.ByFlow.{AreBytes}
 use Rattle.reading.proofs.Response.{response-decides-nothing}
 use Rattle.promises.specs.Responses.{IsResponse, ResponsesExactly}
 use Rattle.promises.proofs.Status.{written-by, counted}

@@ -18,15 +18,14 @@ use Rattle.message_rooms.specs.Placing as messageRoom
 use Rattle.messages.specs.Joining as message
 use Rattle.streams.specs.Rows.{streamRows}
 use Rattle.messages.specs.Rows.{messageOpen, messageRows}
-use Rattle.refusal19.proofs.Good.{both}
 use Rattle.reading.specs.Table.{Lent, stateIn, segmentIn, messageSegmentIn, lentRows, table}
 use Rattle.reading.specs.Read.{reading, outcome, leaving, accepting}
-use Rattle.lists.proofs.Tests.{by-test, _and_}
 use Rattle.wire.proofs.Head.{one-type}
 use Rattle.reading.proofs.Kept.{other-type}
 use Rattle.lists.specs.Each.{Each}
+use Rattle.lists.proofs.Tests.{both, by-test, _and_, chosen}
 use Rattle.promises.specs.Responses.{statuses, statusIn, statusOf, responseLeft, repliedBy}
-use Rattle.promises.proofs.ByTable.{chosen, number-said}
+use Rattle.promises.proofs.ByTable.{number-said}
 
 -- ---- The table's rows
 

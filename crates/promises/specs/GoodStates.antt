@@ -2,9 +2,9 @@
 -- state once.
 use Prim.Native.Nat.{ℕ}
 use mathlib.Core.List.{List}
+use Rattle.lists.specs.Bytes.{AreBytes}
 use Rattle.answers.specs.declared.Begun.the-variants.{Ready}
 use Rattle.contexts.specs.Words.{stateOf}
-use Rattle.flows.specs.ByFlow.{AreBytes}
 use Rattle.reading.specs.Table.{Lent, stateIn}
 use Rattle.reading.specs.Read.{reading}
 use Rattle.reading.specs.Good.{GoodWords, StillGood}

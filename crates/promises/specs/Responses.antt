@@ -6,12 +6,11 @@ use mathlib.Core.Bool.{cond}
 use mathlib.Core.Option.{Option, none, some}
 use lib.Dec.{eqb}
 use lib.ListN.{length}
-use Rattle.lists.specs.Bytes.{byte}
+use Rattle.lists.specs.Bytes.{byte, AreBytes}
 use Rattle.answers.specs.Answers.{Said, held, delivered, message, refused}
 use Rattle.wire.specs.Packet.{header, priority, tt, packetType, destination, source}
 use Rattle.wire.specs.Head.{is11}
 use Rattle.responses.specs.Type13.{responseSize, DONE, RETRY, ERROR, above, responseTo, answered}
-use Rattle.flows.specs.ByFlow.{AreBytes}
 use Rattle.reading.specs.Desk.{Desk, withResponse}
 use Rattle.reading.specs.Table.{Lent, lent, stateIn}
 use Rattle.reading.specs.Read.{butResponse, reading}

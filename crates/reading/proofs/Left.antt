@@ -13,7 +13,7 @@ use Rattle.responses.specs.Type13.{responseSize}
 use Rattle.contexts.specs.State.{streamContexts}
 use Rattle.contexts.specs.Words.{stateOf, stateWords}
 use Rattle.contexts.proofs.Words.{words-of}
-use Rattle.refusal19.proofs.Good.{neither}
+use Rattle.lists.proofs.Tests.{neither}
 use Rattle.stream_rooms.specs.Placing as streamRoom
 use Rattle.message_rooms.specs.Placing as messageRoom
 use Rattle.message_rooms.specs.Placing.{messageMemoryBytes}

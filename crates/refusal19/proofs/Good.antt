@@ -1,42 +1,24 @@
 -- What is known of a state that 19 does not name.
-use Prim.Native.Nat.{ℕ, _≤_, _<_, _+_, _%_, _^_}
-use mathlib.Core.Path.{_≡_, refl}
-use mathlib.Core.Bool.{Bool, true, false, not, _||_, _&&_, false≢true, true≢false}
+use Prim.Native.Nat.{ℕ, _≤_, _<_, _+_, _^_}
+use mathlib.Core.Path.{_≡_}
+use mathlib.Core.Bool.{false, not, _||_}
 use native.Mathlib.Omega.{arith}
 use lib.Dec.{eqb, ltb, leb}
 use lib.ListN.{length}
 use borrow.Author.Tests.{eqb-false, ltb-false, leb-false, not-true}
 use Rattle.lists.specs.First.{firstOf, any}
 use Rattle.lists.proofs.First.{first-passes, none-passes}
+use Rattle.lists.proofs.Tests.{neither, both, not-both}
 use Rattle.wire.specs.declared.Flow.{Flow}
 use Rattle.sizes.specs.Sizes.{badMTU, bytesOf}
+use Rattle.sizes.proofs.Laws.{mtu-fits}
 use Rattle.contexts.specs.declared.StreamContext.{StreamContext}
 use Rattle.contexts.specs.declared.MessageContext.{MessageContext}
 use Rattle.contexts.specs.State.{State, streamIn, messageIn, closedStream, closedMessage, isFreeStream, isFreeMessage, isOfFlow, isOfMessage, flowContext, messageContext}
 use Rattle.marks.specs.Marks.{allMarked}
 use Rattle.refusal19.specs.Refusal19.{badRoom, badStream, badLast, badMarks, badMessage, namedBy19}
 
--- ---- tests that failed
-pub neither : (a b : Bool) → (a || b) ≡ false → (a ≡ false) × (b ≡ false)
-neither true b e = absurd (true≢false e)
-neither false b e = (refl, e)
-
-pub both : (a b : Bool) → (a && b) ≡ true → (a ≡ true) × (b ≡ true)
-both true b e = (refl, e)
-both false b e = absurd (false≢true e)
-
-pub not-both : (a b : Bool) → (not a && b) ≡ false → a ≡ false → b ≡ false
-not-both true b e h = absurd (true≢false h)
-not-both false b e h = e
-
--- ---- MTU and R
-pub mtu-fits : (mtu : ℕ) → badMTU mtu ≡ false → (32 ≤ mtu) × (mtu ≤ 256)
-unfolding badMTU
-mtu-fits mtu e =
-    let a = neither (ltb mtu 32 || ltb 256 mtu) (not (eqb (mtu % 4) 0)) e in
-    let b = neither (ltb mtu 32) (ltb 256 mtu) (a .0) in
-    (ltb-false mtu 32 (b .0), ltb-false 256 mtu (b .1))
-
+-- ---- R
 room-fits : (mtu room : ℕ) → badRoom mtu room ≡ false → (mtu ≤ room) × (room ≤ 65536)
 unfolding badRoom
 room-fits mtu room e =

@@ -16,7 +16,7 @@ use Rattle.contexts.specs.declared.MessageContext.{MessageContext}
 use Rattle.contexts.specs.State.{Setup, State, fresh, withStream, withMessage, closedStream, closedMessage, isFreeStream, isFreeMessage}
 use Rattle.marks.specs.Marks.{allMarked}
 use Rattle.refusal19.specs.Refusal19.{badRoom, badStream, badLast, badMarks, badMessage, namedBy19}
-use Rattle.refusal19.proofs.Good.{neither}
+use Rattle.lists.proofs.Tests.{neither}
 
 -- a list none of which passes, with one that does not in place n
 module _ {A : Type 0} (p : A → Bool) (d : A) (l : List A) (n : ℕ) (a : A) where

@@ -1,35 +1,23 @@
 -- Numbers of a cutting, for every MTU: what the tests on the MTU and the length leave, where a segment's data begin and how many they are.
 -- A segment below the count begins before the PDU's end, since the count is the length over the MTU, rounded up.
 use Prim.Native.Nat.{ℕ, suc, min, _≤_, _<_, _+_, _-_, _*_}
-use mathlib.Core.Path.{_≡_, refl, ap, sym, _∙_}
+use mathlib.Core.Path.{_≡_, ap, sym, _∙_}
 use mathlib.Core.List.{List}
-use mathlib.Core.Bool.{Bool, true, false, _||_}
+use mathlib.Core.Bool.{false}
 use native.Mathlib.Omega.{arith}
 use native.Mathlib.Decide.{decLe}
 use native.Mathlib.Nat.{suc-mul, le-div-iff-mul-le, min-eq-left}
-use lib.Dec.{eqb, ltb}
+use lib.Dec.{eqb}
 use lib.ListN.{length, take, drop, length-take, length-drop}
 use lib.Seq.{take-all}
 use borrow.Author.Tests.{ltb-false}
-use Rattle.sizes.specs.Sizes.{badMTU}
+use Rattle.lists.proofs.Tests.{neither}
 use Rattle.cutting.specs.Cutting.{badSize, segmentCount, segmentData}
-
-or-false : (a b : Bool) → (a || b) ≡ false → (a ≡ false) × (b ≡ false)
-or-false true b e = (e, cc)
-or-false false b e = (refl, e)
-
--- an MTU that 18 does not refuse
-pub good-mtu : (mtu : ℕ) → badMTU mtu ≡ false → (32 ≤ mtu) × (mtu ≤ 256)
-unfolding badMTU
-good-mtu mtu e =
-    let s = or-false (ltb mtu 32 || ltb 256 mtu) _ e .0 in
-    let t = or-false (ltb mtu 32) (ltb 256 mtu) s in
-    (ltb-false mtu 32 (t .0), ltb-false 256 mtu (t .1))
 
 -- a length that 14 does not refuse
 pub good-size : (size : ℕ) → badSize size ≡ false → size ≤ 65536
 unfolding badSize
-good-size size e = ltb-false 65536 size (or-false (eqb size 0) _ e .1)
+good-size size e = ltb-false 65536 size (neither (eqb size 0) _ e .1)
 
 -- a segment that the PDU has begins in it
 pub begins : (mtu size k : ℕ) → 0 < mtu → k < segmentCount mtu size → k * mtu < size

@@ -4,6 +4,7 @@ use mathlib.Core.Path.{_≡_, refl, ap, _∙_, subst}
 use mathlib.Core.List.{List, [], _∷_, _++_, map}
 use mathlib.Core.Bool.{true, false}
 use mathlib.Core.Option.{Option, none, some}
+use Rattle.lists.specs.First.{any}
 use Rattle.answers.specs.Answers as answers
 use Rattle.wire.specs.declared.Flow.{Flow}
 use Rattle.wire.specs.Type9.{sameFlow, segmentOf}
@@ -20,6 +21,7 @@ use Rattle.sending.proofs.OneFlow.{Proper}
 
 -- a flow is itself, so it is among itself
 pub among-itself : (flow : Flow) → among flow (flow ∷ []) ≡ true
+unfolding any
 among-itself flow = rw (same-refl flow)
 
 -- what an answer delivers

@@ -1,5 +1,5 @@
 -- A segment that the writer cuts is read as itself. By cases on S and E, since only a continuation has no field.
-use Prim.Native.Nat.{ℕ, _+_, _-_, _*_, _/_, _%_, _≤_, _<_}
+use Prim.Native.Nat.{ℕ, _+_, _-_, _*_, _/_, _%_, _<_}
 use mathlib.Core.Path.{_≡_, refl, sym, ap, _∙_, subst}
 use mathlib.Core.List.{List, _∷_, _++_}
 use mathlib.Core.Bool.{Bool, true, false, cond, not, _||_, _&&_}
@@ -8,7 +8,7 @@ use lib.ListN.{length, take, drop, length-append}
 use lib.Seq.{take-append-seam}
 use lib.Dec.{eqb}
 use borrow.Author.Tests.{ltb-true, eqb-true, eqb-false, eq-eqb, ne-eqb, le-ltb}
-use Rattle.lists.specs.Bytes.{byte, high, low}
+use Rattle.lists.specs.Bytes.{byte, high, low, AreBytes}
 use Rattle.lists.proofs.Tests.{_and_}
 use Rattle.tables.specs.Refusals.{none}
 use Rattle.wire.specs.Packet.{header, packetType, destination, tt as ttOf}
@@ -24,10 +24,11 @@ use Rattle.rules.specs.Segments.{malformed}
 use Rattle.stream_rooms.specs.Placing as placing
 use Rattle.cutting.specs.declared.Heading.{Heading}
 use Rattle.cutting.specs.Cutting.{segmentCount, segmentData, isFirst, isFinal, padOf, flagsOf, fieldOf, packetOf}
-use Rattle.segments.proofs.Sizes.{good-mtu, begins, length-data}
-use Rattle.flows.specs.ByFlow.{AreBytes}
+use Rattle.sizes.proofs.Laws.{mtu-fits}
+use Rattle.cutting.proofs.Pad.{length-pad}
+use Rattle.segments.proofs.Sizes.{begins, length-data}
 use Rattle.sending.specs.Segment.{cutSegment, headingFlow, segmentFor, InRange, SegmentsReadBack}
-use Rattle.sending.proofs.Fields.{bytes-append, bytes-data, bytes-field, bytes-pad, bytes-seven, first-byte, flags-of, last-zero, length-pad, pad-zero, pdu-length-back, two-bytes, two-bytes-mod}
+use Rattle.sending.proofs.Fields.{bytes-append, bytes-data, bytes-field, bytes-pad, bytes-seven, first-byte, flags-of, last-zero, pad-zero, pdu-length-back, two-bytes, two-bytes-mod}
 
 -- ---- A packet with these flags and data
 
@@ -161,7 +162,7 @@ module _ (h : Heading) (range : InRange h) (size : ℕ) (bytes : List ℕ) where
 -- a segment that the PDU has holds a byte
 pub some-data : (mtu : ℕ) (pdu : List ℕ) (k : ℕ) → badMTU mtu ≡ false → k < segmentCount mtu (length pdu) → 0 < length (segmentData mtu pdu k)
 some-data mtu pdu k allowed below =
-    let m = good-mtu mtu allowed in
+    let m = mtu-fits mtu allowed in
     let b : k * mtu < length pdu = begins mtu (length pdu) k (omega arith) below in
     rw length-data (omega arith)
 

@@ -1,19 +1,19 @@
 -- Whether a sending is fair is decided by computation.
-use Prim.Native.Nat.{ℕ, zero, suc, _≤_, _<_}
+use Prim.Native.Nat.{ℕ, _≤_}
 use mathlib.Core.Path.{_≡_, ap, sym, _∙_}
 use mathlib.Core.List.{List, [], _∷_}
 use mathlib.Core.Bool.{Bool, true, false, not, _||_, _&&_, false≢true}
 use native.Mathlib.Omega.{arith}
-use lib.ListN.{length, getD}
+use lib.ListN.{length}
 use lib.Dec.{ltb, leb}
 use borrow.Author.Tests.{ltb-true, leb-true, not-true}
 use Rattle.lists.specs.Each.{Each}
+use Rattle.lists.proofs.Tests.{both}
+use Rattle.lists.proofs.Below.{below, below-at, are-bytes}
 use Rattle.wire.specs.declared.Parsed.{Parsed}
 use Rattle.wire.specs.declared.Parsed.the-variants.{Refused, Stream, Message}
 use Rattle.wire.specs.Parsed.{parsed}
-use Rattle.refusal19.proofs.Good.{both}
 use Rattle.contexts.specs.State.{Setup}
-use Rattle.flows.specs.ByFlow.{AreBytes}
 use Rattle.sending.specs.Sending.{Sent, losses, isWhole, FlowSent, Turn, next, between, Sending, FairPDU, FairFlow, FairTurn, OneOfTwoWhole, Fair}
 
 -- ---- Lists
@@ -28,30 +28,16 @@ unfolding allOf
 each-by P test f [] e = tt
 each-by P test f (x ∷ xs) e = let h = both (test x) (allOf test xs) e in (f x (h .0), each-by P test f xs (h .1))
 
--- whether every number of a list is below a bound
-unfoldable pub under : ℕ → List ℕ → Bool
-under bound [] = true
-under bound (x ∷ xs) = ltb x bound && under bound xs
-
-pub under-at : (bound : ℕ) (l : List ℕ) (i : ℕ) → 0 < bound → under bound l ≡ true → getD l i 0 < bound
-unfolding under
-under-at bound [] i pos e = pos
-under-at bound (x ∷ xs) zero pos e = ltb-true x bound (both (ltb x bound) (under bound xs) e .0)
-under-at bound (x ∷ xs) (suc i) pos e = under-at bound xs i pos (both (ltb x bound) (under bound xs) e .1)
-
-pub are-bytes : (l : List ℕ) → under 256 l ≡ true → AreBytes l
-are-bytes l e i = under-at 256 l i (omega arith) e
-
 -- ---- A sending
 
 unfoldable pub isFairPDU : ℕ → Sent → Bool
-isFairPDU R s = ltb (s .pdu .stream) 65536 && (under 256 (s .pdu .bytes) && (leb 1 (length (s .pdu .bytes)) && (leb (length (s .pdu .bytes)) R && under 4 (s .priorities))))
+isFairPDU R s = ltb (s .pdu .stream) 65536 && (below 256 (s .pdu .bytes) && (leb 1 (length (s .pdu .bytes)) && (leb (length (s .pdu .bytes)) R && below 4 (s .priorities))))
 
 pub fair-PDU : (R : ℕ) (s : Sent) → isFairPDU R s ≡ true → FairPDU R s
 unfolding isFairPDU
 fair-PDU R s e =
     let a = both (ltb (s .pdu .stream) 65536) _ e in
-    let b = both (under 256 (s .pdu .bytes)) _ (a .1) in
+    let b = both (below 256 (s .pdu .bytes)) _ (a .1) in
     let c = both (leb 1 (length (s .pdu .bytes))) _ (b .1) in
     let d = both (leb (length (s .pdu .bytes)) R) _ (c .1) in
     record {
@@ -59,7 +45,7 @@ fair-PDU R s e =
       bytes = are-bytes (s .pdu .bytes) (b .0);
       some-byte = omega (arith, leb-true 1 (length (s .pdu .bytes)) (c .0));
       fits = omega (arith, leb-true (length (s .pdu .bytes)) R (d .0));
-      priorities = λ k. let h = under-at 4 (s .priorities) k (omega arith) (d .1) in omega arith;
+      priorities = λ k. let h = below-at 4 (s .priorities) k (omega arith) (d .1) in omega arith;
     }
 
 unfoldable pub isFairFlow : Setup → FlowSent → Bool
@@ -84,13 +70,13 @@ isSegment (Message m) = false
 
 unfoldable pub isFairTurn : Setup → Turn → Bool
 isFairTurn setup (next flow) = true
-isFairTurn setup (between p) = not (isSegment (parsed (setup .device) p)) && under 256 p
+isFairTurn setup (between p) = not (isSegment (parsed (setup .device) p)) && below 256 p
 
 fair-turn : (setup : Setup) (t : Turn) → isFairTurn setup t ≡ true → FairTurn setup t
 unfolding isFairTurn isSegment
 fair-turn setup (next flow) e = tt
 fair-turn setup (between p) e =
-    let a = both (not (isSegment (parsed (setup .device) p))) (under 256 p) e in
+    let a = both (not (isSegment (parsed (setup .device) p))) (below 256 p) e in
     let none-parsed : isSegment (parsed (setup .device) p) ≡ false = not-true _ (a .0) in
     (λ g s. absurd (false≢true (sym none-parsed ∙ ap isSegment s)), are-bytes p (a .1))
 
@@ -139,5 +125,5 @@ is-fair setup s e =
 
 -- what a proof by computation looks through
 unfoldable pub deciding : Unit {0}
-unfolding allOf under isFairPDU isFairFlow isSegment isFairTurn isOneLoss isOneOfTwo isFair
+unfolding allOf below isFairPDU isFairFlow isSegment isFairTurn isOneLoss isOneOfTwo isFair
 deciding = tt

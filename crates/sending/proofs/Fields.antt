@@ -1,6 +1,6 @@
 -- The numbers and bytes that a type 9 packet's head is made of.
 use Prim.Native.Nat.{ℕ, zero, suc, _+_, _-_, _*_, _/_, _%_, _≤_, _<_}
-use mathlib.Core.Path.{_≡_, refl, sym, ap}
+use mathlib.Core.Path.{_≡_, refl, ap}
 use mathlib.Core.List.{List, [], _∷_, _++_}
 use mathlib.Core.Bool.{Bool, true, false, cond}
 use native.Mathlib.Omega.{arith}
@@ -8,12 +8,11 @@ use lib.ListN.{length, take, drop, length-append}
 use lib.Seq.{getD-append-seam}
 use lib.Dec.{eqb, ltb}
 use borrow.Author.Tests.{eqb-true, eqb-false}
-use Rattle.lists.specs.Bytes.{byte, high, low}
+use Rattle.lists.specs.Bytes.{byte, high, low, AreBytes}
 use Rattle.wire.specs.Packet.{bit}
 use Rattle.wire.specs.Type9.{xh}
 use Rattle.sizes.specs.Sizes.{pduLength}
 use Rattle.cutting.specs.Cutting.{segmentData, padOf, flagsOf, fieldOf}
-use Rattle.flows.specs.ByFlow.{AreBytes}
 
 -- ---- Numbers
 
@@ -90,14 +89,6 @@ flags-of first final n =
       reserved = ap (λ (b : Bits). b .reserved) e;
       is-byte = ap (λ (b : Bits). b .byte) e;
     }
-
-pub length-pad : (n : ℕ) → length (padOf n) ≡ n % 2
-unfolding padOf
-length-pad n = go (eqb (n % 2) 1) refl
-  where
-    go : (b : Bool) → eqb (n % 2) 1 ≡ b → length {A = ℕ} (cond b (0 ∷ []) []) ≡ n % 2
-    go true e = sym (eqb-true (n % 2) 1 e)
-    go false e = let ne = eqb-false (n % 2) 1 e in omega arith
 
 pub pad-zero : (n : ℕ) → eqb (n % 2) 1 ≡ true → padOf n ≡ 0 ∷ []
 unfolding padOf

@@ -8,6 +8,7 @@ use native.Mathlib.Omega.{arith}
 use lib.ListN.{length, length-take, length-set}
 use lib.Dec.{eqb, ltb}
 use borrow.Author.Tests.{eqb-true, ltb-true, ltb-false, not-false}
+use Rattle.lists.proofs.Tests.{neither}
 use Rattle.answers.specs.Answers as answers
 use Rattle.tables.specs.Refusals.{Row, Leaves, all, flowClosed, allERROR, allRETRY, Verdict, refuse, accept, verdict, none, given}
 use Rattle.tables.proofs.Exactly.{none-held}
@@ -22,7 +23,6 @@ use Rattle.messages.specs.Rows.{messageFound as found, messageOpen, messageRows
 use Rattle.contexts.specs.State.{Setup, State, freeStream, freeMessage, messageIn}
 use Rattle.contexts.specs.Words.{stateWords}
 use Rattle.refusal19.specs.Refusal19.{namedBy19}
-use Rattle.refusal19.proofs.Good.{neither}
 use Rattle.streams.specs.Rows.{foundFor, flowOpen, heldBefore, total, notOpen, passesRoom, noneFree, streamRows}
 use Rattle.stream_rooms.specs.Placing as placing
 use Rattle.streams.specs.Joining as stream

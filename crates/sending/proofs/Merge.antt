@@ -18,6 +18,7 @@ use Rattle.flows.specs.Deliveries.{deliveries, Delivery, deliveredBy, read, aft
 use Rattle.flows.specs.Fresh.{Allowed}
 use Rattle.flows.specs.ByFlow.{among, NoFlow, ByFlow}
 use Rattle.lists.specs.Each.{Each}
+use Rattle.lists.specs.First.{any}
 use Rattle.sending.specs.Sending.{Put, flowPuts, FlowSent, Turn, next, between, sentOn, flowsOf, Event, sent, headOf, advance, events, queues, packetsLeft, tell, wholes, whole, FairFlow, FairTurn, OneOfTwoWhole}
 use Rattle.sending.specs.OneFlow.{packetStep, deliveredPDU}
 use Rattle.flows.proofs.Flows.{same-true}
@@ -142,6 +143,7 @@ module _ (setup : Setup) (allowed : Allowed setup) where
 
 -- a flow that is not listed has nothing to send
 start-listed : (setup : Setup) (xs : List FlowSent) (flow : Flow) → among flow (map (λ (x : FlowSent). x .flow) xs) ≡ false → flowPuts setup flow (sentOn xs flow) ≡ []
+unfolding any
 start-listed setup [] flow none-of = refl
 start-listed setup (x ∷ xs) flow none-of = go (sameFlow flow (x .flow)) none-of (start-listed setup xs flow)
   where

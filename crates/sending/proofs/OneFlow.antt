@@ -10,6 +10,7 @@ use native.Mathlib.Omega.{arith}
 use lib.ListN.{length, take, length-append}
 use lib.Seq.{length-take-le}
 use borrow.Author.Tests.{eqb-true, eqb-false}
+use Rattle.lists.specs.Bytes.{AreBytes}
 use Rattle.wire.specs.declared.Flow.{Flow}
 use Rattle.wire.specs.declared.Parsed.the-variants.{Stream}
 use Rattle.wire.specs.Type9.{segmentOf}
@@ -17,7 +18,6 @@ use Rattle.wire.specs.Parsed.{parsed}
 use Rattle.cutting.specs.Cutting.{segmentData, isFinal, packetOf}
 use Rattle.contexts.specs.State.{Setup}
 use Rattle.flows.specs.OneFlow.{PDU, pdu, Told, held, delivered, refused, flowOutcome, isOpen}
-use Rattle.flows.specs.ByFlow.{AreBytes}
 use Rattle.lists.specs.Each.{Each}
 use Rattle.sending.specs.Sending.{Sent, isLost, packetCount, lossesFrom, losses, isWhole, Put, headingFor, putOf, putsFrom, flowPuts, FairPDU, OneOfTwoWhole, Ranges}
 use Rattle.sending.specs.OneFlow.{packetStep, deliveredPDU}

@@ -11,19 +11,20 @@ use lib.ListN.{length, take}
 use lib.Seq.{take-add, take-all}
 use lib.Dec.{ltb}
 use borrow.Author.Tests.{eq-eqb, ne-eqb, le-ltb, lt-ltb, ltb-false}
+use Rattle.lists.specs.Bytes.{AreBytes}
+use Rattle.lists.proofs.Tests.{neither}
 use Rattle.wire.specs.declared.Flow.{Flow}
 use Rattle.wire.specs.Type9.{segmentOf}
 use Rattle.sizes.specs.Sizes.{badMTU}
+use Rattle.sizes.proofs.Laws.{mtu-fits}
 use Rattle.wire.specs.declared.Segment.{Segment}
 use Rattle.wire.specs.declared.Parsed.the-variants.{Stream}
 use Rattle.wire.specs.Parsed.{parsed}
 use Rattle.stream_rooms.specs.Placing as placing
 use Rattle.cutting.specs.Cutting.{segmentCount, segmentData, isFirst, isFinal, packetOf}
-use Rattle.segments.proofs.Sizes.{good-mtu, length-data}
+use Rattle.segments.proofs.Sizes.{length-data}
 use Rattle.refusal19.specs.Refusal19.{badRoom}
-use Rattle.refusal19.proofs.Good.{neither}
 use Rattle.contexts.specs.State.{Setup}
-use Rattle.flows.specs.ByFlow.{AreBytes}
 use Rattle.flows.specs.OneFlow.{PDU, pdu, held, delivered, refused, FlowOutcome, flowOutcome, isOpen, flowStep}
 use Rattle.sending.specs.Segment.{cutSegment, segmentFor, InRange, ReadsAs}
 use Rattle.sending.specs.Sending.{Sent, packetCount, headingFor, FairPDU, Ranges}
@@ -101,7 +102,7 @@ count-bounds mtu size pos = (omega (arith, div-add-mod' (size + (mtu - 1)) mtu, 
 
 -- a PDU with a byte makes a packet
 pub count-pos : (mtu size : ℕ) → badMTU mtu ≡ false → 1 ≤ size → 0 < segmentCount mtu size
-count-pos mtu size allowed some-byte = let m = good-mtu mtu allowed in go (segmentCount mtu size) refl (count-bounds mtu size (omega arith) .1)
+count-pos mtu size allowed some-byte = let m = mtu-fits mtu allowed in go (segmentCount mtu size) refl (count-bounds mtu size (omega arith) .1)
   where
     go : (c : ℕ) → segmentCount mtu size ≡ c → size ≤ segmentCount mtu size * mtu → 0 < c
     go zero e le = absurd (omega (arith, subst (λ (x : ℕ). size ≤ x * mtu) e le))
@@ -123,7 +124,7 @@ module _ (setup : Setup) (flow : Flow) (ranges : Ranges setup flow) (s : Sent) (
   most-R = ltb-false 65536 (setup .room) (neither (ltb (setup .room) (setup .mtu)) (ltb 65536 (setup .room)) (ranges .allowed .allowed-R) .1)
 
   pub mtu-pos : 0 < setup .mtu
-  mtu-pos = let m = good-mtu (setup .mtu) (ranges .allowed .allowed-MTU) in omega arith
+  mtu-pos = let m = mtu-fits (setup .mtu) (ranges .allowed .allowed-MTU) in omega arith
 
   reads-as : (k : ℕ) → k < packetCount (setup .mtu) s → ReadsAs (headingFor (setup .device) flow s k) (setup .mtu) bytes k (packet k) (segmentFor (headingFor (setup .device) flow s k) (setup .mtu) bytes k)
   reads-as k below =

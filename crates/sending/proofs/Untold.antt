@@ -50,7 +50,7 @@ is-joint mtu a b e = go (eqb (packetCount mtu a) 2) (isLost a 1) (leb 2 (packetC
     go false x q y ep ex eq ey e = absurd (false≢true e)
 
 -- n packets from number k on
-abbrev packetsFrom : Setup → Flow → Sent → (k n : ℕ) → List (List ℕ)
+abbrev pub packetsFrom : Setup → Flow → Sent → (k n : ℕ) → List (List ℕ)
 packetsFrom setup flow s k zero = []
 packetsFrom setup flow s k (suc n) = packetOf (headingFor (setup .device) flow s k) (setup .mtu) (s .pdu .bytes) k ∷ packetsFrom setup flow s (suc k) n
 

@@ -5,7 +5,7 @@ use mathlib.Core.List.{List}
 use mathlib.Core.Bool.{Bool, true, false, cond, _||_}
 use lib.ListN.{length}
 use lib.Dec.{eqb}
-use Rattle.lists.specs.Bytes.{byte}
+use Rattle.lists.specs.Bytes.{byte, AreBytes}
 use Rattle.wire.specs.Packet as packet
 use Rattle.wire.specs.declared.Flow.{Flow}
 use Rattle.wire.specs.declared.Segment.{Segment}
@@ -17,7 +17,6 @@ use Rattle.rules.specs.Segments.{malformed}
 use Rattle.stream_rooms.specs.Placing as placing
 use Rattle.cutting.specs.declared.Heading.{Heading}
 use Rattle.cutting.specs.Cutting.{segmentCount, segmentData, isFirst, isFinal, packetOf}
-use Rattle.flows.specs.ByFlow.{AreBytes}
 
 -- the segment of a flow with n bytes of data: S and E as given, the streamID with S, else with E the PDU length (65,536 as 0)
 abbrev pub cutSegment : Flow → (first final : Bool) → (stream size n : ℕ) → Segment

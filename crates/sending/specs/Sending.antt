@@ -6,6 +6,7 @@ use mathlib.Core.Bool.{Bool, true, false, cond, _||_, _&&_}
 use mathlib.Core.Option.{Option, none, some}
 use lib.ListN.{length, getD}
 use lib.Dec.{eqb}
+use Rattle.lists.specs.Bytes.{AreBytes}
 use Rattle.lists.specs.Each.{Each}
 use Rattle.wire.specs.declared.Flow.{Flow}
 use Rattle.wire.specs.declared.Segment.{Segment}
@@ -18,7 +19,6 @@ use Rattle.cutting.specs.Cutting.{segmentCount, isFinal, packetOf}
 use Rattle.flows.specs.OneFlow.{PDU}
 use Rattle.flows.specs.Deliveries.{Delivery, delivery}
 use Rattle.flows.specs.Fresh.{Allowed}
-use Rattle.flows.specs.ByFlow.{AreBytes}
 
 -- ---- What one flow sends
 

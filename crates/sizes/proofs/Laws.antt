@@ -1,29 +1,24 @@
--- Laws of ssize codes and of lengths in eights, for every code.
+-- Laws of MTUs, of ssize codes and of lengths in eights.
 use Prim.Native.Nat.{ℕ, zero, suc, _≤_, _<_, _%_}
 use mathlib.Core.Path.{_≡_, refl, ap}
 use mathlib.Core.List.{List, [], _∷_, _++_}
-use mathlib.Core.Bool.{Bool, true, false, _&&_, false≢true}
+use mathlib.Core.Bool.{true, false, not, _||_}
 use native.Mathlib.Omega.{arith}
-use lib.Dec.{leb, eqb}
+use lib.Dec.{ltb, leb, eqb}
 use native.Mathlib.Decide.{decLt}
 use lib.ListN.{getD, replicate, List·getD-eq-default}
-use borrow.Author.Tests.{leb-true}
-use Rattle.sizes.specs.Sizes.{ssizes, bytesOf, inEights}
+use borrow.Author.Tests.{ltb-false, leb-true}
+use Rattle.lists.proofs.Tests.{neither, both}
+use Rattle.lists.proofs.Below.{below, below-at}
+use Rattle.sizes.specs.Sizes.{badMTU, ssizes, bytesOf, inEights}
 
--- whether every number of a list is at most a bound
-most : ℕ → List ℕ → Bool
-most bound [] = true
-most bound (x ∷ xs) = leb x bound && most bound xs
-
-at-most : (bound : ℕ) (l : List ℕ) (i : ℕ) → most bound l ≡ true → getD l i 0 ≤ bound
-unfolding most
-at-most bound [] i e = omega arith
-at-most bound (x ∷ xs) i e = go (leb x bound) refl e i (at-most bound xs)
-  where
-    go : (b : Bool) → leb x bound ≡ b → (b && most bound xs) ≡ true → (i : ℕ) → ((j : ℕ) → most bound xs ≡ true → getD xs j 0 ≤ bound) → getD (x ∷ xs) i 0 ≤ bound
-    go true h e ℕ.zero r = leb-true x bound h
-    go true h e (suc i) r = r i e
-    go false h e i r = absurd (false≢true e)
+-- an MTU that 18 does not refuse
+pub mtu-fits : (mtu : ℕ) → badMTU mtu ≡ false → (32 ≤ mtu) × (mtu ≤ 256)
+unfolding badMTU
+mtu-fits mtu e =
+    let a = neither (ltb mtu 32 || ltb 256 mtu) (not (eqb (mtu % 4) 0)) e in
+    let b = neither (ltb mtu 32) (ltb 256 mtu) (a .0) in
+    (ltb-false mtu 32 (b .0), ltb-false 256 mtu (b .1))
 
 -- the codes before 9 mean nothing
 before : (n : ℕ) (l : List ℕ) (i : ℕ) → i < n → getD (replicate n 0 ++ l) i 0 ≡ 0
@@ -43,14 +38,9 @@ reserved code none = go (decLt code 9) (decLt code 15) (decLt code 16)
     go (no h) (no k) (no m) = List·getD-eq-default ssizes 0 (let e : 16 ≤ code = omega arith in e)
 
 pub bytes-le : (code : ℕ) → bytesOf code ≤ 256
-unfolding bytesOf most
-bytes-le code = at-most 256 ssizes code refl
+unfolding bytesOf below
+bytes-le code = omega (arith, below-at 257 ssizes code (omega arith) refl)
 
 pub eights-le : (n size : ℕ) → inEights n size ≡ true → n ≤ size
 unfolding inEights
-eights-le n size = go (leb 8 n) (leb n size) refl
-  where
-    go : (a b : Bool) → leb n size ≡ b → (a && (b && eqb (n % 8) 0)) ≡ true → n ≤ size
-    go true true h e = leb-true n size h
-    go true false h e = absurd (false≢true e)
-    go false b h e = absurd (false≢true e)
+eights-le n size e = leb-true n size (both (leb n size) (eqb (n % 8) 0) (both (leb 8 n) _ e .1) .0)

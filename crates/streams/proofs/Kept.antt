@@ -11,7 +11,7 @@ use Rattle.sizes.specs.Sizes.{dataLength}
 use Rattle.contexts.specs.declared.StreamContext.{StreamContext}
 use Rattle.contexts.specs.State.{State, closedStream, openStream}
 use Rattle.refusal19.specs.Refusal19.{badStream, namedBy19}
-use Rattle.refusal19.proofs.Good.{neither}
+use Rattle.lists.proofs.Tests.{neither}
 use Rattle.refusal19.proofs.Kept.{closed-stream, held-stream, stream-kept}
 use Rattle.stream_rooms.specs.Placing.{placed}
 use Rattle.streams.specs.Rows.{passesRoom, total}

@@ -8,13 +8,14 @@ use lib.Dec.{eqb, ltb}
 use lib.ListN.{length}
 use borrow.Author.Tests.{lt-ltb, le-ltb, eqb-false, eqb-true, ltb-false, not-false}
 use Rattle.lists.proofs.First.{first-le}
+use Rattle.lists.proofs.Tests.{neither}
 use Rattle.answers.specs.Answers.{Said, refused}
 use Rattle.wire.specs.declared.Segment.{Segment}
 use Rattle.sizes.specs.Sizes.{dataLength}
 use Rattle.contexts.specs.declared.StreamContext.{StreamContext}
 use Rattle.contexts.specs.State.{State, streamContexts, streamIn, flowContext, freeStream}
 use Rattle.refusal19.specs.Refusal19.{namedBy19}
-use Rattle.refusal19.proofs.Good.{neither, good, found-holds}
+use Rattle.refusal19.proofs.Good.{good, found-holds}
 use Rattle.stream_rooms.specs.Placing.{Joined, joining, placed}
 use Rattle.stream_rooms.specs.Inside.{Closing, Fits}
 use Rattle.streams.specs.Rows.{foundFor, total, missized, notOpen, passesRoom, noneFree, lengthDiffers}

@@ -3,6 +3,7 @@ use Prim.Native.Nat.{ℕ}
 use mathlib.Core.Path.{_≡_}
 use mathlib.Core.List.{List, [], _∷_, _++_}
 use mathlib.Core.Bool.{Bool, true, false, cond, _&&_}
+use Rattle.lists.specs.Each.{Each}
 
 -- the table's last column
 pub data Leaves : Type 0 where
@@ -51,8 +52,7 @@ given asked (r ∷ rs) = row (r .number) (asked && r .holds) (r .leaves) ∷ giv
 
 -- no row's test holds
 unfoldable pub none : {L : Type 0} → List (RowOf L) → Type 0
-none [] = Unit {0}
-none (r ∷ rs) = (r .holds ≡ false) × none rs
+none {L} table = Each (λ (r : RowOf L). r .holds ≡ false) table
 
 -- row r of the table decides: its test holds and no earlier row's does
 pub record Decides {L : Type 0} (table : List (RowOf L)) (r : RowOf L) : Type 0 where

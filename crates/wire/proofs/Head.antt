@@ -1,18 +1,18 @@
 -- Laws of the head: which of the two forms a type 9 packet has, and what is known of a packet that its rows let pass.
 use Prim.Native.Nat.{ℕ, _+_, _≤_}
-use mathlib.Core.Path.{_≡_, refl, ap, _∙_}
+use mathlib.Core.Path.{_≡_, refl}
 use mathlib.Core.List.{List}
-use mathlib.Core.Bool.{true, false, not, _||_}
+use mathlib.Core.Bool.{true, false, _||_}
 use native.Mathlib.Omega.{arith}
 use lib.ListN.{length}
 use borrow.Author.Tests.{eqb-true, eq-eqb, ne-eqb, ltb-false, le-ltb}
 use Rattle.lists.specs.Bytes.{word}
-use Rattle.lists.proofs.Tests.{by-test, neither, not-second, the-other}
+use Rattle.lists.proofs.Tests.{by-test, not-second, the-other}
 use Rattle.tables.specs.Refusals.{Verdict, refuse, accept, verdict, none}
 use Rattle.tables.proofs.Exactly.{accepted, none-held}
 use Rattle.wire.specs.declared.Segment.{Segment}
 use Rattle.wire.specs.declared.MessageSegment.{MessageSegment}
-use Rattle.wire.specs.declared.Parsed.the-variants.{Refused, Stream, Message}
+use Rattle.wire.specs.declared.Parsed.the-variants.{Stream, Message}
 use Rattle.wire.specs.Packet.{header, tt, packetType, destination}
 use Rattle.wire.specs.Type9.{isS, isE, xh, segmentAt, segmentOf}
 use Rattle.wire.specs.Type11.{messageOf}

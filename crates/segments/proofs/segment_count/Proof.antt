@@ -2,7 +2,8 @@
 use Rattle.segments.specs.Writer.{countToWrite}
 use mathlib.Core.Path.{sym, _∙_}
 use native.Mathlib.Omega.{arith}
-use Rattle.segments.proofs.Sizes.{good-mtu, good-size}
+use Rattle.sizes.proofs.Laws.{mtu-fits}
+use Rattle.segments.proofs.Sizes.{good-size}
 use borrow.Author.Needs.{needs}
 use Rattle.segments.proofs.segment_count.Statement.{statement}
 use Rattle.segments.proofs.segment_count.Tie as tie
@@ -20,7 +21,7 @@ returns-2 c =
 count-of-requires : tie.Need-count-of-requires
 count-of-requires c κs =
     let first = c .before .before in
-    let mtu = good-mtu _ (sym (first .before .bad-mtu .ensures) ∙ first .if1 .left) in
+    let mtu = mtu-fits _ (sym (first .before .bad-mtu .ensures) ∙ first .if1 .left) in
     (omega arith, omega arith, good-size _ (sym (c .before .bad-size .ensures) ∙ c .if2 .left))
 
 returns-3 : tie.Need-returns-3

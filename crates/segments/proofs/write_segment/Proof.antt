@@ -5,14 +5,15 @@ use Prim.Native.Nat.{_≤_}
 use mathlib.Core.Path.{sym, _∙_}
 use lib.ListN.{length}
 use native.Mathlib.Omega.{arith}
-use Rattle.segments.proofs.Sizes.{good-mtu, good-size}
+use Rattle.sizes.proofs.Laws.{mtu-fits}
+use Rattle.segments.proofs.Sizes.{good-size}
 use borrow.Author.Needs.{needs}
 use Rattle.segments.proofs.write_segment.Statement.{statement}
 use Rattle.segments.proofs.write_segment.Tie as tie
 
 -- what 18 and 14 leave
 good : (c : tie.Else1) → (32 ≤ c .before .before .before .before .args .mtu) × (c .before .before .before .before .args .mtu ≤ 256)
-good c = good-mtu _ (sym (c .before .bad-mtu .ensures) ∙ c .if1 .left)
+good c = mtu-fits _ (sym (c .before .bad-mtu .ensures) ∙ c .if1 .left)
 
 small : (c : tie.Else3) → length (c .before .before .before .before .before .before .before .before .args .pdu .now) ≤ 65536
 small c = good-size _ (sym (c .before .bad-size .ensures) ∙ c .if3 .left)
