@@ -15,8 +15,8 @@ ROOT = pathlib.Path(__file__).resolve().parents[2]
 ROWS = [
     {"c_promises": (9.2, 2.8)},
     {"tour": (0, 1.4), "outside_responses": (1.4, 2.2), "outside_segments": (3.6, 2.2), "racklog": (5.8, 1.4), "outside_logs": (7.2, 1.8), "promises": (9.2, 2.8)},
-    {"kaiverohm": (0, 5.8), "log_print": (5.8, 3.2), "sending": (9.2, 1.4), "mailing": (10.6, 1.4)},
-    {"c_bursts": (0, 2.4), "c_places": (2.4, 2.4), "printing": (4.8, 2), "log_run": (6.8, 2.2), "paper_examples": (9.2, 2.8)},
+    {"kaiverohm": (0, 5.8), "log_print": (5.8, 3.2), "demands": (9.2, 1.4), "mailing": (10.6, 1.4)},
+    {"c_bursts": (0, 2.4), "c_places": (2.4, 2.4), "printing": (4.8, 2), "log_run": (6.8, 2.2), "sending": (9.2, 1.4), "paper_examples": (10.6, 1.4)},
     {"endpoint": (0, 4.8), "segments": (4.8, 2), "log_reader": (6.8, 2.2), "flows": (9.2, 2.8)},
     {"reading": (0, 4.8), "c_reports": (4.8, 2), "log_records": (6.8, 1.1), "log_lines": (7.9, 1.1)},
     {"streams": (0, 2.4), "messages": (2.4, 2.4)},
@@ -30,7 +30,7 @@ ROWS = [
 ]
 HEADS = [(0, 4.8, "reading packets"), (4.8, 2, "writing segments"), (6.8, 2.2, "the log"), (9.2, 2.8, "theorems")]
 PUBLIC = {"endpoint", "segments", "log_records", "log_lines", "log_run", "log_reader", "kaiverohm"}
-THEOREMS = {"promises", "c_promises", "sending", "mailing", "paper_examples", "flows"}
+THEOREMS = {"promises", "c_promises", "demands", "sending", "mailing", "paper_examples", "flows"}
 PROGRAMS = {"racklog", "tour", "outside_logs", "outside_responses", "outside_segments"}
 
 WIDTH, ROW, TOP, LEFT, COLUMN = 900, 46, 48, 18, 72
@@ -77,7 +77,7 @@ def box(x, y, width, pair, words):
 def picture():
     height = TOP + len(ROWS) * ROW + 44
     parts = [f'<svg xmlns="http://www.w3.org/2000/svg" viewBox="0 0 {WIDTH} {height}" font-family="Helvetica, Arial, sans-serif" role="img" '
-             f'aria-label="The crates as layers, from lists at the bottom to the programs and the page of statements at the top">',
+             f'aria-label="The crates as layers, from lists at the bottom to the programs and the page of promises at the top">',
              f'<rect x="1" y="1" width="{WIDTH - 2}" height="{height - 2}" rx="10" fill="{PANEL}" stroke="{EDGE}"/>']
     for start, width, words in HEADS:
         parts.append(text(LEFT + (start + width / 2) * COLUMN, 30, words, 14, SOFT, weight="bold"))

@@ -17,7 +17,7 @@ use Rattle.wire.specs.declared.MessageSegment.{MessageSegment}
 use Rattle.wire.specs.Type11.{messageOf, isSingle, mailbox}
 use Rattle.sizes.specs.Sizes.{bytesOf}
 use Rattle.sizes.proofs.Laws.{bytes-le}
-use Rattle.rules.specs.Messages.{judged, lastWith}
+use Rattle.rules.specs.Messages.{reservedSize, badLength, pastLast, judged, lastWith}
 use Rattle.rules.proofs.Laws.{sound, last-with-le}
 use Rattle.contexts.specs.State.{Setup, State, freeMessage, messageIn, messageContext}
 use Rattle.contexts.proofs.Words.{eight}
@@ -80,6 +80,10 @@ module _ (x : Lent) (passed : none (table x)) (eleven : is11 (x .packet) ≡ tru
   abbrev memory : List ℕ
   memory = x .desk .messageMemory
 
+  -- row 12
+  size-is : length memory ≡ 32768
+  size-is = was-ready x passed .fit .boxes
+
   few : (m .msglen < 16) × (m .msgseg < 16)
   unfolding messageOf
   few = (omega (arith, small), omega arith)
@@ -92,7 +96,10 @@ module _ (x : Lent) (passed : none (table x)) (eleven : is11 (x .packet) ≡ tru
   raw-le : m .raw ≤ bytesOf (m .ssize)
   unfolding table lentRows headRows given streamRows messageRows judged
   raw-le =
-      sound m (rw (of-type (is11 (x .packet)) _ eleven (row-passed 20 (table x) passed), of-type (is11 (x .packet)) _ eleven (row-passed 21 (table x) passed), of-type (is11 (x .packet)) _ eleven (row-passed 22 (table x) passed))) .fits
+      let row-20 : reservedSize m ≡ false = of-type (is11 (x .packet)) _ eleven (row-passed 20 (table x) passed) in
+      let row-21 : badLength m ≡ false = of-type (is11 (x .packet)) _ eleven (row-passed 21 (table x) passed) in
+      let row-22 : pastLast m ≡ false = of-type (is11 (x .packet)) _ eleven (row-passed 22 (table x) passed) in
+      sound m (rw (row-20, row-21, row-22)) .fits
 
   row-25 : neededNoneFree s m ≡ false
   unfolding table lentRows headRows given streamRows messageRows
@@ -101,7 +108,7 @@ module _ (x : Lent) (passed : none (table x)) (eleven : is11 (x .packet) ≡ tru
   alone-in : (n : ℕ) → n < 8 → InBox (message.deliveredAtOnce s memory (x .desk .response) (x .packet) m n)
   unfolding message.deliveredAtOnce
   alone-in n below = record {
-    size-kept = length-written memory (boxes.messageData (x .packet)) (n * 4096) (omega (arith, data-length, raw-le, bytes-le (m .ssize), was-ready x passed .fit .boxes)) ∙ was-ready x passed .fit .boxes;
+    size-kept = length-written memory (boxes.messageData (x .packet)) (n * 4096) (omega (arith, data-length, raw-le, bytes-le (m .ssize), size-is)) ∙ size-is;
     delivers = λ context source letter box size e.
         let same-context : n ≡ context = cc in
         let same-size : m .raw ≡ size = cc in
@@ -113,7 +120,7 @@ module _ (x : Lent) (passed : none (table x)) (eleven : is11 (x .packet) ≡ tru
   placed-in n marks last below short = record {
     size-kept =
         length-written memory (boxes.messageData (x .packet)) (n * 4096 + m .msgseg * bytesOf (m .ssize))
-        (omega (arith, data-length, was-ready x passed .fit .boxes, segment-ends n (m .msgseg) (bytesOf (m .ssize)) (m .raw) below (few .1) (bytes-le (m .ssize)) raw-le)) ∙ was-ready x passed .fit .boxes;
+        (omega (arith, data-length, size-is, segment-ends n (m .msgseg) (bytesOf (m .ssize)) (m .raw) below (few .1) (bytes-le (m .ssize)) raw-le)) ∙ size-is;
     delivers = λ context source letter box size. go (boxes.complete m (boxes.marksWith m marks)) context source letter box size;
   }
     where

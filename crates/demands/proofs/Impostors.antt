@@ -19,12 +19,12 @@ use Rattle.refusal19.specs.Refusal19.{badRoom}
 use Rattle.contexts.specs.State.{Setup, fixed}
 use Rattle.reading.specs.Desk.{Desk, stateOn}
 use Rattle.cutting.specs.Cutting.{segmentCount}
-use Rattle.flows.specs.OneFlow.{PDU, pdu}
-use Rattle.flows.specs.Deliveries.{Endpoint, Delivery, delivery, deliveredBy, deliveredOn, deliveriesBy, deliveries, read, after, inRoom}
+use Rattle.flows.specs.OneFlow.{pdu}
+use Rattle.flows.specs.Deliveries.{Endpoint, Delivery, delivery, deliveredBy, deliveriesBy, deliveries, read, after, inRoom}
 use Rattle.flows.specs.Fresh.{Allowed, Fresh, zeroDesk}
 use Rattle.segments.specs.Writer.{Wrote}
-use Rattle.sending.specs.Sending.{Sent, headingFor, putOf, Ranges, FairPDU, between, Sending, packets, Fair}
-use Rattle.sending.specs.OfSendings.{packetAt, deskAt, saysAt, HandsBack, ReadsBack}
+use Rattle.sending.specs.Sending.{Sent, headingFor, putOf, Ranges, FairPDU, between, Sending, Fair}
+use Rattle.sending.specs.OfSendings.{packetAt, deskAt, saysAt, HandsBack}
 use Rattle.sending.specs.Joint.{inTurn, isJoint, Pair}
 use Rattle.sending.proofs.Decided.{allOf, under, under-at, isFairTurn, isSegment, isFair, fair-PDU, is-fair, deciding}
 use Rattle.paper_examples.specs.Example.{counting}

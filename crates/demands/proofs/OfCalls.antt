@@ -1,9 +1,7 @@
 -- Demands 2 and 3 of the calls: setup has made a fresh desk, the writer's calls leave the PDU's packets, and the calls that read deliver what the
 -- definitions do.
-use Prim.Native.Nat.{ℕ}
 use mathlib.Core.Path.{_≡_, refl, ap, _∙_}
 use mathlib.Core.Bool.{false≢true}
-use mathlib.Core.List.{List}
 use Rattle.answers.specs.Answers.{SetupSaid, ready, setupRefused}
 use Rattle.tables.specs.Refusals.{VerdictOf, refuse, accept, none, verdict}
 use Rattle.tables.proofs.Exactly.{none-held}

@@ -6,8 +6,8 @@ use native.Mathlib.Omega.{arith}
 use Rattle.lists.specs.Each.{Each}
 use Rattle.wire.specs.declared.Flow.{Flow}
 use Rattle.contexts.specs.State.{Setup, fixed}
-use Rattle.flows.specs.Deliveries.{Delivery}
-use Rattle.sending.specs.Sending.{Sent, packetCount, Put, putOf, putsFrom, flowPuts, FlowSent, Turn, Sending, sentOn, events, queues, packetsLeft, wholes, packets, whole, FairPDU, FairFlow, FairTurn, Fair}
+use Rattle.sending.specs.Sending.{Sent, packetCount, Put, putOf, putsFrom, flowPuts, FlowSent, Turn, Sending, sentOn, events, queues, packetsLeft, wholes, packets, whole}
+use Rattle.sending.specs.Sending.{FairPDU, FairFlow, FairTurn, Fair}
 
 each : {A : Type 0} (P Q : A → Type 0) → ((x : A) → P x → Q x) → (xs : List A) → Each P xs → Each Q xs
 each P Q f [] e = tt

@@ -30,7 +30,7 @@ use Rattle.sending.proofs.Decided.{each-by, under, are-bytes, fair-PDU, decidin
 use Rattle.paper_examples.proofs.Computing.{computing}
 use Rattle.demands.specs.Calls.{Fetches, room, none-held, none-message, none-refused, Reads, stop, call, Writes, written-all, write}
 use Rattle.demands.specs.OfCalls.{SetUp}
-use Rattle.demands.specs.Witnesses.{CallsNotEmpty, AllowedNotEmpty, FlowsNotEmpty, endLost, startLost, JointNotEmpty}
+use Rattle.demands.specs.Witnesses.{CallsNotEmpty, WritesNotEmpty, AllowedNotEmpty, FlowsNotEmpty, endLost, startLost, JointNotEmpty}
 use Rattle.demands.proofs.Demands.{zeros-fresh}
 use Rattle.demands.proofs.Writing.{counted, written-well}
 
@@ -78,12 +78,11 @@ module _ (s : Setup) (flow : Flow) (x : Sent) (allowed : Allowed s) (fair : Fair
       let packet : List ℕ = packetAt s flow x k in
       (_, write packet _ _ (written-well s flow x allowed fair packet k (omega arith) (omega arith)) (writes-made n (suc k) (omega arith) .1))
 
+pub writes-not-empty : WritesNotEmpty
+writes-not-empty s flow x count allowed fair says = writes-made s flow x allowed fair count 0 (omega (arith, says, counted s flow x allowed fair))
+
 pub calls-not-empty : CallsNotEmpty
-calls-not-empty = record {
-  sets-up = sets-up;
-  reads = λ d ps. calls-made ps d;
-  writes = λ s flow x count allowed fair says. writes-made s flow x allowed fair count 0 (omega (arith, says, counted s flow x allowed fair));
-}
+calls-not-empty = record { sets-up = sets-up; reads = λ d ps. calls-made ps d; writes = writes-not-empty }
 
 pub allowed-not-empty : AllowedNotEmpty
 unfolding badMTU badRoom

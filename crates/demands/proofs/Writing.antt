@@ -79,8 +79,14 @@ module _ (setup : Setup) (flow : Flow) (s : Sent) where
     unfolding writing writerTable verdict badSize
     written-well out k below long =
         let some : length (s .pdu .bytes) ≡ 0 → ⊥ = λ e. omega (arith, fair .some-byte) in
-        rw (allowed .allowed-MTU, le-ltb 3 _ (fair .priorities k), ne-eqb (length (s .pdu .bytes)) 0 some, le-ltb 65536 (length (s .pdu .bytes)) most,
-          lt-ltb k (segmentCount (setup .mtu) (length (s .pdu .bytes))) below, le-ltb (length out) (length (packetAt setup flow s k)) long)
+        rw (
+          allowed .allowed-MTU,
+          le-ltb 3 _ (fair .priorities k),
+          ne-eqb (length (s .pdu .bytes)) 0 some,
+          le-ltb 65536 (length (s .pdu .bytes)) most,
+          lt-ltb k (segmentCount (setup .mtu) (length (s .pdu .bytes))) below,
+          le-ltb (length out) (length (packetAt setup flow s k)) long,
+        )
 
     pub ours-writes : (outs : ℕ → List ℕ) → ((k : ℕ) → length (packetAt setup flow s k) ≤ length (outs k)) → (n k : ℕ) → k + n ≡ packetCount (setup .mtu) s
         → writtenBy writing setup flow s outs k n ≡ packetsFrom k n

@@ -7,7 +7,7 @@ use lib.ListN.{replicate}
 use Rattle.contexts.specs.State.{Setup, fixed, freeStream}
 use Rattle.reading.specs.Desk.{Desk, stateOn}
 use Rattle.flows.specs.OneFlow.{pdu}
-use Rattle.flows.specs.Deliveries.{Delivery, delivery, after, deliveries}
+use Rattle.flows.specs.Deliveries.{delivery, after, deliveries}
 use Rattle.flows.specs.Fresh.{zeroDesk}
 use Rattle.sending.specs.Sending.{Sent, losses, FlowSent, Turn, next, between, Sending, packets, whole, Fair}
 use Rattle.sending.specs.OfSendings.{firstTurns}

@@ -19,13 +19,17 @@ use Rattle.paper_examples.specs.Table.{sourceOf, firstPDU, secondPDU}
 use Rattle.demands.specs.Calls.{Reads, Writes}
 use Rattle.demands.specs.OfCalls.{SetUp}
 
--- the calls can be made: setup says ready at a desk of zeros; at any desk there are calls for any packets; and every PDU that a room holds can be
--- written, by as many calls as `segment_count` says
+-- every PDU that a room holds can be written, by as many calls as `segment_count` says
+abbrev pub WritesNotEmpty : Type 0
+WritesNotEmpty =
+    (setup : Setup) (flow : Flow) (s : Sent) (count : ℕ) → Allowed setup → FairPDU (setup .room) s → CountPromise (setup .mtu) (length (s .pdu .bytes)) count
+    → (ps : List (List ℕ)) × Writes setup flow s 0 count ps
+
+-- the calls can be made: setup says ready at a desk of zeros; at any desk there are calls for any packets; and the writer's
 pub record CallsNotEmpty : Type 0 where
   pub sets-up : (setup : Setup) → Allowed setup → SetUp setup (zeroDesk setup)
   pub reads : (d : Desk) (ps : List (List ℕ)) → (ds : List Delivery) × Reads d ps ds
-  pub writes : (setup : Setup) (flow : Flow) (s : Sent) (count : ℕ) → Allowed setup → FairPDU (setup .room) s → CountPromise (setup .mtu) (length (s .pdu .bytes)) count
-      → (ps : List (List ℕ)) × Writes setup flow s 0 count ps
+  pub writes : WritesNotEmpty
 
 -- there are numbers that setup takes
 abbrev pub AllowedNotEmpty : Type 0

@@ -14,7 +14,7 @@ use Rattle.reading.proofs.Spoken.{answered-by, says-it, promised}
 use Rattle.flows.specs.Deliveries.{read, after}
 use Rattle.mailing.specs.Mail.{Mail, Posted}
 use Rattle.mailing.specs.Run.{MailTurn, turnPacket, runPackets, MailCall, mailBy, callsOf}
-use Rattle.mailing.specs.OfCalls.{Fetches, MailCalls, all-made, made}
+use Rattle.mailing.specs.OfCalls.{FetchesMail, MailCalls, all-made, made}
 use Rattle.mailing.proofs.Sizes.{Sized}
 use Rattle.mailing.proofs.Fetched.{Has, has-defined, has-fetched}
 
@@ -56,7 +56,7 @@ module _ (device : ℕ) (x : Posted) where
 -- at each delivery `message_room` can hand back what the room holds
 abbrev pub Handed : Desk → List (List ℕ) → Type 0
 Handed d [] = Unit {0}
-Handed d (p ∷ ps) = Fetches (after d p) (read d p .says) (mailBy (after d p .messageMemory) (read d p .says)) × Handed (after d p) ps
+Handed d (p ∷ ps) = FetchesMail (after d p) (read d p .says) (mailBy (after d p .messageMemory) (read d p .says)) × Handed (after d p) ps
 
 -- then the calls that the definitions have can be made
 pub defined-made : (ps : List (List ℕ)) (d : Desk) → 7 ≤ length (d .response) → Handed d ps → MailCalls d ps (callsOf d ps)
@@ -65,5 +65,5 @@ defined-made (p ∷ ps) d h f =
     let x : Lent = lent d p in
     let mail : List Mail = mailBy (after d p .messageMemory) (read d p .says) in
     let rest = defined-made ps (after d p) (omega (arith, response-length x h)) (f .1) in
-    subst (λ (s : Said). Fetches (after d p) s mail → MailCalls d (p ∷ ps) (record { lent = d; packet = p; says = s; left = after d p; mail = mail } ∷ callsOf (after d p) ps))
+    subst (λ (s : Said). FetchesMail (after d p) s mail → MailCalls d (p ∷ ps) (record { lent = d; packet = p; says = s; left = after d p; mail = mail } ∷ callsOf (after d p) ps))
     (says-it x) (λ g. made (d .response) (answered-by x) (after d p) mail (omega arith) (promised x) g rest) (f .0)

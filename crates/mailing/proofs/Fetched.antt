@@ -6,17 +6,16 @@ use mathlib.Core.List.{List, [], _∷_}
 use mathlib.Core.Bool.{false}
 use native.Mathlib.Nat.{zero-add}
 use lib.ListN.{length, take, drop}
-use borrow.Author.Tests.{eq-eqb, lt-ltb, le-ltb}
 use denote.Ref.{now}
 use Rattle.answers.specs.Answers.{Said, held, delivered, message, refused}
-use Rattle.contexts.specs.Words.{stateWords}
 use Rattle.reading.specs.Desk.{Desk}
-use Rattle.endpoint.specs.Calls.{Part, part, noState, roomPart, messageRoom}
+use Rattle.endpoint.specs.Calls.{Part, part, messageRoom}
+use Rattle.endpoint.proofs.Calls.{message-room-itself}
 use Rattle.flows.specs.Deliveries.{inRoom}
 use Rattle.mailing.specs.Mail.{Mail, Posted, mailAnswer}
 use Rattle.mailing.specs.Run.{mailBy, ofName}
 use Rattle.mailing.specs.ReadBack.{GoodDesk}
-use Rattle.mailing.specs.OfCalls.{RoomCall, Fetches}
+use Rattle.mailing.specs.OfCalls.{RoomCall, FetchesMail}
 use Rattle.mailing.proofs.Sizes.{Sized}
 use Rattle.mailing.proofs.Rooms.{fits-room}
 use Rattle.mailing.proofs.Contexts.{isToldOf}
@@ -25,15 +24,7 @@ use Rattle.mailing.proofs.Contexts.{isToldOf}
 
 -- on a good desk it is asked for the room itself, for every context and every length that a room has
 pub room-itself : (d : Desk) (n l : ℕ) → GoodDesk d → n < 8 → l ≤ 4096 → messageRoom (d .words) (length (d .messageMemory)) n l ≡ part (n * 4096) l
-unfolding messageRoom noState roomPart
-room-itself d n l g h fits =
-    rw (
-      eq-eqb (length (d .words)) stateWords (g .good .whole),
-      g .good .good,
-      eq-eqb (length (d .messageMemory)) 32768 (g .lends .boxes),
-      lt-ltb n 8 h,
-      le-ltb 4096 l fits,
-    )
+room-itself d n l g h fits = message-room-itself (d .words) (length (d .messageMemory)) n l (g .good .whole) (g .good .good) (g .lends .boxes) h fits
 
 -- so it hands back what the room holds
 pub hands-room : (d : Desk) (n l : ℕ) (bytes : List ℕ) → GoodDesk d → n < 8 → l ≤ 4096 → RoomCall d n l bytes → bytes ≡ inRoom 4096 (d .messageMemory) n l
@@ -76,14 +67,14 @@ module _ (x : Posted) where
       go (refused number) e = refl
 
   -- by the calls
-  pub has-fetched : Sized x → (d : Desk) (says : Said) (mail : List Mail) → Fetches d says mail → Has x d says mail
-  has-fetched z d says mail f = record { silent = go says f; message-itself = λ n h g room e. itself n h g room (subst (λ (s : Said). Fetches d s mail) e f) }
+  pub has-fetched : Sized x → (d : Desk) (says : Said) (mail : List Mail) → FetchesMail d says mail → Has x d says mail
+  has-fetched z d says mail f = record { silent = go says f; message-itself = λ n h g room e. itself n h g room (subst (λ (s : Said). FetchesMail d s mail) e f) }
     where
-      go : (says : Said) → Fetches d says mail → isToldOf x says ≡ false → ofName x mail ≡ []
+      go : (says : Said) → FetchesMail d says mail → isToldOf x says ≡ false → ofName x mail ≡ []
       go (message context source letter mailbox size) f e = ap (ofName x) (f .2) ∙ rw e
       go held f e = ap (ofName x) f
       go (delivered context flow stream size) f e = ap (ofName x) f
       go (refused number) f e = ap (ofName x) f
 
-      itself : (n : ℕ) → n < 8 → GoodDesk d → inRoom 4096 (d .messageMemory) n (length (x .mail .bytes)) ≡ x .mail .bytes → Fetches d (mailAnswer x n) mail → mail ≡ x .mail ∷ []
+      itself : (n : ℕ) → n < 8 → GoodDesk d → inRoom 4096 (d .messageMemory) n (length (x .mail .bytes)) ≡ x .mail .bytes → FetchesMail d (mailAnswer x n) mail → mail ≡ x .mail ∷ []
       itself n h g room f = f .2 ∙ ap withBytes (hands-room d n (length (x .mail .bytes)) (f .0) g h (fits-room x z) (f .1) ∙ room)

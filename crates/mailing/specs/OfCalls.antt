@@ -24,12 +24,12 @@ pub record RoomCall (d : Desk) (context size : ℕ) (bytes : List ℕ) : Type 0 
   pub handed : now room ≡ bytes
 
 -- what the caller has of an answer: of a message, the bytes that `message_room` hands back for its context and its length
-abbrev pub Fetches : Desk → Said → List Mail → Type 0
-Fetches d (message context source letter mailbox size) mail =
+abbrev pub FetchesMail : Desk → Said → List Mail → Type 0
+FetchesMail d (message context source letter mailbox size) mail =
     (bytes : List ℕ) × RoomCall d context size bytes × (mail ≡ record { source = source; letter = letter; mailbox = mailbox; bytes = bytes } ∷ [])
-Fetches d held mail = mail ≡ []
-Fetches d (delivered context flow stream size) mail = mail ≡ []
-Fetches d (refused number) mail = mail ≡ []
+FetchesMail d held mail = mail ≡ []
+FetchesMail d (delivered context flow stream size) mail = mail ≡ []
+FetchesMail d (refused number) mail = mail ≡ []
 
 -- `read` for each packet, each with the state and the two memories that the call before left, and with any response buffer that 12 allows;
 -- each outcome one that its promise allows; and where it delivers a message, `message_room` before the next call of `read`
@@ -38,7 +38,7 @@ pub data MailCalls : Desk → List (List ℕ) → List MailCall → Type 0 where
   made : {d : Desk} {p : List ℕ} {ps : List (List ℕ)} {cs : List MailCall} (given : List ℕ) (r : Reading) (left : Desk) (mail : List Mail)
       → 7 ≤ length given
       → ReadPromise (lent (withResponse d given) p) r left
-      → Fetches left (said (r .answer)) mail
+      → FetchesMail left (said (r .answer)) mail
       → MailCalls left ps cs
       → MailCalls d (p ∷ ps) (record { lent = withResponse d given; packet = p; says = said (r .answer); left = left; mail = mail } ∷ cs)
 

@@ -1,1 +1,1 @@
-// No code: the paper's starred examples and its four impostors, computed and proved over the definitions.
+// No code: the paper's starred examples, computed and proved over the definitions.

@@ -5,3 +5,4 @@ pub mod Responses
 pub mod GoodStates
 pub mod Determinism
 pub mod Ignored
+pub mod Promises

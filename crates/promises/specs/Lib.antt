@@ -3,3 +3,5 @@ pub mod Responses
 pub mod GoodStates
 pub mod Determinism
 pub mod Ignored
+pub mod Witnesses
+pub mod Statements

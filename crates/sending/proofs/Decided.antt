@@ -1,6 +1,6 @@
 -- Whether a sending is fair is decided by computation.
 use Prim.Native.Nat.{ℕ, zero, suc, _≤_, _<_}
-use mathlib.Core.Path.{_≡_, refl, ap, sym, _∙_}
+use mathlib.Core.Path.{_≡_, ap, sym, _∙_}
 use mathlib.Core.List.{List, [], _∷_}
 use mathlib.Core.Bool.{Bool, true, false, not, _||_, _&&_, false≢true}
 use native.Mathlib.Omega.{arith}
@@ -8,7 +8,6 @@ use lib.ListN.{length, getD}
 use lib.Dec.{ltb, leb}
 use borrow.Author.Tests.{ltb-true, leb-true, not-true}
 use Rattle.lists.specs.Each.{Each}
-use Rattle.wire.specs.declared.Segment.{Segment}
 use Rattle.wire.specs.declared.Parsed.{Parsed}
 use Rattle.wire.specs.declared.Parsed.the-variants.{Refused, Stream, Message}
 use Rattle.wire.specs.Parsed.{parsed}
@@ -133,7 +132,9 @@ is-fair setup s e =
         turns = each-by (FairTurn setup) (isFairTurn setup) (fair-turn setup) (s .turns) (c .0);
       };
       one-loss = each-by (λ (x : FlowSent). Each (λ (y : Sent). losses (setup .mtu) y ≤ 1) (x .sent)) (isOneLoss setup) (one-loss setup) (s .flows) (d .0);
-      neighbours = each-by (λ (x : FlowSent). OneOfTwoWhole (setup .mtu) (x .sent)) (λ (x : FlowSent). isOneOfTwo (setup .mtu) (x .sent)) (λ x h. one-of-two (setup .mtu) (x .sent) h) (s .flows) (d .1);
+      neighbours =
+          each-by (λ (x : FlowSent). OneOfTwoWhole (setup .mtu) (x .sent)) (λ (x : FlowSent). isOneOfTwo (setup .mtu) (x .sent)) (λ x h. one-of-two (setup .mtu) (x .sent) h)
+          (s .flows) (d .1);
     }
 
 -- what a proof by computation looks through
