@@ -8,7 +8,8 @@ use Rattle.reading.specs.Desk.{Desk, withResponse}
 use Rattle.paper_examples.proofs.Computing.{computing}
 use Rattle.log_records.specs.Records.{recordFrom, longRecord, nextRecord}
 use Rattle.log_records.specs.Written.{lengthBytes, writtenLog}
-use Rattle.endpoint.specs.Calls.{noState, roomPart, streamRoom}
+use Rattle.refusal19.specs.Lent.{stateRefusal, hasRoom}
+use Rattle.endpoint.specs.Calls.{roomPart, streamRoom}
 use Rattle.c_reports.specs.declared.Report.{Report}
 use Rattle.c_reports.specs.Reports.{reportOf}
 use Rattle.flows.specs.OneFlow.{pdu}
@@ -22,7 +23,7 @@ use Rattle.c_promises.specs.OfCalls.{deskForSeven, sevenReports, bytesAt
 
 -- what a proof by computation looks through, bursts too
 unfoldable in-bursts : Unit {0}
-unfolding computing putOf recordFrom longRecord nextRecord lengthBytes reportOf pauseOf stepIn ran roomFor readBurst noState roomPart streamRoom
+unfolding computing putOf recordFrom longRecord nextRecord lengthBytes reportOf pauseOf stepIn ran roomFor readBurst stateRefusal hasRoom roomPart streamRoom
 in-bursts = tt
 
 -- a call with room for seven, asked to pause

@@ -1,27 +1,19 @@
 -- After a delivery everything lent fits, the context is there and the length is within the room: so the room call hands back that part.
 use Prim.Native.Nat.{ℕ, _*_, _≤_, _<_}
-use mathlib.Core.Path.{_≡_, ap, sym, _∙_}
-use mathlib.Core.Bool.{false}
+use mathlib.Core.Path.{_≡_, ap, _∙_}
 use mathlib.Core.List.{List}
 use native.Mathlib.Omega.{arith}
 use lib.ListN.{length, take, drop}
-use borrow.Author.Tests.{eq-eqb}
-use Rattle.contexts.specs.Words.{stateWords}
 use Rattle.reading.specs.Desk.{Desk, stateOn}
 use Rattle.reading.specs.Table.{lent}
 use Rattle.reading.specs.Inside.{Fit}
 use Rattle.reading.proofs.Kept.{room-kept}
-use Rattle.endpoint.specs.Calls.{Part, part, noState, streamRoom, messageRoom}
-use Rattle.endpoint.proofs.Calls.{a-room}
+use Rattle.endpoint.specs.Calls.{Part, part, streamRoom, messageRoom}
+use Rattle.endpoint.proofs.Calls.{stream-room-itself, message-room-itself}
 use Rattle.flows.specs.Deliveries.{after}
 use Rattle.sending.proofs.Measured.{delivers}
 use Rattle.demands.specs.Rooms.{RoomHandedBack, RoomOfDelivered}
 use Rattle.demands.proofs.Boxes.{delivers-message}
-
--- a state that 19 does not name
-state-there : (d : Desk) → Fit d → noState (d .words) ≡ false
-unfolding noState
-state-there d fit = rw (eq-eqb (length (d .words)) stateWords (fit .whole), fit .good)
 
 -- what is known of the part is known of the bytes
 gives : {rooms room : ℕ} {memory : List ℕ} (asked : ℕ → ℕ → ℕ → Part) {context size : ℕ} → context < rooms → size ≤ room → asked (length memory) context size ≡ part (context * room) size
@@ -39,12 +31,10 @@ gives {room = room} {memory = memory} asked {context = context} {size = size} be
 -- 16 rooms of R bytes, and 8 of 4,096
 stream-asked : (d : Desk) → Fit d → (context size : ℕ) → context < 16 → size ≤ stateOn d .setup .room
     → streamRoom (d .words) (length (d .streamMemory)) context size ≡ part (context * stateOn d .setup .room) size
-unfolding streamRoom
-stream-asked d fit context size below within = rw (state-there d fit) (sym (a-room 16 (stateOn d .setup .room) (length (d .streamMemory)) context size (fit .rooms) below within))
+stream-asked d fit context size = stream-room-itself (d .words) (length (d .streamMemory)) context size (fit .whole) (fit .good) (fit .rooms)
 
 message-asked : (d : Desk) → Fit d → (context size : ℕ) → context < 8 → size ≤ 4096 → messageRoom (d .words) (length (d .messageMemory)) context size ≡ part (context * 4096) size
-unfolding messageRoom
-message-asked d fit context size below within = rw (state-there d fit) (sym (a-room 8 4096 (length (d .messageMemory)) context size (fit .boxes) below within))
+message-asked d fit context size = message-room-itself (d .words) (length (d .messageMemory)) context size (fit .whole) (fit .good) (fit .boxes)
 
 pub room-of-delivered : RoomOfDelivered
 room-of-delivered = record {

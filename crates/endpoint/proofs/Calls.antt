@@ -11,13 +11,14 @@ use Rattle.answers.specs.Answers.{ready, free, closed, setupRefused, abandonRef
 use Rattle.tables.specs.Refusals.{row, all, refuse, accept, verdict}
 use Rattle.tables.proofs.Joined.{joined-refuses, joined-passes}
 use Rattle.sizes.specs.Sizes.{badMTU}
-use Rattle.contexts.specs.State.{State, fresh, fixed}
+use Rattle.contexts.specs.State.{State, fresh, fixed, streamContexts, messageContexts}
 use Rattle.contexts.specs.Words.{stateOf, wordsOf, stateWords}
 use Rattle.contexts.proofs.Words.{words-of}
-use Rattle.refusal19.specs.Refusal19.{badRoom}
+use Rattle.refusal19.specs.Refusal19.{badRoom, namedBy19}
 use Rattle.refusal19.specs.Lent.{stateRows, stateRefusal, hasRoom}
-use Rattle.refusal19.proofs.Lent.{state-refused, state-passed}
-use Rattle.endpoint.specs.Calls.{stands, setup, setupTable, abandonTable, abandonBy, Part, part, emptyPart, roomPart, IsPart}
+use Rattle.refusal19.proofs.Lent.{good-state, state-refused, state-passed, room-there}
+use Rattle.message_rooms.specs.Placing.{messageRoomBytes, messageMemoryBytes}
+use Rattle.endpoint.specs.Calls.{stands, setup, setupTable, abandonTable, abandonBy, Part, part, emptyPart, roomPart, streamRoom, messageRoom, IsPart}
 
 -- ---- setup
 module _ (words : List ℕ) (device mtu room : ℕ) where
@@ -71,6 +72,17 @@ module _ (rooms room size n l : ℕ) where
   pub a-room : hasRoom rooms room size n l ≡ true → part (n * room) l ≡ roomPart rooms room size n l
   unfolding roomPart
   a-room e = rw e
+
+-- with a state that 19 does not name and a memory of the right size, each room is handed out, and each length that it has
+module _ (words : List ℕ) (size n l : ℕ) (whole : length words ≡ stateWords) (good : namedBy19 (stateOf words) ≡ false) where
+  pub stream-room-itself : size ≡ streamContexts * stateOf words .setup .room → n < streamContexts → l ≤ stateOf words .setup .room
+      → streamRoom words size n l ≡ part (n * stateOf words .setup .room) l
+  unfolding streamRoom roomPart
+  stream-room-itself z h fits = rw (← good-state words whole good, room-there streamContexts (stateOf words .setup .room) size n l z h fits)
+
+  pub message-room-itself : size ≡ messageMemoryBytes → n < messageContexts → l ≤ messageRoomBytes → messageRoom words size n l ≡ part (n * messageRoomBytes) l
+  unfolding messageRoom roomPart
+  message-room-itself z h fits = rw (← good-state words whole good, room-there messageContexts messageRoomBytes size n l z h fits)
 
 -- the part that a range of the memory is
 pub ranged : (memory r : RefT (List ℕ)) (from end : ℕ) (p : Part)

@@ -8,7 +8,8 @@ use lib.ListN.{length, replicate, length-replicate}
 use lib.Dec.{leb}
 use borrow.Author.Tests.{ne-eqb, lt-leb}
 use Rattle.lists.proofs.Below.{below, are-bytes}
-use Rattle.endpoint.specs.Calls.{noState, roomPart, messageRoom}
+use Rattle.refusal19.specs.Lent.{stateRefusal, hasRoom}
+use Rattle.endpoint.specs.Calls.{roomPart, messageRoom}
 use Rattle.flows.specs.Fresh.{Fresh, paperSetup, paperDesk}
 use Rattle.flows.proofs.Fine.{fresh-fine}
 use Rattle.mailing.specs.Mail.{msglenOf, dataAt, mailPacket}
@@ -87,7 +88,7 @@ run-log = record {
 
 -- the last call delivers 72 bytes from context 1, and `message_room` hands them back
 made-eleven : MailCalls paperDesk (runPackets (deviceOf paperDesk) eleven elevenTurns) elevenCalls
-unfolding reads msglenOf dataAt mailPacket messageRoom noState roomPart
+unfolding reads msglenOf dataAt mailPacket messageRoom stateRefusal hasRoom roomPart
 made-eleven = defined-made (runPackets (deviceOf paperDesk) eleven elevenTurns) paperDesk (omega arith) (refl, (refl, (refl, ((_, room-call _ 1 72 refl, refl), tt))))
 
 pub mail-runs-not-empty : MailRunsNotEmpty

@@ -6,12 +6,11 @@ use mathlib.Core.List.{List, [], _∷_}
 use mathlib.Core.Bool.{false}
 use native.Mathlib.Nat.{zero-add}
 use lib.ListN.{length, take, drop}
-use borrow.Author.Tests.{eq-eqb, lt-ltb, le-ltb}
 use denote.Ref.{now}
 use Rattle.answers.specs.Answers.{Said, held, delivered, message, refused}
-use Rattle.contexts.specs.Words.{stateWords}
 use Rattle.reading.specs.Desk.{Desk}
-use Rattle.endpoint.specs.Calls.{Part, part, noState, roomPart, messageRoom}
+use Rattle.endpoint.specs.Calls.{Part, part, messageRoom}
+use Rattle.endpoint.proofs.Calls.{message-room-itself}
 use Rattle.flows.specs.Deliveries.{inRoom}
 use Rattle.mailing.specs.Mail.{Mail, Posted, mailAnswer}
 use Rattle.mailing.specs.Run.{mailBy, ofName}
@@ -25,15 +24,7 @@ use Rattle.mailing.proofs.Contexts.{isToldOf}
 
 -- on a good desk it is asked for the room itself, for every context and every length that a room has
 pub room-itself : (d : Desk) (n l : ℕ) → GoodDesk d → n < 8 → l ≤ 4096 → messageRoom (d .words) (length (d .messageMemory)) n l ≡ part (n * 4096) l
-unfolding messageRoom noState roomPart
-room-itself d n l g h fits =
-    rw (
-      eq-eqb (length (d .words)) stateWords (g .good .whole),
-      g .good .good,
-      eq-eqb (length (d .messageMemory)) 32768 (g .lends .boxes),
-      lt-ltb n 8 h,
-      le-ltb 4096 l fits,
-    )
+room-itself d n l g h fits = message-room-itself (d .words) (length (d .messageMemory)) n l (g .good .whole) (g .good .good) (g .lends .boxes) h fits
 
 -- so it hands back what the room holds
 pub hands-room : (d : Desk) (n l : ℕ) (bytes : List ℕ) → GoodDesk d → n < 8 → l ≤ 4096 → RoomCall d n l bytes → bytes ≡ inRoom 4096 (d .messageMemory) n l

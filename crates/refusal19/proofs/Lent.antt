@@ -7,7 +7,7 @@ use native.Mathlib.Omega.{arith}
 use native.Mathlib.Nat.{suc-mul, mul-le-mul-right}
 use lib.ListN.{length}
 use lib.Dec.{eqb, ltb, leb}
-use borrow.Author.Tests.{eq-eqb, ne-eqb, lt-ltb, le-ltb, eqb-true, ltb-true, leb-true, not-false}
+use borrow.Author.Tests.{eq-eqb, ne-eqb, lt-ltb, le-ltb, le-leb, eqb-true, ltb-true, leb-true, not-false}
 use Rattle.lists.proofs.Tests.{both, not-second}
 use Rattle.tables.specs.Refusals.{all, refuse, accept, verdict, none}
 use Rattle.tables.proofs.Exactly.{none-held}
@@ -65,6 +65,10 @@ module _ (rooms room size n l : ℕ) where
     pub by-length : n < rooms → leb l room ≡ hasRoom rooms room size n l
     unfolding hasRoom
     by-length b = rw (eq-eqb size (rooms * room) a, lt-ltb n rooms b)
+
+    pub room-there : n < rooms → l ≤ room → hasRoom rooms room size n l ≡ true
+    unfolding hasRoom
+    room-there b d = rw (eq-eqb size (rooms * room) a, lt-ltb n rooms b, le-leb l room d)
 
   -- a room that is there ends inside the memory
   pub room-inside : hasRoom rooms room size n l ≡ true → n * room + l ≤ size
