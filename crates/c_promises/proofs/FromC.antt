@@ -1,5 +1,5 @@
 -- Calls from C are calls: a report says what the answer says, and a place is the part that the room call hands back.
-use Prim.Native.Nat.{ℕ}
+use Prim.Native.Nat.{ℕ, _+_}
 use mathlib.Core.Path.{_≡_, refl, ap, ap₂, sym, _∙_, subst}
 use mathlib.Core.List.{List, [], _∷_}
 use mathlib.Core.Bool.{Bool}
@@ -8,23 +8,23 @@ use lib.ListN.{length}
 use denote.Ref.{RefT}
 use Rattle.answers.specs.Answers.{Said, said, held, delivered, message, refused, SetupSaid, ready, setupRefused}
 use Rattle.wire.specs.declared.Flow.{Flow}
+use Rattle.contexts.specs.State.{Setup}
 use Rattle.reading.specs.Desk.{Desk, withResponse}
 use Rattle.reading.specs.Table.{Lent, lent}
 use Rattle.reading.specs.Read.{reading, ReadPromise}
 use Rattle.reading.proofs.Spoken.{answered-by, says-it, promised}
-use Rattle.endpoint.specs.Calls.{Part, part, stands, setup, streamRoom, messageRoom}
+use Rattle.endpoint.specs.Calls.{stands, setup, streamRoom}
 use Rattle.flows.specs.OneFlow.{pdu}
 use Rattle.flows.specs.Deliveries.{Delivery, delivery}
 use Rattle.c_reports.specs.declared.Numbers.{Numbers}
 use Rattle.c_reports.specs.declared.Report.{Report}
 use Rattle.c_reports.specs.Reports.{numbersOfSetup, reportOf}
 use Rattle.c_places.specs.declared.Place.{Place}
-use Rattle.c_places.specs.Places.{placeOf, StreamPlacePromise}
+use Rattle.c_places.specs.Places.{StreamPlacePromise}
 use Rattle.demands.specs.Calls.{Fetches, room, none-held, none-message, none-refused, Reads, stop, call}
 use Rattle.demands.specs.OfCalls.{SetUp}
-use Rattle.demands.proofs.Rooms.{room-of-delivered}
 use Rattle.demands.proofs.OfCalls.{demand3-of-calls}
-use Rattle.c_promises.specs.OfCalls.{bytesAt, FetchesFromC, at-place, nothing, ReadsFromC, no-more, one-more, CallsFromCAreReads, SetUpFromC, Demand3FromC, RoomOfDeliveredFromC}
+use Rattle.c_promises.specs.OfCalls.{bytesAt, FetchesFromC, at-place, nothing, ReadsFromC, no-more, one-more, CallsFromCAreReads, SetUpFromC, Demand3FromC}
 
 -- ---- What is fetched
 
@@ -79,7 +79,7 @@ four-is-ready : (says : SetupSaid) → numbersOfSetup says .kind ≡ 4 → says 
 four-is-ready ready e = refl
 four-is-ready (setupRefused number) e = absurd (omega (arith, e))
 
-set-up : {s : _} {d : Desk} → SetUpFromC s d → SetUp s d
+set-up : {s : Setup} {d : Desk} → SetUpFromC s d → SetUp s d
 set-up {s = s} {d = d} up =
     let says = four-is-ready (setup (up .before) (s .device) (s .mtu) (s .room) .says) (ap (λ (n : Numbers). n .kind) (sym (up .promised .answer)) ∙ up .ready) in
     record {

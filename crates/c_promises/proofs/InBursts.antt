@@ -12,7 +12,7 @@ use Rattle.lists.proofs.Tests.{neither}
 use Rattle.answers.specs.declared.Begun.the-variants.{Ready}
 use Rattle.answers.specs.Answers.{Said, held, delivered, message, refused}
 use Rattle.tables.specs.Refusals.{none}
-use Rattle.tables.proofs.Exactly.{none-held}
+use Rattle.tables.proofs.Exactly as tables
 use Rattle.wire.specs.declared.Flow.{Flow}
 use Rattle.responses.specs.Type13.{responseSize}
 use Rattle.contexts.specs.State.{Setup, State, fresh, streamContexts}
@@ -161,12 +161,12 @@ lends setup d e n =
 made : (setup : Setup) (words before : List ℕ) → setup .device < 65536 → SetupPromise before (setup .device) (setup .mtu) (setup .room) Ready words → words ≡ wordsOf (fresh setup)
 made setup words before small set =
     let d : Desk = desk words (zeroDesk setup .streamMemory) (zeroDesk setup .messageMemory) (zeroDesk setup .response) in
-    let sizes : Lends setup d = record { rooms = length-replicate _ 0; boxes = length-replicate _ 0; reply = omega (arith, length-replicate {A = ℕ} responseSize 0) } in
+    let sizes : Lends setup d = record { rooms = length-replicate {A = ℕ} _ 0; boxes = length-replicate {A = ℕ} _ 0; reply = omega (arith, length-replicate {A = ℕ} responseSize 0) } in
     set-up-is-fresh setup d (record { device-ID = small; before = before; ready = set; lends = sizes }) .words
 
 pub demand3-of-bursts : Demand3OfBursts
 demand3-of-bursts setup s words d reports burst answer after reports′ small set fair w promise =
     let own : stateOn d .setup ≡ setup = ap (λ (l : List ℕ). stateOf l .setup) (made setup (d .words) words small set) ∙ ap (λ (t : State). t .setup) (state-of (fresh setup) refl refl) in
-    let up : SetUp setup d = record { device-ID = small; before = words; ready = set; lends = lends setup d own (none-held (lentRows d) (w .passed)) } in
+    let up : SetUp setup d = record { device-ID = small; before = words; ready = set; lends = lends setup d own (tables.none-held (lentRows d) (w .passed)) } in
     let c = burst-is-reads d reports burst (packets setup s) answer after reports′ w promise in
     subst (BurstReads d burst (packets setup s) answer reports′) (demand3-of-calls setup d s (c .0) up (fair .sent-fairly) (fair .one-loss) (fair .neighbours) (c .1 .reads)) (c .1)

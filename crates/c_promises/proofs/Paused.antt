@@ -48,7 +48,7 @@ record Part (burst : List ℕ) (d : Desk) (packets : List (List ℕ)) (f : Finis
 -- nothing was read, and nothing is fetched
 untouched : {f : Finished} {d : Desk} {packets : List (List ℕ)} {fetched ds : List Delivery} → (f .answer .stop ≡ atDelivery → ⊥) → Fetched f fetched → Reads d packets ds
     → Reads d packets (fetched ++ ds)
-untouched other (at-delivery stop fetch) more = absurd (other stop)
+untouched other (at-delivery there fetch) more = absurd (other there)
 untouched other (elsewhere _) more = more
 
 module _ (pause : ℕ) (asked : pause ≡ 0 → ⊥) where
@@ -157,7 +157,7 @@ module _ (pause : ℕ) (asked : pause ≡ 0 → ⊥) where
             fetched-behind : {fetched ds : List Delivery} → Fetched (stopped (stepLeft atDelivery (behind r p next))) fetched → Reads (behind r p next .desk) qs ds
                 → Reads (r .desk) (p ∷ qs) (fetched ++ ds)
             fetched-behind (elsewhere other) more = absurd (other refl)
-            fetched-behind (at-delivery {fetched = fetched} stop fetch) more =
+            fetched-behind (at-delivery {fetched = fetched} there fetch) more =
                 call-made r p next one
                 (fetched-from-c (readIn r p .desk) (behind r p next .desk .response) (readIn r p .says) (readIn r p .dropped) (readIn r p .replied)
                 (subst (λ (q : Report). FetchesFromC (behind r p next .desk) q fetched) told fetch)) more
