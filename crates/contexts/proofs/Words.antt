@@ -9,11 +9,13 @@ use lib.Seq.{drop-drop, take-all}
 use Rattle.lists.specs.Bytes.{written}
 use Rattle.lists.specs.Rows.{joined, recordsAt}
 use Rattle.lists.proofs.Written.{take-before}
-use Rattle.lists.proofs.Rows.{Rowed, readAt, read-is, writeAt, write-is, length-records, record-read, record-put, records-before, records-behind, row-again, records-words, words-records, length-joined}
+use Rattle.lists.proofs.Rows.{Rowed, readAt, read-is, writeAt, write-is, length-records, record-read}
+use Rattle.lists.proofs.Rows.{record-put, records-before, records-behind, row-again, records-words, words-records, length-joined}
 use Rattle.contexts.specs.declared.StreamContext.{StreamContext}
 use Rattle.contexts.specs.declared.MessageContext.{MessageContext}
 use Rattle.contexts.specs.State.{Setup, State, fixed, fresh, streamContexts, messageContexts, streamIn, messageIn, withStream, withMessage}
-use Rattle.contexts.specs.Words.{stateOf, wordsOf, stateWords, headWords, streamWords, messageWords, firstStream, firstMessage, setupFrom, wordsOfSetup, streamFrom, wordsOfStream, messageFrom, wordsOfMessage}
+use Rattle.contexts.specs.Words.{stateOf, wordsOf, stateWords, headWords, streamWords, messageWords, firstStream}
+use Rattle.contexts.specs.Words.{firstMessage, setupFrom, wordsOfSetup, streamFrom, wordsOfStream, messageFrom, wordsOfMessage}
 
 -- ---- each part is its words and no more
 

@@ -58,7 +58,8 @@ module _ (setup : Setup) (flows : List Flow) (Ok : Desk → Type 0) (law : ByFlo
   taken b p ps t a v ih = rw t (ap₂ (λ (x : FlowAnswer) (xs : List FlowAnswer). x ∷ xs) a (ih ∙ ap (λ (x : Option PDU). alone setup flow x (packetsOf (setup .device) flow ps)) v))
 
   -- by what the packet is
-  step : (b : Desk) (p : List ℕ) (ps : List (List ℕ)) → Ok b → AreBytes p → flowAmong flows (parsed (setup .device) p) ≡ true → (Ok (after b p) → Goal (after b p) ps) → (x : Parsed) → parsed (setup .device) p ≡ x → Goal b (p ∷ ps)
+  step : (b : Desk) (p : List ℕ) (ps : List (List ℕ)) → Ok b → AreBytes p → flowAmong flows (parsed (setup .device) p) ≡ true → (Ok (after b p) → Goal (after b p) ps) → (x : Parsed)
+      → parsed (setup .device) p ≡ x → Goal b (p ∷ ps)
   step b p ps ok bytes member ih (Refused number) e =
       let l : NoFlow Ok setup b p = law .of-refused b p number ok bytes e in
       skipped b p ps (ap (isOf flow) e) (l .views flow) (ih (l .ok))
@@ -79,7 +80,8 @@ module _ (setup : Setup) (flows : List Flow) (Ok : Desk → Type 0) (law : ByFlo
           let s : g .flow ≡ flow = same-true (g .flow) flow t in
           let o : flowStep setup (view b (g .flow)) g (dataOf p g) ≡ out (view b flow) p = by-segment flow s in
           let heard : heardOf (setup .room) (after b p .streamMemory) (read b p .says) ≡ heardAlone flow (out (view b flow) p .told) =
-          heard-same (setup .room) (after b p .streamMemory) (g .flow) (read b p .says) (flowStep setup (view b (g .flow)) g (dataOf p g) .told) (l .tells) ∙ ap₂ (λ (x : Flow) (y : FlowOutcome). heardAlone x (y .told)) s o in
+          heard-same (setup .room) (after b p .streamMemory) (g .flow) (read b p .says) (flowStep setup (view b (g .flow)) g (dataOf p g) .told) (l .tells) ∙ ap₂
+          (λ (x : Flow) (y : FlowOutcome). heardAlone x (y .told)) s o in
           taken b p ps (ap (isOf flow) e ∙ t) (ap₂ flowAnswer heard (l .drops ∙ ap (λ (y : FlowOutcome). y .dropped) o))
           (ap (view (after b p)) (sym s) ∙ (l .own ∙ ap (λ (y : FlowOutcome). y .next) o)) (ih (l .ok))
       go false t =

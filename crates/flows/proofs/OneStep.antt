@@ -48,5 +48,6 @@ module _ (setup : Setup) (g : Segment) (bytes : List ℕ) where
           pub flow-differs : ltb (setup .room) (n + dataLength g) ≡ false → wrongLength g (n + dataLength g) ≡ true → flowStep setup (some q) g bytes ≡ flowRefused (some q) 11
           flow-differs h w = flow-continues (some q) ∙ rw (z, h, w)
 
-          pub flow-joins : ltb (setup .room) (n + dataLength g) ≡ false → wrongLength g (n + dataLength g) ≡ false → flowStep setup (some q) g bytes ≡ flowJoined g (pdu (q .stream) (q .bytes ++ bytes)) false
+          pub flow-joins : ltb (setup .room) (n + dataLength g) ≡ false → wrongLength g (n + dataLength g) ≡ false
+              → flowStep setup (some q) g bytes ≡ flowJoined g (pdu (q .stream) (q .bytes ++ bytes)) false
           flow-joins h w = flow-continues (some q) ∙ rw (z, h, w)

@@ -88,7 +88,8 @@ module _ (s : State) (memory response p : List ℕ) (m : MessageSegment)
       tells = λ room streams. none-told room streams (complete m (marksWith m marks)) n (m .source) (m .letter) (mailbox m) (m .msglen * bytesOf (m .ssize) + lastWith m last);
     }
       where
-        none-told : (room : ℕ) (streams : List ℕ) (b : Bool) (context source letter mailbox count : ℕ) → deliveredBy room streams (cond b (answers.message context source letter mailbox count) answers.held) ≡ []
+        none-told : (room : ℕ) (streams : List ℕ) (b : Bool) (context source letter mailbox count : ℕ)
+            → deliveredBy room streams (cond b (answers.message context source letter mailbox count) answers.held) ≡ []
         none-told room streams true context source letter mailbox count = refl
         none-told room streams false context source letter mailbox count = refl
 

@@ -92,19 +92,22 @@ module _ (flows : List Flow) (s : State) (memory p : List ℕ) (g : Segment) (ok
           (streamRoom.joining (cond e (answers.delivered n (g .flow) streamID (base + dataLength g)) answers.held) dropped
           (withStream s n (cond e closedStream (record { live = 1; flow = g .flow; stream = streamID; held = base + dataLength g })))
           (written memory (n * s .setup .room + base) (streamRoom.dataOf p g)))
-          (cond e (flowOutcome none (delivered (pdu streamID (inRoom (s .setup .room) memory n base ++ streamRoom.dataOf p g))) dropped) (flowOutcome (some (pdu streamID (inRoom (s .setup .room) memory n base ++ streamRoom.dataOf p g))) held dropped))
+          (cond e (flowOutcome none (delivered (pdu streamID (inRoom (s .setup .room) memory n base ++ streamRoom.dataOf p g))) dropped)
+          (flowOutcome (some (pdu streamID (inRoom (s .setup .room) memory n base ++ streamRoom.dataOf p g))) held dropped))
       go true = record {
         leaves = stored-closed (s .setup .room) flows (s .streams) memory ok (g .flow) member n mine lt base (streamRoom.dataOf p g) fit;
         tells =
             ap (λ (b : List ℕ). delivery (g .flow) (pdu streamID b) ∷ [])
-            (ap (λ (m : ℕ). inRoom (s .setup .room) (written memory (n * s .setup .room + base) (streamRoom.dataOf p g)) n (base + m)) (sym data-is) ∙ stored-own (s .setup .room) memory (ok .rooms) n lt base (streamRoom.dataOf p g) fit);
+            (ap (λ (m : ℕ). inRoom (s .setup .room) (written memory (n * s .setup .room + base) (streamRoom.dataOf p g)) n (base + m)) (sym data-is)
+            ∙ stored-own (s .setup .room) memory (ok .rooms) n lt base (streamRoom.dataOf p g) fit);
         drops = refl;
         same-room = refl;
         same-messages = refl;
       }
       go false = record {
         leaves =
-            subst (λ (m : ℕ). After (s .setup .room) flows (s .streams) memory (g .flow) (set (s .streams) n (record { live = 1; flow = g .flow; stream = streamID; held = base + m })) (written memory (n * s .setup .room + base) (streamRoom.dataOf p g)) (some (pdu streamID (inRoom (s .setup .room) memory n base ++ streamRoom.dataOf p g))))
+            subst (λ (m : ℕ). After (s .setup .room) flows (s .streams) memory (g .flow) (set (s .streams) n (record { live = 1; flow = g .flow; stream = streamID; held = base + m }))
+            (written memory (n * s .setup .room + base) (streamRoom.dataOf p g)) (some (pdu streamID (inRoom (s .setup .room) memory n base ++ streamRoom.dataOf p g))))
             data-is (stored-held (s .setup .room) flows (s .streams) memory ok (g .flow) member n mine lt base (streamRoom.dataOf p g) fit streamID);
         tells = refl;
         drops = refl;
@@ -136,7 +139,8 @@ module _ (flows : List Flow) (s : State) (memory p : List ℕ) (g : Segment) (ok
     module _ (d : malformed g ≡ false) where
       sim-7 : (before : Option PDU) → ltb (own (s .streams) (g .flow)) 16 ≡ isOpen before → wrongSize (g .ends) (dataLength g) (s .setup .mtu) ≡ true → Stepped before
       sim-7 before o e =
-          subst₂ (λ (j : streamRoom.Joined) (x : FlowOutcome). Sim flows s memory g j x) (sym (closing-7 d e)) (sym (flow-missized (s .setup) g (streamRoom.dataOf p g) d before e)) (sim-closing before 7 o)
+          subst₂ (λ (j : streamRoom.Joined) (x : FlowOutcome). Sim flows s memory g j x) (sym (closing-7 d e)) (sym (flow-missized (s .setup) g (streamRoom.dataOf p g) d before e))
+          (sim-closing before 7 o)
 
       module _ (e : wrongSize (g .ends) (dataLength g) (s .setup .mtu) ≡ false) where
         -- a start or single fits any room
@@ -196,7 +200,8 @@ module _ (flows : List Flow) (s : State) (memory p : List ℕ) (g : Segment) (ok
             sim-9 h =
                 subst₂ (λ (j : streamRoom.Joined) (x : FlowOutcome). Sim flows s memory g j x)
                 (step-continues s memory p g d {count = dataLength g} {mtu = s .setup .mtu} refl refl e t
-                (go-passes s memory p g t now lt {c = c} {room = s .setup .room} refl refl (ltb-true (s .setup .room) (c .held + dataLength g) h) (record { answer = refl; drop = refl; state = refl })))
+                (go-passes s memory p g t now lt {c = c} {room = s .setup .room} refl refl (ltb-true (s .setup .room) (c .held + dataLength g) h)
+                (record { answer = refl; drop = refl; state = refl })))
                 (sym (flow-passes (s .setup) g (streamRoom.dataOf p g) d e t held-so-far (c .held) holds h))
                 (sim-closing (some held-so-far) 9 (lt-ltb i 16 lt))
 

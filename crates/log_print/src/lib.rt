@@ -10,7 +10,7 @@ fn print_runs(log: &[u8]) -> usize
     requires { ⌜ length (now log) ≤ 65536 ⌝ }
     ensures { λ r. ⌜ r ≡ length (output (now (log .entry))) ⌝ }
 {
-    let mut state = [0usize; 147];
+    let mut state = [0usize; contexts::WORDS];
     let mut streams = [0u8; 32768];
     let mut messages = [0u8; 32768];
     let mut response = [0u8; responses::SIZE];

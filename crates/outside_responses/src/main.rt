@@ -71,7 +71,7 @@ fn print_packets(
 }
 
 fn main() {
-    let mut state = [0usize; 147];
+    let mut state = [0usize; contexts::WORDS];
     let mut streams = [0u8; 32768];
     let mut messages = [0u8; 32768];
     let mut log = [0u8; 65536];

@@ -92,7 +92,8 @@ module _ (x : Lent) where
 pub reading-by-table : ReadingByTable
 unfolding reading
 reading-by-table x =
-    by-table (table x) (λ (n : ℕ) (o : Left). o .says ≡ refused n) (outcome x) (number-said x) (λ n number leaves e. let s : refused number ≡ refused n = sym (number-said x number leaves) ∙ e in cc) (accepted-no x)
+    by-table (table x) (λ (n : ℕ) (o : Left). o .says ≡ refused n) (outcome x) (number-said x)
+    (λ n number leaves e. let s : refused number ≡ refused n = sym (number-said x number leaves) ∙ e in cc) (accepted-no x)
 
 -- ---- The others
 
@@ -100,7 +101,8 @@ pub head-by-table : HeadByTable
 unfolding parsed
 head-by-table device p =
     by-table (headRows device p) (λ (n : ℕ) (o : Parsed). o ≡ Refused n) (parsedBy p) (λ number leaves. refl) (λ n number leaves e. cc)
-    (λ n. chosen (λ (o : Parsed). o ≡ Refused n → ⊥) (is9 p) (Stream (segmentOf p)) (Message (messageOf p)) (λ e. let z : _≡_ {A = ℕ} 0 1 = cc in omega arith) (λ e. let z : _≡_ {A = ℕ} 0 1 = cc in omega arith))
+    (λ n. chosen (λ (o : Parsed). o ≡ Refused n → ⊥) (is9 p) (Stream (segmentOf p)) (Message (messageOf p)) (λ e. let z : _≡_ {A = ℕ} 0 1 = cc in omega arith)
+    (λ e. let z : _≡_ {A = ℕ} 0 1 = cc in omega arith))
 
 pub setup-by-table : SetupByTable
 unfolding setup

@@ -40,7 +40,8 @@ module _ (words : List ℕ) (device mtu room : ℕ) (after : List ℕ) where
   setup-good p = by-setup (verdict (setupTable words mtu room)) refl p
 
 -- ---- abandoning
-by-verdict : (words : List ℕ) (isFree : Bool) (after : State) (v : Verdict) → GoodWords words → StillGood (stateOf words) (wordsOf after) → StillGood (stateOf words) (abandonBy words isFree after v .words)
+by-verdict : (words : List ℕ) (isFree : Bool) (after : State) (v : Verdict) → GoodWords words → StillGood (stateOf words) (wordsOf after)
+    → StillGood (stateOf words) (abandonBy words isFree after v .words)
 by-verdict words isFree after (refuse number leaves) g a = unchanged words (g .whole) (g .good)
 by-verdict words true after accept g a = unchanged words (g .whole) (g .good)
 by-verdict words false after accept g a = a

@@ -135,7 +135,8 @@ module _ (x : Lent) where
 
   left : (v : Verdict) → verdict (table x) ≡ v → outcome x v .desk .response ≡ responseLeft x (statusOf x (outcome x v .says))
   left (refuse number leaves) e =
-      by-status (writes leaves) (leaving x number leaves .desk .response) (leaving x number leaves .says) (said-status number leaves ∙ refused-so number leaves e .status) (left-response x number leaves)
+      by-status (writes leaves) (leaving x number leaves .desk .response) (leaving x number leaves .says) (said-status number leaves ∙ refused-so number leaves e .status)
+      (left-response x number leaves)
   left accept e = by-test (is9 (x .packet)) stream-left (λ n. message-left n (other-type x (none-held (table x) e) n))
 
   -- how many bytes

@@ -40,7 +40,6 @@ pub record Promises : Type 0 where
   pub one-outcome : OneOutcomeEach
   -- setup makes a good state, and reading and abandoning leave one
   pub good-states : GoodStatesStay
-
   -- ==== 2. 'Packets are read, and segments and message responses written, exactly as RapidIO Parts 2 and 10 define them with 01's choices.
   -- What the segment writer makes, a fresh endpoint of that address and MTU reads back, if its room holds it.'
 
@@ -59,7 +58,6 @@ pub record Promises : Type 0 where
   -- and a message of any size, its segments in any order with others between: held, DONE, and at the last delivered, once, with its bytes
   pub messages : MessageReadBackOfCalls
   pub mail-stays : OthersLeaveMail
-
   -- ==== 3. 'From fresh: whole PDUs .. Then the PDUs delivered are exactly those that lost nothing, with flow, stream and bytes, in the order of their
   -- last packets; so two sendings that leave the same packets agree on every whole PDU.' (The sentence stands there clause by clause.)
 
@@ -78,7 +76,6 @@ pub record Promises : Type 0 where
   pub ours : OursMeets
   pub our-writer : OurWriterMeets
   pub impostors : ImpostorsBreak
-
   -- ==== OUTSIDE: THE JOINT. 'Outside those premises the joint can still happen, and they want to be shown it.'
 
   -- of two neighbours that each lose exactly one packet, something is delivered exactly if they are a joint; then that PDU, with the second's length
@@ -87,7 +84,6 @@ pub record Promises : Type 0 where
   pub joint-length : JointLength
   -- no receiver can tell: the joint's packets are left by a sending that breaks the neighbours' premise and no other, and by a fair one
   pub joint-untold : JointUntold
-
   -- ==== The paper's starred examples come out as it says; and every premise above can be met
   pub examples : ExamplesHold
   pub witnesses : PremisesCanBeMet

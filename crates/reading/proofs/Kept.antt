@@ -107,7 +107,8 @@ module _ (x : Lent) where
     unfolding messageOf
     few = omega (arith, small)
 
-    message-settled : Passed → is9 (x .packet) ≡ false → StillGood (stateIn x) (wordsOf (message.messageAccepted (stateIn x) (x .desk .messageMemory) (x .desk .response) (x .packet) (messageSegmentIn x) .state))
+    message-settled : Passed → is9 (x .packet) ≡ false
+        → StillGood (stateIn x) (wordsOf (message.messageAccepted (stateIn x) (x .desk .messageMemory) (x .desk .response) (x .packet) (messageSegmentIn x) .state))
     unfolding none table lentRows headRows given streamRows messageRows
     message-settled n f =
         let t : is11 (x .packet) ≡ true = other-type n f in

@@ -38,13 +38,16 @@ message-left x says words memory response j z e =
     ap (λ (w : List ℕ). left says false responseSize (withMessages (x .desk) w memory response)) (sym (words-of words z)) ∙ ap (ofMessage x) e
 
 -- row 12 passed
-pub sizes-right : (d : Desk) → length (d .streamMemory) ≡ streamContexts * stateOn d .setup .room → length (d .messageMemory) ≡ messageMemoryBytes → responseSize ≤ length (d .response) → wrongSizes d ≡ false
+pub sizes-right : (d : Desk) → length (d .streamMemory) ≡ streamContexts * stateOn d .setup .room → length (d .messageMemory) ≡ messageMemoryBytes → responseSize ≤ length (d .response)
+    → wrongSizes d ≡ false
 unfolding wrongSizes
 sizes-right d a b e = rw (eq-eqb (length (d .streamMemory)) _ a, eq-eqb (length (d .messageMemory)) _ b, le-ltb (length (d .response)) _ e)
 
-pub sizes-fit : (d : Desk) → wrongSizes d ≡ false → (length (d .streamMemory) ≡ streamContexts * stateOn d .setup .room) × (length (d .messageMemory) ≡ messageMemoryBytes) × (responseSize ≤ length (d .response))
+pub sizes-fit : (d : Desk) → wrongSizes d ≡ false
+    → (length (d .streamMemory) ≡ streamContexts * stateOn d .setup .room) × (length (d .messageMemory) ≡ messageMemoryBytes) × (responseSize ≤ length (d .response))
 unfolding wrongSizes
 sizes-fit d e =
-    let a = neither (not (eqb (length (d .streamMemory)) (streamContexts * stateOn d .setup .room)) || not (eqb (length (d .messageMemory)) messageMemoryBytes)) (ltb (length (d .response)) responseSize) e in
+    let a = neither (not (eqb (length (d .streamMemory)) (streamContexts * stateOn d .setup .room)) || not (eqb (length (d .messageMemory)) messageMemoryBytes))
+    (ltb (length (d .response)) responseSize) e in
     let b = neither (not (eqb (length (d .streamMemory)) (streamContexts * stateOn d .setup .room))) (not (eqb (length (d .messageMemory)) messageMemoryBytes)) (a .0) in
     (eqb-true (length (d .streamMemory)) _ (not-false _ (b .0)), eqb-true (length (d .messageMemory)) _ (not-false _ (b .1)), ltb-false (length (d .response)) _ (a .1))

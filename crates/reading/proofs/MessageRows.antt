@@ -39,7 +39,8 @@ module _ (x : Lent) (whole : length (x .desk .words) ≡ stateWords) where
 
   -- rows 20 to 25
   pub message-rows : ofMessage x (messageStepped (stateIn x) (x .desk .messageMemory) (x .desk .response) (x .packet) (messageSegmentIn x))
-      ≡ cond (reservedSize (messageSegmentIn x)) (leaving x 20 allERROR) (cond (badLength (messageSegmentIn x)) (leaving x 21 allERROR) (cond (pastLast (messageSegmentIn x)) (leaving x 22 allERROR) later))
+      ≡ cond (reservedSize (messageSegmentIn x)) (leaving x 20 allERROR)
+      (cond (badLength (messageSegmentIn x)) (leaving x 21 allERROR) (cond (pastLast (messageSegmentIn x)) (leaving x 22 allERROR) later))
   unfolding messageStepped judged
   message-rows =
       by-test (reservedSize (messageSegmentIn x)) (λ a. rw a (errs 20))

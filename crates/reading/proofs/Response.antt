@@ -69,7 +69,8 @@ unfolding answered responseTo
 length-answered response p status h = length-written response (responseTo p status) 0 (omega arith)
 
 module _ (x : Lent) (h : 7 ≤ length (x .desk .response)) where
-  placed-length : (n marks last : ℕ) → length (messageRoom.messagePlaced (stateIn x) (x .desk .messageMemory) (x .desk .response) (x .packet) (messageSegmentIn x) n marks last .response) ≡ length (x .desk .response)
+  placed-length : (n marks last : ℕ)
+      → length (messageRoom.messagePlaced (stateIn x) (x .desk .messageMemory) (x .desk .response) (x .packet) (messageSegmentIn x) n marks last .response) ≡ length (x .desk .response)
   unfolding messageRoom.messagePlaced
   placed-length n marks last = length-answered (x .desk .response) (x .packet) DONE h
 

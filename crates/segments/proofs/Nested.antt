@@ -31,7 +31,8 @@ nested out h mtu pdu k = go (badMTU mtu) (ltb 3 (h .priority)) (badSize (length 
   where
     go : (a b c d : Bool)
         → wroteBy out (packetOf h mtu pdu k) (verdict (row 18 a all ∷ row 17 b all ∷ row 14 c all ∷ row 15 (not d) all ∷ row 16 (ltb (length out) (length (packetOf h mtu pdu k))) all ∷ []))
-        ≡ cond a (wroteOf (writeRefused 18) out) (cond b (wroteOf (writeRefused 17) out) (cond c (wroteOf (writeRefused 14) out) (cond d (fitting out (packetOf h mtu pdu k)) (wroteOf (writeRefused 15) out))))
+        ≡ cond a (wroteOf (writeRefused 18) out)
+        (cond b (wroteOf (writeRefused 17) out) (cond c (wroteOf (writeRefused 14) out) (cond d (fitting out (packetOf h mtu pdu k)) (wroteOf (writeRefused 15) out))))
     go true b c d = refl
     go false true c d = refl
     go false false true d = refl

@@ -64,7 +64,8 @@ module _ (setup : Setup) (flows : List Flow) (Ok : Desk → Type 0) (law : ByFlo
   flow-alone (p ∷ ps) b ok proper =
       let o = by-own b p ok (proper .0) in
       o .delivers (deliveries (after b p) ps)
-      ∙ ap (tell flow (deliveredPDU (packetStep setup (view b flow) p .told))) (flow-alone ps (after b p) (o .ok) (proper .1) ∙ ap (λ (v : Option PDU). map (delivery flow) (flowDeliveries setup v ps)) (o .own))
+      ∙ ap (tell flow (deliveredPDU (packetStep setup (view b flow) p .told)))
+      (flow-alone ps (after b p) (o .ok) (proper .1) ∙ ap (λ (v : Option PDU). map (delivery flow) (flowDeliveries setup v ps)) (o .own))
       ∙ tell-also (deliveredPDU (packetStep setup (view b flow) p .told)) (flowDeliveries setup (packetStep setup (view b flow) p .next) ps)
     where
       tell-also : (w : Option PDU) (l : List PDU) → tell flow w (map (delivery flow) l) ≡ map (delivery flow) (also w l)

@@ -154,7 +154,8 @@ module _ (h : Heading) (range : InRange h) (size : ℕ) (bytes : List ℕ) where
   is-bytes first final all =
       let f = first-byte (h .priority) (range .priority) in
       let fl = flags-of first final (length bytes) in
-      let tail = bytes-append (fieldOf first final (h .stream) size ++ bytes) (padOf (length bytes)) (bytes-append (fieldOf first final (h .stream) size) bytes (bytes-field first final (h .stream) size) all) (bytes-pad (length bytes)) in
+      let tail = bytes-append (fieldOf first final (h .stream) size ++ bytes) (padOf (length bytes))
+      (bytes-append (fieldOf first final (h .stream) size) bytes (bytes-field first final (h .stream) size) all) (bytes-pad (length bytes)) in
       bytes-seven (h .priority * 64 + 16 + 9) (high (h .destination)) (low (h .destination)) (high (h .source)) (low (h .source)) (h .cos) (flagsOf first final (length bytes))
       (fieldOf first final (h .stream) size ++ bytes ++ padOf (length bytes))
       (f .is-byte) (omega arith) (omega arith) (omega arith) (omega arith) (range .cos) (ltb-true _ 256 (fl .is-byte)) tail

@@ -57,7 +57,8 @@ module _ (setup : Setup) (flow : Flow) (ranges : Ranges setup flow) (s : Sent) (
   leaves-seen k o o′ xs e step = rw (e, step)
 
   -- the last packet arrives: the flow is left closed
-  leaves-closed : (n k : ℕ) (o : Option PDU) → k + suc n ≡ packetCount (setup .mtu) s → ((last : ℕ) → suc last ≡ packetCount (setup .mtu) s → isLost s last ≡ false) → leaves setup o (puts k (suc n)) ≡ none
+  leaves-closed : (n k : ℕ) (o : Option PDU) → k + suc n ≡ packetCount (setup .mtu) s → ((last : ℕ) → suc last ≡ packetCount (setup .mtu) s → isLost s last ≡ false)
+      → leaves setup o (puts k (suc n)) ≡ none
   leaves-closed zero k o e arrives = leaves-seen k o none [] (arrives k (omega arith)) (last-closes setup flow ranges s fair k o (omega arith))
   leaves-closed (suc n) k o e arrives = leaves-closed n (suc k) (afterPut setup o (put k)) (omega arith) arrives
 
@@ -177,7 +178,8 @@ module _ (setup : Setup) (flow : Flow) (ranges : Ranges setup flow) (s : Sent) (
       → gives setup (some p) (puts (suc k) (suc n)) ≡ pdu (p .stream) (p .bytes ++ drop (suc k * (setup .mtu)) bytes) ∷ []
   gives-joined zero k p e l so-far =
       let last : suc (suc k) ≡ packetCount (setup .mtu) s = omega arith in
-      gives-seen (suc k) (some p) none (delivered (pdu (p .stream) (p .bytes ++ segmentData (setup .mtu) bytes (suc k)))) false [] (none-lost (s .lost) (suc k) 0 l .0) (at-last setup flow ranges s fair k p last so-far)
+      gives-seen (suc k) (some p) none (delivered (pdu (p .stream) (p .bytes ++ segmentData (setup .mtu) bytes (suc k)))) false [] (none-lost (s .lost) (suc k) 0 l .0)
+      (at-last setup flow ranges s fair k p last so-far)
       ∙ ap (λ (x : List ℕ). pdu (p .stream) (p .bytes ++ x) ∷ []) (behind-last (suc k) last)
   gives-joined (suc n) k p e l so-far =
       let inner : suc (suc k) < packetCount (setup .mtu) s = omega arith in

@@ -86,7 +86,8 @@ joint-length setup flow a b pair e = go (eqb (packetCount (setup .mtu) a) 2) (is
         let back = length-drop (setup .mtu) (b .pdu .bytes) in
         length-append (take (setup .mtu) (a .pdu .bytes)) (drop (setup .mtu) (b .pdu .bytes)) ∙ omega arith
 
-    go : (p x q y : Bool) → eqb (packetCount (setup .mtu) a) 2 ≡ p → leb 2 (packetCount (setup .mtu) b) ≡ q → ((p && x) && (q && y)) ≡ true → length (jointPDU (setup .mtu) a b .bytes) ≡ length (b .pdu .bytes)
+    go : (p x q y : Bool) → eqb (packetCount (setup .mtu) a) 2 ≡ p → leb 2 (packetCount (setup .mtu) b) ≡ q → ((p && x) && (q && y)) ≡ true
+        → length (jointPDU (setup .mtu) a b .bytes) ≡ length (b .pdu .bytes)
     go true true true y ep eq e = both ep eq
     go true true false y ep eq e = absurd (false≢true e)
     go true false q y ep eq e = absurd (false≢true e)

@@ -14,7 +14,8 @@ use Rattle.cutting.specs.Cutting.{isFinal}
 use Rattle.contexts.specs.State.{Setup}
 use Rattle.flows.specs.OneFlow.{PDU}
 use Rattle.lists.specs.Each.{Each}
-use Rattle.sending.specs.Sending.{Sent, packetCount, isWhole, Put, putOf, putsFrom, flowPuts, FlowSent, Turn, next, between, sentOn, Event, put, sent, headOf, advance, events, queues, tell, wholes, FairPDU, FairFlow}
+use Rattle.sending.specs.Sending.{Sent, packetCount, isWhole, Put, putOf, putsFrom, flowPuts, FlowSent, Turn, next, between, sentOn}
+use Rattle.sending.specs.Sending.{Event, put, sent, headOf, advance, events, queues, tell, wholes, FairPDU, FairFlow}
 use Rattle.sending.specs.OneFlow.{also}
 use Rattle.sending.specs.Meaning.{putBy, toCome, InOrder, intact, fromFlow, WholeIsIntact}
 use Rattle.sending.proofs.Steps.{count-pos}
@@ -85,7 +86,8 @@ flow-completed setup flow allowed (s ∷ ss) fair = go (packetCount (setup .mtu)
     by-whole true e = ap (λ (l : List PDU). s .pdu ∷ l) e
     by-whole false e = e
 
-    go : (c : ℕ) → packetCount (setup .mtu) s ≡ c → completed (flowPuts setup flow ss) ≡ intact (setup .mtu) ss → completed (putsFrom setup flow s 0 c ++ flowPuts setup flow ss) ≡ intact (setup .mtu) (s ∷ ss)
+    go : (c : ℕ) → packetCount (setup .mtu) s ≡ c → completed (flowPuts setup flow ss) ≡ intact (setup .mtu) ss
+        → completed (putsFrom setup flow s 0 c ++ flowPuts setup flow ss) ≡ intact (setup .mtu) (s ∷ ss)
     go zero e rest = absurd (omega (arith, count-pos (setup .mtu) (length (s .pdu .bytes)) allowed (fair .0 .some-byte)))
     go (suc n) e rest = completed-from setup flow s (flowPuts setup flow ss) n 0 (omega arith) ∙ by-whole (isWhole (setup .mtu) s) rest
 

@@ -19,7 +19,8 @@ use Rattle.flows.specs.Fresh.{Allowed}
 use Rattle.flows.specs.ByFlow.{among, NoFlow, ByFlow}
 use Rattle.lists.specs.Each.{Each}
 use Rattle.lists.specs.First.{any}
-use Rattle.sending.specs.Sending.{Put, flowPuts, FlowSent, Turn, next, between, sentOn, flowsOf, Event, sent, headOf, advance, events, queues, packetsLeft, tell, wholes, whole, FairFlow, FairTurn, OneOfTwoWhole}
+use Rattle.sending.specs.Sending.{Put, flowPuts, FlowSent, Turn, next, between, sentOn, flowsOf, Event, sent, headOf}
+use Rattle.sending.specs.Sending.{advance, events, queues, packetsLeft, tell, wholes, whole, FairFlow, FairTurn, OneOfTwoWhole}
 use Rattle.sending.specs.OneFlow.{packetStep, deliveredPDU}
 use Rattle.flows.proofs.Flows.{same-true}
 use Rattle.sending.specs.OfSendings.{DeliveredIsWhole, DeliveredIsWholeAnyLoss, firstTurns, DeliveredAtEveryTurn, SamePacketsSameWhole}
@@ -125,7 +126,8 @@ module _ (setup : Setup) (flows : List Flow) (Ok : Desk → Type 0) (law : ByFlo
 
 module _ (setup : Setup) (allowed : Allowed setup) where
   -- what each flow has to send is good from closed
-  start-good : (xs : List FlowSent) → Each (FairFlow setup) xs → Each (λ (x : FlowSent). OneOfTwoWhole (setup .mtu) (x .sent)) xs → (flow : Flow) → Good setup flow none (flowPuts setup flow (sentOn xs flow))
+  start-good : (xs : List FlowSent) → Each (FairFlow setup) xs → Each (λ (x : FlowSent). OneOfTwoWhole (setup .mtu) (x .sent)) xs → (flow : Flow)
+      → Good setup flow none (flowPuts setup flow (sentOn xs flow))
   start-good [] fair apart flow = tt
   start-good (x ∷ xs) fair apart flow = go (sameFlow flow (x .flow)) refl (start-good xs (fair .1) (apart .1) flow)
     where

@@ -22,7 +22,8 @@ use Rattle.lists.specs.Each.{Each}
 use Rattle.sending.specs.Sending.{Sent, isLost, packetCount, lossesFrom, losses, isWhole, Put, headingFor, putOf, putsFrom, flowPuts, FairPDU, OneOfTwoWhole, Ranges}
 use Rattle.sending.specs.OneFlow.{packetStep, deliveredPDU}
 use Rattle.sending.proofs.Losses.{none-lost}
-use Rattle.sending.proofs.Steps.{mtu-pos, packet-read, packet-bytes, packet-flow, final-is, inner-is, some-packet, last-size, inner-size, data-behind, all-taken, at-single, at-start, at-inner, at-last, at-last-wrong, at-closed}
+use Rattle.sending.proofs.Steps.{mtu-pos, packet-read, packet-bytes, packet-flow, final-is, inner-is, some-packet, last-size, inner-size}
+use Rattle.sending.proofs.Steps.{data-behind, all-taken, at-single, at-start, at-inner, at-last, at-last-wrong, at-closed}
 
 -- a packet that is read, and is of that flow
 pub record Proper (device : ℕ) (flow : Flow) (p : List ℕ) : Type 0 where
@@ -124,7 +125,9 @@ module _ (setup : Setup) (flow : Flow) (ranges : Ranges setup flow) (s : Sent) (
     where
       go : (b : Bool) → isLost s (suc k) ≡ b → Good′ none (putsFrom setup flow s (suc (suc k)) n ++ more) → Good′ none (put (suc k) ∷ (putsFrom setup flow s (suc (suc k)) n ++ more))
       go true lost rest = put-lost (suc k) none (putsFrom setup flow s (suc (suc k)) n ++ more) (omega arith) lost (whole-lossy (suc k) w) rest
-      go false lost rest = put-seen (suc k) none none (refused 8) false (putsFrom setup flow s (suc (suc k)) n ++ more) (omega arith) lost (at-closed setup flow ranges s fair k (omega arith)) (sym (whole-lossy (suc k) w)) rest
+      go false lost rest =
+          put-seen (suc k) none none (refused 8) false (putsFrom setup flow s (suc (suc k)) n ++ more) (omega arith) lost (at-closed setup flow ranges s fair k (omega arith))
+          (sym (whole-lossy (suc k) w)) rest
 
   -- Something lost, before k or from k on: nothing is delivered, and the flow may stay open.
   tail-short : (n k : ℕ) (p : PDU) → suc k + suc n ≡ packetCount (setup .mtu) s → isWhole (setup .mtu) s ≡ false → length (p .bytes) ≤ suc k * (setup .mtu)
@@ -192,7 +195,8 @@ module _ (setup : Setup) (flow : Flow) (ranges : Ranges setup flow) (s : Sent) (
       go (suc zero) e l =
           put-seen 0 o none (delivered (s .pdu)) (isOpen o) more (omega arith) (none-lost (s .lost) 0 0 l .0) (at-single setup flow ranges s fair o e) (sym (whole-last 0 e w)) g
       go (suc (suc n)) e l =
-          put-seen 0 o (some begun) held (isOpen o) (putsFrom setup flow s 1 (suc n) ++ more) (omega arith) (none-lost (s .lost) 0 (suc n) l .0) (at-start setup flow ranges s fair o (omega arith)) (sym (whole-inner 0 (omega arith)))
+          put-seen 0 o (some begun) held (isOpen o) (putsFrom setup flow s 1 (suc n) ++ more) (omega arith) (none-lost (s .lost) 0 (suc n) l .0) (at-start setup flow ranges s fair o (omega arith))
+          (sym (whole-inner 0 (omega arith)))
           (tail-whole n 0 (omega arith) w (none-lost (s .lost) 0 (suc n) l .1) g)
 
   -- A PDU that lost something is not delivered, if the flow is closed before it or its first packet arrives.
@@ -230,7 +234,8 @@ apart-first mtu s [] h e = tt
 apart-first mtu s (s′ ∷ ss) h e = rw e at (h .0)
 
 module _ (setup : Setup) (flow : Flow) (ranges : Ranges setup flow) where
-  flow-good : (ss : List Sent) → Each (FairPDU (setup .room)) ss → OneOfTwoWhole (setup .mtu) ss → (o : Option PDU) → (o ≡ none) ⊎ FirstWhole (setup .mtu) ss → Good setup flow o (flowPuts setup flow ss)
+  flow-good : (ss : List Sent) → Each (FairPDU (setup .room)) ss → OneOfTwoWhole (setup .mtu) ss → (o : Option PDU) → (o ≡ none) ⊎ FirstWhole (setup .mtu) ss
+      → Good setup flow o (flowPuts setup flow ss)
   flow-good [] fair apart o why = tt
   flow-good (s ∷ ss) fair apart o why = go (isWhole (setup .mtu) s) refl why (λ o′ why′. flow-good ss (fair .1) (apart-tail (setup .mtu) s ss apart) o′ why′)
     where

@@ -90,7 +90,8 @@ carried setup flows b begins = record {
   closed = begins .closed;
 }
   where
-    own : (c : Desk) (p : List ℕ) (g : Segment) → stateOn c .setup .room ≡ setup .room → OwnFlow (begins .Ok) setup c p g → OwnFlow (λ (d : Desk). begins .Ok d × (stateOn d .setup .room ≡ setup .room)) setup c p g
+    own : (c : Desk) (p : List ℕ) (g : Segment) → stateOn c .setup .room ≡ setup .room → OwnFlow (begins .Ok) setup c p g
+        → OwnFlow (λ (d : Desk). begins .Ok d × (stateOn d .setup .room ≡ setup .room)) setup c p g
     own c p g e o = record { ok = (o .ok, room-stays c p ∙ e); own = o .own; others = o .others; tells = o .tells; drops = o .drops }
 
     no : (c : Desk) (p : List ℕ) → stateOn c .setup .room ≡ setup .room → NoFlow (begins .Ok) setup c p → NoFlow (λ (d : Desk). begins .Ok d × (stateOn d .setup .room ≡ setup .room)) setup c p

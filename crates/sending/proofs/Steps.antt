@@ -47,7 +47,12 @@ module _ (setup : Setup) (flow : Flow) (stream size : ℕ) (d : List ℕ) (some-
       → flowStep setup (some p) (cutSegment flow false false stream size (length d)) d ≡ flowOutcome (some (pdu (p .stream) (p .bytes ++ d))) held false
   unfolding flowStep
   step-continuation p full fits =
-      rw (cut-well-formed flow false false stream size (length d) some-byte, cut-length flow false false stream size (length d), eq-eqb (length d) (setup .mtu) full, le-ltb (setup .room) (length (p .bytes) + length d) fits)
+      rw (
+        cut-well-formed flow false false stream size (length d) some-byte,
+        cut-length flow false false stream size (length d),
+        eq-eqb (length d) (setup .mtu) full,
+        le-ltb (setup .room) (length (p .bytes) + length d) fits,
+      )
 
   -- row 8
   step-closed : (final : Bool) → (final ≡ true → length d ≤ (setup .mtu)) → (final ≡ false → length d ≡ (setup .mtu))
@@ -61,9 +66,19 @@ module _ (setup : Setup) (flow : Flow) (stream size : ℕ) (d : List ℕ) (some-
       → flowStep setup (some p) (cutSegment flow false final stream size (length d)) d ≡ flowOutcome none (refused 9) true
   unfolding flowStep
   step-over p true fits full over =
-      rw (cut-well-formed flow false true stream size (length d) some-byte, cut-length flow false true stream size (length d), le-ltb (setup .mtu) (length d) (fits refl), lt-ltb (setup .room) (length (p .bytes) + length d) over)
+      rw (
+        cut-well-formed flow false true stream size (length d) some-byte,
+        cut-length flow false true stream size (length d),
+        le-ltb (setup .mtu) (length d) (fits refl),
+        lt-ltb (setup .room) (length (p .bytes) + length d) over,
+      )
   step-over p false fits full over =
-      rw (cut-well-formed flow false false stream size (length d) some-byte, cut-length flow false false stream size (length d), eq-eqb (length d) (setup .mtu) (full refl), lt-ltb (setup .room) (length (p .bytes) + length d) over)
+      rw (
+        cut-well-formed flow false false stream size (length d) some-byte,
+        cut-length flow false false stream size (length d),
+        eq-eqb (length d) (setup .mtu) (full refl),
+        lt-ltb (setup .room) (length (p .bytes) + length d) over,
+      )
 
   module _ (some-size : 1 ≤ size) (most : size ≤ 65536) where
     step-end : (p : PDU) → length d ≤ (setup .mtu) → length (p .bytes) + length d ≤ (setup .room) → length (p .bytes) + length d ≡ size
@@ -126,7 +141,8 @@ module _ (setup : Setup) (flow : Flow) (ranges : Ranges setup flow) (s : Sent) (
   pub mtu-pos : 0 < setup .mtu
   mtu-pos = let m = mtu-fits (setup .mtu) (ranges .allowed .allowed-MTU) in omega arith
 
-  reads-as : (k : ℕ) → k < packetCount (setup .mtu) s → ReadsAs (headingFor (setup .device) flow s k) (setup .mtu) bytes k (packet k) (segmentFor (headingFor (setup .device) flow s k) (setup .mtu) bytes k)
+  reads-as : (k : ℕ) → k < packetCount (setup .mtu) s
+      → ReadsAs (headingFor (setup .device) flow s k) (setup .mtu) bytes k (packet k) (segmentFor (headingFor (setup .device) flow s k) (setup .mtu) bytes k)
   reads-as k below =
       segments-read-back (headingFor (setup .device) flow s k) (setup .mtu) bytes k (record {
         heading = in-range k;
@@ -181,7 +197,8 @@ module _ (setup : Setup) (flow : Flow) (ranges : Ranges setup flow) (s : Sent) (
   some-packet = count-pos (setup .mtu) (length bytes) (ranges .allowed .allowed-MTU) (omega (arith, fair .some-byte))
 
   -- the last holds what is left, 1 to MTU
-  pub last-size : (k : ℕ) → suc k ≡ packetCount (setup .mtu) s → (k * (setup .mtu) < length bytes) × (length bytes ≤ k * (setup .mtu) + (setup .mtu)) × (length (segmentData (setup .mtu) bytes k) + k * (setup .mtu) ≡ length bytes)
+  pub last-size : (k : ℕ) → suc k ≡ packetCount (setup .mtu) s
+      → (k * (setup .mtu) < length bytes) × (length bytes ≤ k * (setup .mtu) + (setup .mtu)) × (length (segmentData (setup .mtu) bytes k) + k * (setup .mtu) ≡ length bytes)
   last-size k e =
       let b = subst (λ (x : ℕ). (x * (setup .mtu) < length bytes + (setup .mtu)) × (length bytes ≤ x * (setup .mtu))) (sym e) bounds in
       let l = length-data (setup .mtu) bytes k in
@@ -202,10 +219,14 @@ module _ (setup : Setup) (flow : Flow) (ranges : Ranges setup flow) (s : Sent) (
   size-most = omega (arith, fair .fits, most-R)
 
   -- how much data: at most MTU at the last, MTU at every other
-  data-fits : (k : ℕ) (final : Bool) → k < packetCount (setup .mtu) s → isFinal (setup .mtu) bytes k ≡ final → (0 < length (segmentData (setup .mtu) bytes k)) × (final ≡ true → length (segmentData (setup .mtu) bytes k) ≤ (setup .mtu)) × (final ≡ false → length (segmentData (setup .mtu) bytes k) ≡ (setup .mtu))
+  data-fits : (k : ℕ) (final : Bool) → k < packetCount (setup .mtu) s → isFinal (setup .mtu) bytes k ≡ final
+      → (0 < length (segmentData (setup .mtu) bytes k)) × (final ≡ true → length (segmentData (setup .mtu) bytes k) ≤ (setup .mtu))
+      × (final ≡ false → length (segmentData (setup .mtu) bytes k) ≡ (setup .mtu))
   data-fits k final below e = go (ℕ-discrete (suc k) (packetCount (setup .mtu) s))
     where
-      go : Dec (suc k ≡ packetCount (setup .mtu) s) → (0 < length (segmentData (setup .mtu) bytes k)) × (final ≡ true → length (segmentData (setup .mtu) bytes k) ≤ (setup .mtu)) × (final ≡ false → length (segmentData (setup .mtu) bytes k) ≡ (setup .mtu))
+      go : Dec (suc k ≡ packetCount (setup .mtu) s)
+          → (0 < length (segmentData (setup .mtu) bytes k)) × (final ≡ true → length (segmentData (setup .mtu) bytes k) ≤ (setup .mtu))
+          × (final ≡ false → length (segmentData (setup .mtu) bytes k) ≡ (setup .mtu))
       go (yes l) = let z = last-size k l in (omega arith, λ t. omega arith, λ t. absurd (false≢true (sym t ∙ sym e ∙ final-is k l)))
       go (no n) = let z = inner-size k (omega arith) in let pos = mtu-pos in (omega arith, λ t. omega arith, λ t. omega arith)
 
@@ -251,7 +272,8 @@ module _ (setup : Setup) (flow : Flow) (ranges : Ranges setup flow) (s : Sent) (
       step-is (suc k) false true (some p) (omega arith) (later-is k) (final-is (suc k) e)
       ∙ step-end setup flow (s .pdu .stream) (length bytes) (segmentData (setup .mtu) bytes (suc k)) (f .0) (fair .some-byte) size-most p (f .1 refl) (omega (arith, fair .fits)) (omega arith)
 
-  pub at-last-wrong : (k : ℕ) (p : PDU) → suc (suc k) ≡ packetCount (setup .mtu) s → length (p .bytes) + length (segmentData (setup .mtu) bytes (suc k)) ≤ (setup .room) → (length (p .bytes) ≡ suc k * (setup .mtu) → ⊥)
+  pub at-last-wrong : (k : ℕ) (p : PDU) → suc (suc k) ≡ packetCount (setup .mtu) s → length (p .bytes) + length (segmentData (setup .mtu) bytes (suc k)) ≤ (setup .room)
+      → (length (p .bytes) ≡ suc k * (setup .mtu) → ⊥)
       → packetStep setup (some p) (packet (suc k)) ≡ flowOutcome none (refused 11) true
   at-last-wrong k p e room ne =
       let f = data-fits (suc k) true (omega arith) (final-is (suc k) e) in
@@ -284,7 +306,8 @@ module _ (setup : Setup) (flow : Flow) (ranges : Ranges setup flow) (s : Sent) (
   last-closes (suc k) none e = ap (λ (x : FlowOutcome). x .next) (at-closed k (omega arith))
   last-closes (suc k) (some p) e = go (decLe (length (p .bytes) + length (segmentData (setup .mtu) bytes (suc k))) (setup .room)) (ℕ-discrete (length (p .bytes)) (suc k * (setup .mtu)))
     where
-      go : Dec (length (p .bytes) + length (segmentData (setup .mtu) bytes (suc k)) ≤ (setup .room)) → Dec (length (p .bytes) ≡ suc k * (setup .mtu)) → packetStep setup (some p) (packet (suc k)) .next ≡ none
+      go : Dec (length (p .bytes) + length (segmentData (setup .mtu) bytes (suc k)) ≤ (setup .room)) → Dec (length (p .bytes) ≡ suc k * (setup .mtu))
+          → packetStep setup (some p) (packet (suc k)) .next ≡ none
       go (no over) d = ap (λ (x : FlowOutcome). x .next) (at-over k p (omega arith) (omega arith))
       go (yes room) (yes l) = ap (λ (x : FlowOutcome). x .next) (at-last k p e l)
       go (yes room) (no ne) = ap (λ (x : FlowOutcome). x .next) (at-last-wrong k p e room ne)

@@ -20,7 +20,8 @@ use Rattle.flows.specs.OneFlow.{PDU}
 use Rattle.flows.specs.Deliveries.{Delivery, delivery}
 use Rattle.flows.proofs.Flows.{same-refl}
 use Rattle.lists.specs.Each.{Each}
-use Rattle.sending.specs.Sending.{Sent, isLost, priorityOf, packetCount, lossesFrom, losses, isWhole, Put, headingFor, putOf, putsFrom, flowPuts, next, headOf, advance, events, queues, packetsLeft, tell, wholes, packets, whole, FairPDU, FairTurn, FairlySent}
+use Rattle.sending.specs.Sending.{Sent, isLost, priorityOf, packetCount, lossesFrom, losses, isWhole, Put, headingFor, putOf, putsFrom, flowPuts, next}
+use Rattle.sending.specs.Sending.{headOf, advance, events, queues, packetsLeft, tell, wholes, packets, whole, FairPDU, FairTurn, FairlySent}
 use Rattle.sending.specs.Meaning.{intact}
 use Rattle.sending.specs.OneFlow.{also, arriving}
 use Rattle.sending.specs.Joint.{isJoint, jointPDU, pairPackets, Pair, jointSent, inTurn, JointUntold}
@@ -68,7 +69,8 @@ module _ (setup : Setup) (flow : Flow) (s : Sent) (more : List Put) where
   all-arrive zero k e = refl
   all-arrive (suc n) k e =
       let h = none-lost (s .lost) k n e in
-      arriving-seen k (putsFrom setup flow s (suc k) n ++ more) (h .0) ∙ ap (λ (l : List (List ℕ)). packetOf (headingFor (setup .device) flow s k) (setup .mtu) (s .pdu .bytes) k ∷ l) (all-arrive n (suc k) (h .1))
+      arriving-seen k (putsFrom setup flow s (suc k) n ++ more) (h .0) ∙ ap
+      (λ (l : List (List ℕ)). packetOf (headingFor (setup .device) flow s k) (setup .mtu) (s .pdu .bytes) k ∷ l) (all-arrive n (suc k) (h .1))
 
 -- ---- Two packets are the same by their parts
 
@@ -121,17 +123,21 @@ module _ (setup : Setup) (flow : Flow) (a b : Sent) (pair : Pair setup flow a b)
   unfolding segmentData
   first-data = rw (zero-mul (setup .mtu)) (take-at (take (setup .mtu) (a .pdu .bytes)) (drop (setup .mtu) (b .pdu .bytes)) (setup .mtu) front-length)
 
-  first-packet : packetOf (headingFor (setup .device) flow (jointSent (setup .mtu) a b) 0) (setup .mtu) (jointPDU (setup .mtu) a b .bytes) 0 ≡ packetOf (headingFor (setup .device) flow a 0) (setup .mtu) (a .pdu .bytes) 0
+  first-packet : packetOf (headingFor (setup .device) flow (jointSent (setup .mtu) a b) 0) (setup .mtu) (jointPDU (setup .mtu) a b .bytes) 0
+      ≡ packetOf (headingFor (setup .device) flow a 0) (setup .mtu) (a .pdu .bytes) 0
   unfolding isFirst isFinal fieldOf
   first-packet =
       same-packet setup flow (jointSent (setup .mtu) a b) a 0 refl
-      (ne-eqb (0 + 1) (packetCount (setup .mtu) (jointSent (setup .mtu) a b)) (λ e. omega (arith, j .several, ap (segmentCount (setup .mtu)) same-length)) ∙ sym (ne-eqb (0 + 1) (packetCount (setup .mtu) a) (λ e. omega (arith, j .two))))
+      (ne-eqb (0 + 1) (packetCount (setup .mtu) (jointSent (setup .mtu) a b)) (λ e. omega (arith, j .several, ap (segmentCount (setup .mtu)) same-length))
+      ∙ sym (ne-eqb (0 + 1) (packetCount (setup .mtu) a) (λ e. omega (arith, j .two))))
       refl first-data
 
-  later-packet : (k : ℕ) → packetOf (headingFor (setup .device) flow (jointSent (setup .mtu) a b) (suc k)) (setup .mtu) (jointPDU (setup .mtu) a b .bytes) (suc k) ≡ packetOf (headingFor (setup .device) flow b (suc k)) (setup .mtu) (b .pdu .bytes) (suc k)
+  later-packet : (k : ℕ) → packetOf (headingFor (setup .device) flow (jointSent (setup .mtu) a b) (suc k)) (setup .mtu) (jointPDU (setup .mtu) a b .bytes) (suc k)
+      ≡ packetOf (headingFor (setup .device) flow b (suc k)) (setup .mtu) (b .pdu .bytes) (suc k)
   unfolding isFirst isFinal
   later-packet k =
-      let final : isFinal (setup .mtu) (jointPDU (setup .mtu) a b .bytes) (suc k) ≡ isFinal (setup .mtu) (b .pdu .bytes) (suc k) = ap (λ (n : ℕ). eqb (suc k + 1) (segmentCount (setup .mtu) n)) same-length in
+      let final : isFinal (setup .mtu) (jointPDU (setup .mtu) a b .bytes) (suc k) ≡ isFinal (setup .mtu) (b .pdu .bytes) (suc k) = ap
+      (λ (n : ℕ). eqb (suc k + 1) (segmentCount (setup .mtu) n)) same-length in
       same-packet setup flow (jointSent (setup .mtu) a b) b (suc k)
       (getD-drop 1 (b .priorities) k 0 ∙ ap (λ (n : ℕ). getD (b .priorities) n 0) (let e : 1 + k ≡ suc k = omega arith in e))
       final (field (isFinal (setup .mtu) (jointPDU (setup .mtu) a b .bytes) (suc k)) (isFinal (setup .mtu) (b .pdu .bytes) (suc k)) final) (later-data k)
@@ -156,7 +162,8 @@ module _ (setup : Setup) (flow : Flow) (a b : Sent) (pair : Pair setup flow a b)
       go true e = absurd (omega (arith, count-lost (a .lost) 0 1 0 e one, lost-counts (a .lost) 1 1 1 (j .end-lost) (omega arith) (omega arith)))
       go false e = refl
 
-  first-left : (more : List Put) → arriving (putsFrom setup flow a 0 (packetCount (setup .mtu) a) ++ more) ≡ packetOf (headingFor (setup .device) flow a 0) (setup .mtu) (a .pdu .bytes) 0 ∷ arriving more
+  first-left : (more : List Put)
+      → arriving (putsFrom setup flow a 0 (packetCount (setup .mtu) a) ++ more) ≡ packetOf (headingFor (setup .device) flow a 0) (setup .mtu) (a .pdu .bytes) 0 ∷ arriving more
   first-left more =
       subst (λ (c : ℕ). arriving (putsFrom setup flow a 0 c ++ more) ≡ packetOf (headingFor (setup .device) flow a 0) (setup .mtu) (a .pdu .bytes) 0 ∷ arriving more) (sym (j .two))
       (arriving-seen setup flow a more 0 (putOf setup flow a 1 ∷ more) start-arrives
@@ -170,7 +177,8 @@ module _ (setup : Setup) (flow : Flow) (a b : Sent) (pair : Pair setup flow a b)
       ∙ all-arrive setup flow b [] n 1 (count-lost (b .lost) 0 n 0 (j .start-lost) one))
 
   joint-left : (n : ℕ) → packetCount (setup .mtu) b ≡ suc n
-      → arriving (flowPuts setup flow (jointSent (setup .mtu) a b ∷ [])) ≡ packetOf (headingFor (setup .device) flow (jointSent (setup .mtu) a b) 0) (setup .mtu) (jointPDU (setup .mtu) a b .bytes) 0 ∷ (packetsFrom setup flow (jointSent (setup .mtu) a b) 1 n ++ [])
+      → arriving (flowPuts setup flow (jointSent (setup .mtu) a b ∷ [])) ≡ packetOf (headingFor (setup .device) flow (jointSent (setup .mtu) a b) 0) (setup .mtu) (jointPDU (setup .mtu) a b .bytes) 0 ∷
+      (packetsFrom setup flow (jointSent (setup .mtu) a b) 1 n ++ [])
   joint-left n e =
       let count : packetCount (setup .mtu) (jointSent (setup .mtu) a b) ≡ suc n = ap (segmentCount (setup .mtu)) same-length ∙ e in
       all-arrive setup flow (jointSent (setup .mtu) a b) [] (packetCount (setup .mtu) (jointSent (setup .mtu) a b)) 0 (no-losses 0 (packetCount (setup .mtu) (jointSent (setup .mtu) a b)))
@@ -183,14 +191,17 @@ module _ (setup : Setup) (flow : Flow) (a b : Sent) (pair : Pair setup flow a b)
       go zero e = absurd (omega (arith, j .several))
       go (suc n) e =
           first-left (putsFrom setup flow b 0 (packetCount (setup .mtu) b) ++ [])
-          ∙ ap (λ (l : List (List ℕ)). packetOf (headingFor (setup .device) flow a 0) (setup .mtu) (a .pdu .bytes) 0 ∷ l) (second-left n e ∙ ap (λ (l : List (List ℕ)). l ++ []) (sym (later-packets n 0)))
+          ∙ ap (λ (l : List (List ℕ)). packetOf (headingFor (setup .device) flow a 0) (setup .mtu) (a .pdu .bytes) 0 ∷ l)
+          (second-left n e ∙ ap (λ (l : List (List ℕ)). l ++ []) (sym (later-packets n 0)))
           ∙ ap (λ (p : List ℕ). p ∷ (packetsFrom setup flow (jointSent (setup .mtu) a b) 1 n ++ [])) (sym first-packet)
           ∙ sym (joint-left n e)
 
   joint-fair : FairPDU (setup .room) (jointSent (setup .mtu) a b)
   joint-fair = record {
     stream = pair .first-fair .stream;
-    bytes = bytes-append (take (setup .mtu) (a .pdu .bytes)) (drop (setup .mtu) (b .pdu .bytes)) (bytes-take (setup .mtu) (a .pdu .bytes) (pair .first-fair .bytes)) (bytes-drop (setup .mtu) (b .pdu .bytes) (pair .second-fair .bytes));
+    bytes =
+        bytes-append (take (setup .mtu) (a .pdu .bytes)) (drop (setup .mtu) (b .pdu .bytes)) (bytes-take (setup .mtu) (a .pdu .bytes) (pair .first-fair .bytes))
+        (bytes-drop (setup .mtu) (b .pdu .bytes) (pair .second-fair .bytes));
     some-byte = omega (arith, same-length, pair .second-fair .some-byte);
     fits = omega (arith, same-length, pair .second-fair .fits);
     priorities = priority;
@@ -255,14 +266,18 @@ joint-untold setup flow a b pair test =
       two-one-loss = ((omega (arith, pair .first-loses), (omega (arith, pair .second-loses), tt)), tt);
       two-neighbours = λ h. neither-whole (isWhole (setup .mtu) a) (isWhole (setup .mtu) b) (one-lost (setup .mtu) a (pair .first-loses)) (one-lost (setup .mtu) b (pair .second-loses)) (h .0 .0);
       two-leave = in-turn-leaves flow setup (a ∷ b ∷ []);
-      two-whole = in-turn-whole flow setup (a ∷ b ∷ []) (pair .ranges .allowed .allowed-MTU) (pair .first-fair, (pair .second-fair, tt)) ∙ two (isWhole (setup .mtu) a) (isWhole (setup .mtu) b) (one-lost (setup .mtu) a (pair .first-loses)) (one-lost (setup .mtu) b (pair .second-loses));
+      two-whole =
+          in-turn-whole flow setup (a ∷ b ∷ []) (pair .ranges .allowed .allowed-MTU) (pair .first-fair, (pair .second-fair, tt))
+          ∙ two (isWhole (setup .mtu) a) (isWhole (setup .mtu) b) (one-lost (setup .mtu) a (pair .first-loses)) (one-lost (setup .mtu) b (pair .second-loses));
       fair = record {
         sent-fairly = sent-fairly (jointSent (setup .mtu) a b ∷ []) (fair, tt);
         one-loss = ((omega (arith, none-lost), tt), tt);
         neighbours = (tt, tt);
       };
       leaves = in-turn-leaves flow setup (jointSent (setup .mtu) a b ∷ []) ∙ sym (same-packets setup flow a b pair test);
-      is-whole = in-turn-whole flow setup (jointSent (setup .mtu) a b ∷ []) (pair .ranges .allowed .allowed-MTU) (fair, tt) ∙ alone (isWhole (setup .mtu) (jointSent (setup .mtu) a b)) (eq-eqb (losses (setup .mtu) (jointSent (setup .mtu) a b)) 0 none-lost);
+      is-whole =
+          in-turn-whole flow setup (jointSent (setup .mtu) a b ∷ []) (pair .ranges .allowed .allowed-MTU) (fair, tt)
+          ∙ alone (isWhole (setup .mtu) (jointSent (setup .mtu) a b)) (eq-eqb (losses (setup .mtu) (jointSent (setup .mtu) a b)) 0 none-lost);
     }
   where
     sent-fairly : (sent : List Sent) → Each (FairPDU (setup .room)) sent → FairlySent setup (inTurn setup flow sent)

@@ -46,13 +46,13 @@ lengthDiffers s g = not (g .begins) && wrongLength g (total s g)
 -- in the paper's order and words
 unfoldable pub streamRows : State → Segment → List Row
 streamRows s g =
-    -- no data, odd bytes of data, or O wrong
+    -- type 9: no data, odd bytes of data, or O wrong
     row 6 (malformed g) flowClosed
     -- start or continuation not MTU data bytes (pad not counted); end or single over MTU
     ∷ row 7 (missized s g) flowClosed
     -- continuation or end, flow not open
     ∷ row 8 (notOpen s g) all
-    -- total would pass R
+    -- type 9: total would pass R
     ∷ row 9 (passesRoom s g) flowClosed
     -- start or single, flow not open, no context free
     ∷ row 10 (noneFree s g) all

@@ -49,7 +49,7 @@ fn line(answer: Answer) {
 }
 
 fn main() {
-    let mut state = [0usize; 147];
+    let mut state = [0usize; contexts::WORDS];
     let mut streams = [0u8; 32768];
     let mut messages = [0u8; 32768];
     let mut response = [0u8; 7];

@@ -22,13 +22,19 @@ returns-2 : tie.Need-returns-2
 returns-2 c = judge-length _ (rw (← c .before .before .before .bytes-of .ensures) (c .before .before .if1 .left)) (sym (c .before .bad-length .ensures) ∙ c .if2 .taken)
 
 returns-3 : tie.Need-returns-3
-returns-3 c = judge-single _ (rw (← c .before .before .before .before .before .bytes-of .ensures) (c .before .before .before .before .if1 .left)) (sym (c .before .before .before .bad-length .ensures) ∙ c .before .before .if2 .left) (c .if3 .taken)
+returns-3 c =
+    judge-single _ (rw (← c .before .before .before .before .before .bytes-of .ensures) (c .before .before .before .before .if1 .left))
+    (sym (c .before .before .before .bad-length .ensures) ∙ c .before .before .if2 .left) (c .if3 .taken)
 
 returns-4 : tie.Need-returns-4
-returns-4 c = judge-past _ (rw (← c .before .before .before .before .before .before .before .bytes-of .ensures) (c .before .before .before .before .before .before .if1 .left)) (sym (c .before .before .before .before .before .bad-length .ensures) ∙ c .before .before .before .before .if2 .left) (c .before .before .if3 .left) (c .if4 .taken)
+returns-4 c =
+    judge-past _ (rw (← c .before .before .before .before .before .before .before .bytes-of .ensures) (c .before .before .before .before .before .before .if1 .left))
+    (sym (c .before .before .before .before .before .bad-length .ensures) ∙ c .before .before .before .before .if2 .left) (c .before .before .if3 .left) (c .if4 .taken)
 
 returns-5 : tie.Need-returns-5
-returns-5 c = judge-none _ (rw (← c .before .before .before .before .before .before .before .bytes-of .ensures) (c .before .before .before .before .before .before .if1 .left)) (sym (c .before .before .before .before .before .bad-length .ensures) ∙ c .before .before .before .before .if2 .left) (c .before .before .if3 .left) (c .if4 .left)
+returns-5 c =
+    judge-none _ (rw (← c .before .before .before .before .before .before .before .bytes-of .ensures) (c .before .before .before .before .before .before .if1 .left))
+    (sym (c .before .before .before .before .before .bad-length .ensures) ∙ c .before .before .before .before .if2 .left) (c .before .before .if3 .left) (c .if4 .left)
 
 pub judge-spec : {M : Type 1} → statement M
 judge-spec =
