@@ -20,7 +20,8 @@ use Rattle.log_records.proofs.Back.{stands, packet-of, ended}
 use Rattle.c_reports.specs.declared.Report.{Report}
 use Rattle.c_reports.specs.Reports.{reportOf, reportIn}
 use Rattle.flows.specs.Deliveries.{Delivery}
-use Rattle.c_bursts.specs.Bursts.{Run, run, lentIn, readIn, reportFor, behind, kindIn, stepLeft, stepOver, stepIn, pauseOf, atEnd, isFull, atDelivery, Finished, stopped, ran, roomFor, burstVerdict, burstBy, readBurst}
+use Rattle.c_bursts.specs.Bursts.{Run, run, readIn, reportFor, behind, kindIn, stepLeft, stepOver, stepIn, pauseOf, atEnd, isFull, atDelivery}
+use Rattle.c_bursts.specs.Bursts.{Finished, stopped, ran, roomFor, burstVerdict, burstBy, readBurst}
 use Rattle.c_bursts.specs.Inside.{Room}
 use Rattle.c_bursts.proofs.Steps.{at-end, at-full, over-packet, stops, goes-on}
 use Rattle.c_bursts.proofs.Tests.{has-room}
@@ -188,7 +189,8 @@ module _ (pause : ℕ) (asked : pause ≡ 0 → ⊥) where
         go (goes-or-stops (kindIn r p)) (part room qs (front ++ (lengthBytes (length p) ++ p)) r′ (again p qs front r e at short) (place p qs front r e at short) (short .1) space′)
       where
         go : (pauseOf pause (kindIn r p) ≡ 0) ⊎ (pauseOf pause (kindIn r p) ≡ atDelivery)
-            → Part burst (behind r p (length front + length (lengthBytes (length p)) + length p) .desk) qs (ran pause room burst (behind r p (length front + length (lengthBytes (length p)) + length p)))
+            → Part burst (behind r p (length front + length (lengthBytes (length p)) + length p) .desk) qs
+            (ran pause room burst (behind r p (length front + length (lengthBytes (length p)) + length p)))
             → Part burst (r .desk) (p ∷ qs) (ran pause (suc room) burst r)
         go (inl k) later = part-goes p qs front r e at short room space k later
         go (inr k) later = part-stops p qs front r e at short room space k

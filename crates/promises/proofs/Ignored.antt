@@ -3,7 +3,7 @@
 use Prim.Native.Nat.{ℕ, zero, suc, _+_, _-_, _/_, _%_, _≤_, _<_}
 use mathlib.Core.Path.{_≡_, refl, ap, sym, _∙_}
 use mathlib.Core.List.{List}
-use mathlib.Core.Bool.{Bool, true, false, cond, _||_, _&&_, false≢true}
+use mathlib.Core.Bool.{Bool, true, false, cond, not, _||_, _&&_, false≢true}
 use native.Mathlib.Omega.{arith}
 use lib.ListN.{length, drop, length-take, length-drop, List·getD-eq-default}
 use lib.Seq.{ext-getD, getD-take, getD-drop}
@@ -15,21 +15,21 @@ use Rattle.wire.specs.declared.Parsed.{Parsed}
 use Rattle.wire.specs.declared.Parsed.the-variants.{Refused, Stream}
 use Rattle.wire.specs.Packet.{packetType, header, bit}
 use Rattle.wire.specs.Type9.{flags, isS, isE, xh, isO, isP, segmentAt, segmentOf}
-use Rattle.tables.specs.Refusals.{Row, Verdict, refuse, accept, verdict}
+use Rattle.tables.specs.Refusals.{Row, Verdict, refuse, accept, verdict, none}
+use Rattle.tables.proofs.Exactly.{none-held}
 use Rattle.wire.specs.Head.{headRows}
 use Rattle.wire.specs.Parsed.{parsedBy, parsed}
 use Rattle.sizes.specs.Sizes.{dataLength}
 use Rattle.contexts.specs.State.{State}
-use Rattle.contexts.specs.Words.{stateWords}
-use Rattle.refusal19.specs.Refusal19.{namedBy19}
 use Rattle.stream_rooms.specs.Placing.{dataOf, placed}
 use Rattle.streams.specs.Joining.{accepted}
 use Rattle.streams.specs.Step.{begun, continued, stepped}
 use Rattle.reading.specs.Desk.{Desk, stateOn}
-use Rattle.reading.specs.Table.{lent, isState, wrongSizes}
+use Rattle.reading.specs.Table.{lent, isState, wrongSizes, lentRows, lentRefusal}
 use Rattle.reading.specs.Read.{ofStream, reading}
-use Rattle.reading.proofs.Rows.{byParsed, no-words, named, missized, by-packet}
-use Rattle.lists.proofs.Tests.{by-test}
+use Rattle.reading.proofs.Lent.{lent-passed, lent-ready}
+use Rattle.reading.proofs.Rows.{byParsed, refused-lent, by-packet}
+use Rattle.lists.proofs.Tests.{by-test, neither}
 use Rattle.promises.specs.Ignored.{isPad, hasIgnored, DifferInIgnored, ReservedAndPadIgnored, plainPacket, strangePacket, IgnoredNotEmpty}
 
 -- ---- Of packets
@@ -187,17 +187,18 @@ module _ (d : Desk) (p q : List ℕ) (differ : DifferInIgnored p q) where
       (stateOn d .setup .device)
       ∙ ap (byParsed (lent d q)) (same-parsed p q differ nine (stateOn d .setup .device))
 
+  sized : lentRefusal d ≡ 0 → wrongSizes d ≡ false
+  unfolding lentRows none
+  sized z = neither (not (isState d)) (wrongSizes d) (none-held (lentRows d) (lent-passed d z) .1 .0) .1
+
   -- rows 19 and 12 do not look at the packet
   alike : packetType p ≡ 9 → reading (lent d p) ≡ reading (lent d q)
   alike nine =
-      by-test (isState d)
-      (λ l. let whole = eqb-true (length (d .words)) stateWords l in
-      by-test (namedBy19 (stateOn d))
-      (λ h. sym (named (lent d p) whole h) ∙ named (lent d q) whole h)
-      (λ h. by-test (wrongSizes d)
-      (λ w. sym (missized (lent d p) whole h w) ∙ missized (lent d q) whole h w)
-      (λ w. by-packet (lent d p) whole h w ∙ (by-packet-alike nine ∙ sym (by-packet (lent d q) whole h w)))))
-      (λ l. let other = eqb-false (length (d .words)) stateWords l in sym (no-words (lent d p) other) ∙ no-words (lent d q) other)
+      by-test (eqb (lentRefusal d) 0)
+      (λ t. let z = eqb-true (lentRefusal d) 0 t in
+      let fit = lent-ready d z .fit in
+      by-packet (lent d p) (fit .whole) (fit .good) (sized z) ∙ (by-packet-alike nine ∙ sym (by-packet (lent d q) (fit .whole) (fit .good) (sized z))))
+      (λ t. let n = eqb-false (lentRefusal d) 0 t in sym (refused-lent (lent d p) (lentRefusal d) refl n) ∙ refused-lent (lent d q) (lentRefusal d) refl n)
 
 pub reserved-and-pad-ignored : ReservedAndPadIgnored
 reserved-and-pad-ignored d p q differ =
