@@ -13,7 +13,7 @@ use Rattle.log_records.specs.declared.Next.{Next}
 use Rattle.log_records.specs.declared.Next.the-variants.{Record, End, Bad}
 use Rattle.log_records.specs.Records.{nextRecord}
 use Rattle.log_records.proofs.Found.{inside}
-use Rattle.c_bursts.specs.Bursts.{Run, run, StepLeft, stepLeft, stepOver, stepBy, pauseOf, stepIn, atEnd, atBad, isFull, stopped, onward, ran}
+use Rattle.c_bursts.specs.Bursts.{Run, run, StepLeft, stepLeft, stepOver, stepBy, pauseOf, stepIn, atEnd, atBad, isFull, stopped, ran}
 use Rattle.c_bursts.specs.Inside.{ReadyToRun, PacketPromise}
 
 -- ---- one step

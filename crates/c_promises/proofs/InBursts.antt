@@ -129,8 +129,8 @@ chain end (p ∷ ps) r room =
           ∙ earlier-kept r p end one));
       names =
           ap₂ (λ (a b : List ℕ). namesIn (reportIn a ∷ reportsIn (length ps) b)) row behind-it
-          ∙ names-row (readIn r p .desk) (readIn r p .dropped) (readIn r p .replied) (reportsIn (length ps) (drop (reportWords * (r .count + 1)) last)) (c .ds) (c .names) (readIn r p .says)
-          (measured (lentIn r p));
+          ∙ names-row (readIn r p .desk) (readIn r p .dropped) (readIn r p .replied) (reportsIn (length ps) (drop (reportWords * (r .count + 1)) last)) (c .ds) (c .names)
+          (readIn r p .says) (measured (lentIn r p));
     }
 
 -- ---- the whole burst

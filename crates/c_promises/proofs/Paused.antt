@@ -20,8 +20,8 @@ use Rattle.log_records.proofs.Back.{stands, packet-of, ended}
 use Rattle.c_reports.specs.declared.Report.{Report}
 use Rattle.c_reports.specs.Reports.{reportOf, reportIn}
 use Rattle.flows.specs.Deliveries.{Delivery}
-use Rattle.c_bursts.specs.Bursts.{Run, run, lentIn, readIn, reportFor, behind, kindIn, stepLeft, stepOver, stepIn, pauseOf}
-use Rattle.c_bursts.specs.Bursts.{atEnd, isFull, atDelivery, Finished, stopped, ran, roomFor, burstVerdict, burstBy, readBurst}
+use Rattle.c_bursts.specs.Bursts.{Run, run, readIn, reportFor, behind, kindIn, stepLeft, stepOver, stepIn, pauseOf, atEnd, isFull, atDelivery}
+use Rattle.c_bursts.specs.Bursts.{Finished, stopped, ran, roomFor, burstVerdict, burstBy, readBurst}
 use Rattle.c_bursts.specs.Inside.{Room}
 use Rattle.c_bursts.proofs.Steps.{at-end, at-full, over-packet, stops, goes-on}
 use Rattle.c_bursts.proofs.Tests.{has-room}

@@ -10,7 +10,6 @@ use Rattle.log_records.specs.Records.{recordFrom, longRecord, nextRecord}
 use Rattle.log_records.specs.Written.{lengthBytes, writtenLog}
 use Rattle.refusal19.specs.Lent.{stateRefusal, hasRoom}
 use Rattle.endpoint.specs.Calls.{roomPart, streamRoom}
-use Rattle.c_reports.specs.declared.Report.{Report}
 use Rattle.c_reports.specs.Reports.{reportOf}
 use Rattle.flows.specs.OneFlow.{pdu}
 use Rattle.flows.specs.Deliveries.{Delivery, delivery}
@@ -19,7 +18,7 @@ use Rattle.sending.specs.Sending.{putOf, packets, whole}
 use Rattle.sending.specs.Mixture.{smallSetup, mixture}
 use Rattle.c_places.specs.Places.{placeOf}
 use Rattle.c_bursts.specs.Bursts.{Finished, atEnd, atDelivery, pauseOf, stepIn, ran, roomFor, readBurst}
-use Rattle.c_promises.specs.OfCalls.{deskForSeven, sevenReports, bytesAt, flowIn, FetchesFromC, at-place, nothing, lastReport, PausedCall, Bursts, ended, paused, PausedBurstsNotEmpty}
+use Rattle.c_promises.specs.OfCalls.{deskForSeven, sevenReports, bytesAt, flowIn, at-place, nothing, lastReport, PausedCall, Bursts, ended, paused, PausedBurstsNotEmpty}
 
 -- what a proof by computation looks through, bursts too
 unfoldable in-bursts : Unit {0}

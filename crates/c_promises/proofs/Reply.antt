@@ -1,6 +1,6 @@
 -- A report says of the response what reading wrote: by the row that decides, and of an accepted packet by its type.
 use Prim.Native.Nat.{ℕ}
-use mathlib.Core.Path.{_≡_, refl, ap, sym, subst}
+use mathlib.Core.Path.{_≡_, refl, sym, subst}
 use mathlib.Core.Bool.{Bool}
 use Rattle.lists.proofs.Tests.{by-test}
 use Rattle.answers.specs.Answers.{Said, held, delivered, message, refused}
