@@ -223,14 +223,9 @@ pub fn read_burst(
     ensures { λ r. ⌜ BurstPromise pause (desk (now (state .entry)) (now («stream_memory» .entry)) (now («message_memory» .entry)) (now (responses .entry))) (now (reports .entry))
         (now (burst .entry)) r (desk (now (state .exit)) (now («stream_memory» .exit)) (now («message_memory» .exit)) (now (responses .exit))) (now (reports .exit)) ⌝ }
 {
-    if state.len() != contexts::WORDS {
-        return refused(12);
-    }
-    if refusal19::named_by_19(state) {
-        return refused(19);
-    }
-    if reading::wrong_memory(state, stream_memory, message_memory, responses) {
-        return refused(12);
+    let number = reading::lent_refusal(state, stream_memory, message_memory, responses);
+    if number != 0 {
+        return refused(number);
     }
     let room = room_for(reports.len(), responses.len());
     run_over(
