@@ -23,8 +23,8 @@ pub fn refused(number: usize) -> Reading
     }
 }
 
-// Row 12. Every caller has found that 19 does not name the state.
-pub fn wrong_memory(
+// Row 12 of the memories and the response buffer. The caller has found that 19 does not name the state.
+fn wrong_memory(
     state: &[usize],
     stream_memory: &[u8],
     message_memory: &[u8],

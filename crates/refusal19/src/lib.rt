@@ -112,8 +112,8 @@ fn any_bad_message(state: &[usize]) -> bool
     false
 }
 
-// Whether refusal 19 names the state. Every caller has tested its length.
-pub fn named_by_19(state: &[usize]) -> bool
+// Whether refusal 19 names the state. The caller has tested its length.
+fn named_by_19(state: &[usize]) -> bool
     requires { ⌜ length (now state) ≡ stateWords ⌝ }
     ensures { λ r. ⌜ r ≡ namedBy19 (stateOf (now (state .entry))) ⌝ }
 {
