@@ -21,7 +21,7 @@ ROWS = [
     {"reading": (0, 4.8), "c_reports": (4.8, 2), "log_records": (6.8, 1.1), "log_lines": (7.9, 1.1)},
     {"streams": (0, 2.4), "messages": (2.4, 2.4)},
     {"stream_rooms": (0, 2.4), "message_rooms": (2.4, 2.4)},
-    {"refusal19": (0, 4.8)},
+    {"refusal19": (0, 2.4), "finding": (2.4, 2.4)},
     {"contexts": (0, 1.2), "marks": (1.2, 1.2), "rules": (2.4, 1.2), "responses": (3.6, 1.2), "cutting": (4.8, 2)},
     {"sizes": (0, 6.8), "answers": (9.2, 2.8)},
     {"wire": (0, 6.8)},

@@ -6,7 +6,7 @@ ghost use mathlib.Core.Path.{_≡_};
 ghost use Prim.Native.Nat.{_<_};
 ghost use lib.ListN.{length, replicate};
 ghost use Rattle.contexts.specs.State.{streamContexts, messageContexts, fixed, fresh, closedStream, openStream, closedMessage, openMessage};
-ghost use Rattle.contexts.specs.State.{isOfFlow, isOfMessage, streamIn, messageIn, withStream, withMessage, flowContext, freeStream, messageContext, freeMessage};
+ghost use Rattle.contexts.specs.State.{streamIn, messageIn, withStream, withMessage};
 ghost use Rattle.contexts.specs.Words.{stateOf, wordsOf, stateWords};
 
 // How many contexts of each kind there are.
@@ -253,94 +253,6 @@ pub fn close_message(state: &mut [usize], n: usize)
             last: 0,
         },
     );
-}
-
-// The flow is asked first: it sets most contexts aside, open or not.
-fn is_of_flow(c: StreamContext, flow: Flow) -> bool
-    ensures { λ r. ⌜ r ≡ isOfFlow flow c ⌝ }
-{
-    let own = c.flow;
-    if wire::same_flow(own, flow) {
-        return c.live != 0;
-    }
-    false
-}
-
-// The flow's open context; STREAM_CONTEXTS: none.
-pub fn find_stream(state: &[usize], flow: Flow) -> usize
-    requires { ⌜ length (now state) ≡ stateWords ⌝ }
-    ensures { λ r. ⌜ r ≡ flowContext (stateOf (now (state .entry))) flow ⌝ }
-{
-    let mut n = 0;
-    while n < STREAM_CONTEXTS {
-        if is_of_flow(stream_at(state, n), flow) {
-            return n;
-        }
-        n += 1;
-    }
-    STREAM_CONTEXTS
-}
-
-// The lowest free stream context; STREAM_CONTEXTS: none.
-pub fn free_stream(state: &[usize]) -> usize
-    requires { ⌜ length (now state) ≡ stateWords ⌝ }
-    ensures { λ r. ⌜ r ≡ freeStream (stateOf (now (state .entry))) ⌝ }
-{
-    let mut i = 0;
-    while i < STREAM_CONTEXTS {
-        let c = stream_at(state, i);
-        if c.live == 0 {
-            return i;
-        }
-        i += 1;
-    }
-    STREAM_CONTEXTS
-}
-
-fn is_of_message(c: MessageContext, source: usize, letter: usize, mbox: usize) -> bool
-    ensures { λ r. ⌜ r ≡ isOfMessage source letter mbox c ⌝ }
-{
-    if c.source != source {
-        return false;
-    }
-    if c.letter != letter {
-        return false;
-    }
-    if c.mbox != mbox {
-        return false;
-    }
-    c.live != 0
-}
-
-// The open context of the message; MESSAGE_CONTEXTS: none.
-pub fn find_message(state: &[usize], source: usize, letter: usize, mbox: usize) -> usize
-    requires { ⌜ length (now state) ≡ stateWords ⌝ }
-    ensures { λ r. ⌜ r ≡ messageContext (stateOf (now (state .entry))) source letter mbox ⌝ }
-{
-    let mut i = 0;
-    while i < MESSAGE_CONTEXTS {
-        if is_of_message(message_at(state, i), source, letter, mbox) {
-            return i;
-        }
-        i += 1;
-    }
-    MESSAGE_CONTEXTS
-}
-
-// The lowest free message context; MESSAGE_CONTEXTS: none.
-pub fn free_message(state: &[usize]) -> usize
-    requires { ⌜ length (now state) ≡ stateWords ⌝ }
-    ensures { λ r. ⌜ r ≡ freeMessage (stateOf (now (state .entry))) ⌝ }
-{
-    let mut i = 0;
-    while i < MESSAGE_CONTEXTS {
-        let c = message_at(state, i);
-        if c.live == 0 {
-            return i;
-        }
-        i += 1;
-    }
-    MESSAGE_CONTEXTS
 }
 
 // A state of zeros.

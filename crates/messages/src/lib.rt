@@ -25,7 +25,7 @@ fn take_alone(
     requires { ⌜ (Sound m) × (isSingle m ≡ true) ⌝ }
     ensures { λ r. ⌜ messageJoining (said r) (stateOf (now (state .exit))) (now (memory .exit)) (now (response .exit)) ≡ matched (stateOf (now (state .entry))) (now (memory .entry)) (now (response .entry)) (now (packet .entry)) m ⌝ }
 {
-    let n = contexts::free_message(state);
+    let n = finding::free_message(state);
     if contexts::MESSAGE_CONTEXTS <= n {
         return message_rooms::refuse(response, packet, 25, responses::RETRY);
     }
@@ -79,7 +79,7 @@ fn begin(
     requires { ⌜ (Sound m) × (isSingle m ≡ false) × (messageContexts ≤ messageContext (stateOf (now state)) (m .source) (m .letter) (m .mbox)) ⌝ }
     ensures { λ r. ⌜ messageJoining (said r) (stateOf (now (state .exit))) (now (memory .exit)) (now (response .exit)) ≡ matched (stateOf (now (state .entry))) (now (memory .entry)) (now (response .entry)) (now (packet .entry)) m ⌝ }
 {
-    let n = contexts::free_message(state);
+    let n = finding::free_message(state);
     if contexts::MESSAGE_CONTEXTS <= n {
         return message_rooms::refuse(response, packet, 25, responses::RETRY);
     }
@@ -104,7 +104,7 @@ pub fn step(
     if m.msglen == 0 {
         return take_alone(state, memory, response, packet, m);
     }
-    let found = contexts::find_message(state, m.source, m.letter, m.mbox);
+    let found = finding::find_message(state, m.source, m.letter, m.mbox);
     if found < contexts::MESSAGE_CONTEXTS {
         return join(state, memory, response, packet, m, found);
     }

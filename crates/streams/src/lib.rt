@@ -27,7 +27,7 @@ fn begin(
     if found < contexts::STREAM_CONTEXTS {
         return stream_rooms::place(state, memory, packet, g, found, 0, stream, count, true);
     }
-    let free = contexts::free_stream(state);
+    let free = finding::free_stream(state);
     if free < contexts::STREAM_CONTEXTS {
         return stream_rooms::place(state, memory, packet, g, free, 0, stream, count, false);
     }
@@ -83,7 +83,7 @@ pub fn step(state: &mut [usize], memory: &mut [u8], packet: &[u8], g: Segment) -
     ensures { λ r. ⌜ joining (said (r .answer)) (r .dropped) (stateOf (now (state .exit))) (now (memory .exit)) ≡ stepped (stateOf (now (state .entry))) (now (memory .entry)) (now (packet .entry)) g ⌝ }
 {
     let flow = g.flow;
-    let found = contexts::find_stream(state, flow);
+    let found = finding::find_stream(state, flow);
     if rules::is_malformed(g) {
         return stream_rooms::refused_closing(state, found, 6);
     }

@@ -16,45 +16,22 @@ Inv-loop state₀ i₀ state i = (i ≤ length state) × (length state ≡ lengt
 abbrev μ-loop : tie.MeasureT-loop
 μ-loop state₀ i₀ state i = length state - i
 
-loop-holds : tie.Need-loop-holds Inv-loop μ-loop
-loop-holds c = (search needs, search needs, fill-none _ 0)
-
 mul-state : tie.Need-mul-state Inv-loop μ-loop
-mul-state c = scaled-fits _ (length (c .before .before .args .state .now)) 8 (omega arith) (c .before .before .good .0 .1)
+mul-state c = let s = c .before .before in scaled-fits _ (length (s .args .state .now)) 8 (omega arith) (s .good .0 .1)
 
-slice-write-state : tie.Need-slice-write-state Inv-loop μ-loop
-slice-write-state c = search needs
-
-add-i : tie.Need-add-i Inv-loop μ-loop
-add-i c = search needs
-
-loop-less : tie.Need-loop-less Inv-loop μ-loop
-loop-less c = simp length-set (omega arith)
-
+-- one word more is 0
 loop-again : tie.Need-loop-again Inv-loop μ-loop
-loop-again c =
-    let l = c .before .loop in
-    (simp length-set (omega arith), simp length-set (omega arith), fill-next _ _ _ (omega arith) (l .inv .2))
+loop-again c = (simp length-set (omega arith), simp length-set (omega arith), fill-next _ _ _ (omega arith) (c .before .loop .inv .2))
 
-same-length : tie.Need-same-length Inv-loop μ-loop
-same-length c = search needs
-
+-- all are
 returns : tie.Need-returns Inv-loop μ-loop
 returns c =
-    let l = c .before .loop in
-    filled (c .before .before .args .state .now) _ (l .i) (l .inv .2) (omega arith)
+    let loop = c .before .loop in
+    filled (c .before .before .args .state .now) _ (loop .i) (loop .inv .2) (omega arith)
 
 pub clear-spec : {M : Type 1} → statement M
 clear-spec =
     tie.close
-    (tie.spec
-    Inv-loop
-    μ-loop
-    loop-holds
-    mul-state
-    slice-write-state
-    add-i
-    loop-less
-    loop-again
-    same-length
-    returns)
+    (tie.spec Inv-loop μ-loop
+    (λ c. (search needs, search needs, fill-none _ 0)) mul-state (λ c. search needs) (λ c. search needs) (λ c. simp length-set (omega arith)) loop-again
+    (λ c. search needs) returns)

@@ -1,0 +1,48 @@
+-- `finding::find_message` meets its contract: the walk stands at a context and none before it is the one. The contexts that are left fall.
+use Prim.Native.Nat.{_≤_, _-_}
+use mathlib.Core.Path.{sym, _∙_}
+use borrow.Author.Needs.{needs}
+use Rattle.lists.proofs.First.{Passed, first-next, first-found, first-none}
+use Rattle.contexts.specs.State.{closedMessage, messageContexts, messageContext, isOfMessage}
+use Rattle.contexts.specs.Words.{stateOf}
+use Rattle.contexts.proofs.Words.{eight}
+use Rattle.finding.proofs.find_message.Statement.{statement}
+use Rattle.finding.proofs.find_message.Tie as tie
+
+abbrev Inv-loop : tie.InvT-loop
+Inv-loop state source letter mbox i₀ i = (i ≤ messageContexts) × Passed (isOfMessage source letter mbox) (stateOf state .messages) i
+
+abbrev μ-loop : tie.MeasureT-loop
+μ-loop state source letter mbox i₀ i = messageContexts - i
+
+-- this is the one
+returns : tie.Need-returns Inv-loop μ-loop
+unfolding messageContext
+returns c =
+    let at-context = c .before .before in
+    let walk = at-context .before in
+    first-found _ _ closedMessage _ (rw eight (walk .loop-test .taken)) (walk .before .loop .inv .1)
+    (rw (← at-context .message-at .ensures) (sym (c .before .is-of-message .ensures) ∙ c .if1 .taken))
+
+-- it is not
+loop-again : tie.Need-loop-again Inv-loop μ-loop
+loop-again c =
+    let at-context = c .before .before in
+    let walk = at-context .before in
+    let next = first-next _ _ closedMessage _ (rw eight (walk .loop-test .taken)) (walk .before .loop .inv .1)
+    (rw (← at-context .message-at .ensures) (sym (c .before .is-of-message .ensures) ∙ c .if1 .left)) in
+    (search needs, next)
+
+-- none is
+returns-2 : tie.Need-returns-2 Inv-loop μ-loop
+unfolding messageContext
+returns-2 c =
+    let loop = c .before .loop in
+    first-none _ _ _ _ (eight _) (loop .inv .0) (c .loop-test .left) (loop .inv .1)
+
+pub find-message-spec : {M : Type 1} → statement M
+find-message-spec =
+    tie.close
+    (tie.spec Inv-loop μ-loop
+    (λ c. search needs) (λ c κs. search needs) (λ c κs. search needs) returns
+    (λ c. search needs) (λ c. search needs) loop-again returns-2)

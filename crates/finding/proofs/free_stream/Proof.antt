@@ -1,0 +1,48 @@
+-- `finding::free_stream` meets its contract: the walk stands at a context and none before it is free. The contexts that are left fall.
+use Prim.Native.Nat.{_≤_, _-_}
+use borrow.Author.Needs.{needs}
+use borrow.Author.Tests.{eq-eqb, ne-eqb}
+use Rattle.lists.proofs.First.{Passed, first-next, first-found, first-none}
+use Rattle.contexts.specs.State.{closedStream, streamContexts, isFreeStream, freeStream}
+use Rattle.contexts.specs.Words.{stateOf}
+use Rattle.contexts.proofs.Words.{sixteen}
+use Rattle.finding.proofs.free_stream.Statement.{statement}
+use Rattle.finding.proofs.free_stream.Tie as tie
+
+abbrev Inv-loop : tie.InvT-loop
+Inv-loop state i₀ i = (i ≤ streamContexts) × Passed isFreeStream (stateOf state .streams) i
+
+abbrev μ-loop : tie.MeasureT-loop
+μ-loop state i₀ i = streamContexts - i
+
+-- this is free
+returns : tie.Need-returns Inv-loop μ-loop
+unfolding freeStream isFreeStream
+returns c =
+    let at-context = c .before .before in
+    let walk = at-context .before in
+    first-found _ _ closedStream _ (rw sixteen (walk .loop-test .taken)) (walk .before .loop .inv .1) (rw (← at-context .stream-at .ensures) (eq-eqb _ _ (c .if1 .taken)))
+
+-- it is not
+loop-again : tie.Need-loop-again Inv-loop μ-loop
+unfolding isFreeStream
+loop-again c =
+    let at-context = c .before .before in
+    let walk = at-context .before in
+    let next = first-next _ _ closedStream _ (rw sixteen (walk .loop-test .taken)) (walk .before .loop .inv .1)
+    (rw (← at-context .stream-at .ensures) (ne-eqb _ _ (c .if1 .left))) in
+    (search needs, next)
+
+-- none is
+returns-2 : tie.Need-returns-2 Inv-loop μ-loop
+unfolding freeStream
+returns-2 c =
+    let loop = c .before .loop in
+    first-none _ _ _ _ (sixteen _) (loop .inv .0) (c .loop-test .left) (loop .inv .1)
+
+pub free-stream-spec : {M : Type 1} → statement M
+free-stream-spec =
+    tie.close
+    (tie.spec Inv-loop μ-loop
+    (λ c. search needs) (λ c κs. search needs) returns
+    (λ c. search needs) (λ c. search needs) loop-again returns-2)
