@@ -45,7 +45,8 @@ pub fn read(
     response: &mut [u8],
     packet: &[u8],
 ) -> Reading
-    ensures { λ r. ⌜ ReadPromise (lent (desk (now (state .entry)) (now («stream_memory» .entry)) (now («message_memory» .entry)) (now (response .entry))) (now (packet .entry))) r (desk (now (state .exit)) (now («stream_memory» .exit)) (now («message_memory» .exit)) (now (response .exit))) ⌝ }
+    ensures { λ r. ⌜ ReadPromise (lent (desk (now (state .entry)) (now («stream_memory» .entry)) (now («message_memory» .entry)) (now (response .entry))) (now (packet .entry)))
+        r (desk (now (state .exit)) (now («stream_memory» .exit)) (now («message_memory» .exit)) (now (response .exit))) ⌝ }
 {
     let number = reading::lent_refusal(state, stream_memory, message_memory, response);
     if number != 0 {

@@ -80,7 +80,8 @@ pub fn place(
     requires { ⌜ MessageReady (now state) (now memory) (now response) (now packet) m ⌝ }
     requires { ⌜ Sound m ⌝ }
     requires { ⌜ MessageFits m n marks last ⌝ }
-    ensures { λ r. ⌜ messageJoining (said r) (stateOf (now (state .exit))) (now (memory .exit)) (now (response .exit)) ≡ messagePlaced (stateOf (now (state .entry))) (now (memory .entry)) (now (response .entry)) (now (packet .entry)) m n marks last ⌝ }
+    ensures { λ r. ⌜ messageJoining (said r) (stateOf (now (state .exit))) (now (memory .exit)) (now (response .exit))
+        ≡ messagePlaced (stateOf (now (state .entry))) (now (memory .entry)) (now (response .entry)) (now (packet .entry)) m n marks last ⌝ }
 {
     let size = sizes::bytes_of(m.ssize);
     let with_this = marks + marks::power(m.msgseg);

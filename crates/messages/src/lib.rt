@@ -23,13 +23,15 @@ fn take_alone(
 ) -> Answer
     requires { ⌜ MessageReady (now state) (now memory) (now response) (now packet) m ⌝ }
     requires { ⌜ (Sound m) × (isSingle m ≡ true) ⌝ }
-    ensures { λ r. ⌜ messageJoining (said r) (stateOf (now (state .exit))) (now (memory .exit)) (now (response .exit)) ≡ matched (stateOf (now (state .entry))) (now (memory .entry)) (now (response .entry)) (now (packet .entry)) m ⌝ }
+    ensures { λ r. ⌜ messageJoining (said r) (stateOf (now (state .exit))) (now (memory .exit)) (now (response .exit))
+        ≡ matched (stateOf (now (state .entry))) (now (memory .entry)) (now (response .entry)) (now (packet .entry)) m ⌝ }
 {
     let n = finding::free_message(state);
     if contexts::MESSAGE_CONTEXTS <= n {
         return message_rooms::refuse(response, packet, 25, responses::RETRY);
     }
     lists::store(memory, n * message_rooms::ROOM, &packet[wire::HEADER + 2..]);
+    // it was free, but a given state may have other words than 0 in it
     contexts::close_message(state, n);
     message_rooms::done(response, packet);
     Answer::Message {
@@ -52,7 +54,8 @@ fn join(
 ) -> Answer
     requires { ⌜ MessageReady (now state) (now memory) (now response) (now packet) m ⌝ }
     requires { ⌜ (Sound m) × (isSingle m ≡ false) × (found < messageContexts) × (found ≡ messageContext (stateOf (now state)) (m .source) (m .letter) (m .mbox)) ⌝ }
-    ensures { λ r. ⌜ messageJoining (said r) (stateOf (now (state .exit))) (now (memory .exit)) (now (response .exit)) ≡ matched (stateOf (now (state .entry))) (now (memory .entry)) (now (response .entry)) (now (packet .entry)) m ⌝ }
+    ensures { λ r. ⌜ messageJoining (said r) (stateOf (now (state .exit))) (now (memory .exit)) (now (response .exit))
+        ≡ matched (stateOf (now (state .entry))) (now (memory .entry)) (now (response .entry)) (now (packet .entry)) m ⌝ }
 {
     let c = contexts::message_at(state, found);
     if c.msglen != m.msglen {
@@ -77,7 +80,8 @@ fn begin(
 ) -> Answer
     requires { ⌜ MessageReady (now state) (now memory) (now response) (now packet) m ⌝ }
     requires { ⌜ (Sound m) × (isSingle m ≡ false) × (messageContexts ≤ messageContext (stateOf (now state)) (m .source) (m .letter) (m .mbox)) ⌝ }
-    ensures { λ r. ⌜ messageJoining (said r) (stateOf (now (state .exit))) (now (memory .exit)) (now (response .exit)) ≡ matched (stateOf (now (state .entry))) (now (memory .entry)) (now (response .entry)) (now (packet .entry)) m ⌝ }
+    ensures { λ r. ⌜ messageJoining (said r) (stateOf (now (state .exit))) (now (memory .exit)) (now (response .exit))
+        ≡ matched (stateOf (now (state .entry))) (now (memory .entry)) (now (response .entry)) (now (packet .entry)) m ⌝ }
 {
     let n = finding::free_message(state);
     if contexts::MESSAGE_CONTEXTS <= n {
@@ -95,7 +99,8 @@ pub fn step(
     m: MessageSegment,
 ) -> Answer
     requires { ⌜ MessageReady (now state) (now memory) (now response) (now packet) m ⌝ }
-    ensures { λ r. ⌜ messageJoining (said r) (stateOf (now (state .exit))) (now (memory .exit)) (now (response .exit)) ≡ messageStepped (stateOf (now (state .entry))) (now (memory .entry)) (now (response .entry)) (now (packet .entry)) m ⌝ }
+    ensures { λ r. ⌜ messageJoining (said r) (stateOf (now (state .exit))) (now (memory .exit)) (now (response .exit))
+        ≡ messageStepped (stateOf (now (state .entry))) (now (memory .entry)) (now (response .entry)) (now (packet .entry)) m ⌝ }
 {
     let number = rules::judge(m);
     if number != 0 {

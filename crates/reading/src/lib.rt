@@ -70,7 +70,8 @@ pub fn step(
     packet: &[u8],
 ) -> Reading
     requires { ⌜ ReadyToRead (desk (now state) (now «stream_memory») (now «message_memory») (now response)) ⌝ }
-    ensures { λ r. ⌜ ReadPromise (lent (desk (now (state .entry)) (now («stream_memory» .entry)) (now («message_memory» .entry)) (now (response .entry))) (now (packet .entry))) r (desk (now (state .exit)) (now («stream_memory» .exit)) (now («message_memory» .exit)) (now (response .exit))) ⌝ }
+    ensures { λ r. ⌜ ReadPromise (lent (desk (now (state .entry)) (now («stream_memory» .entry)) (now («message_memory» .entry)) (now (response .entry))) (now (packet .entry)))
+        r (desk (now (state .exit)) (now («stream_memory» .exit)) (now («message_memory» .exit)) (now (response .exit))) ⌝ }
 {
     let device = contexts::device(state);
     match wire::parse(packet, device) {

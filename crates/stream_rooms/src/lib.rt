@@ -76,7 +76,8 @@ pub fn place(
 ) -> StreamAnswer
     requires { ⌜ Ready (now state) (now memory) (now packet) g ⌝ }
     requires { ⌜ Fits (stateOf (now state)) g n base count ⌝ }
-    ensures { λ r. ⌜ joining (said (r .answer)) (r .dropped) (stateOf (now (state .exit))) (now (memory .exit)) ≡ placed (stateOf (now (state .entry))) (now (memory .entry)) (now (packet .entry)) g n base stream dropped ⌝ }
+    ensures { λ r. ⌜ joining (said (r .answer)) (r .dropped) (stateOf (now (state .exit))) (now (memory .exit))
+        ≡ placed (stateOf (now (state .entry))) (now (memory .entry)) (now (packet .entry)) g n base stream dropped ⌝ }
 {
     let room = contexts::room(state);
     let from = g.from;

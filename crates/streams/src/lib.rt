@@ -48,7 +48,8 @@ fn go_on(
 ) -> StreamAnswer
     requires { ⌜ Ready (now state) (now memory) (now packet) g ⌝ }
     requires { ⌜ ContinuesPDU (stateOf (now state)) g found count ⌝ }
-    ensures { λ r. ⌜ joining (said (r .answer)) (r .dropped) (stateOf (now (state .exit))) (now (memory .exit)) ≡ continued (stateOf (now (state .entry))) (now (memory .entry)) (now (packet .entry)) g ⌝ }
+    ensures { λ r. ⌜ joining (said (r .answer)) (r .dropped) (stateOf (now (state .exit))) (now (memory .exit))
+        ≡ continued (stateOf (now (state .entry))) (now (memory .entry)) (now (packet .entry)) g ⌝ }
 {
     if contexts::STREAM_CONTEXTS <= found {
         return StreamAnswer {
@@ -80,7 +81,8 @@ fn go_on(
 // A type 9 packet from row 6 on. Every caller has tested the state, the memory's size and the packet's head.
 pub fn step(state: &mut [usize], memory: &mut [u8], packet: &[u8], g: Segment) -> StreamAnswer
     requires { ⌜ Ready (now state) (now memory) (now packet) g ⌝ }
-    ensures { λ r. ⌜ joining (said (r .answer)) (r .dropped) (stateOf (now (state .exit))) (now (memory .exit)) ≡ stepped (stateOf (now (state .entry))) (now (memory .entry)) (now (packet .entry)) g ⌝ }
+    ensures { λ r. ⌜ joining (said (r .answer)) (r .dropped) (stateOf (now (state .exit))) (now (memory .exit))
+        ≡ stepped (stateOf (now (state .entry))) (now (memory .entry)) (now (packet .entry)) g ⌝ }
 {
     let flow = g.flow;
     let found = finding::find_stream(state, flow);

@@ -6,17 +6,11 @@ use Rattle.marks.proofs.Marks.{all-greatest}
 use Rattle.marks.proofs.all_marked.Statement.{statement}
 use Rattle.marks.proofs.all_marked.Tie as tie
 
-power-requires : tie.Need-power-requires
-power-requires c κs = search needs
-
-rem-result : tie.Need-rem-result
-rem-result c = rw (c .power .ensures .0) (pow-pos _)
-
-sub-result : tie.Need-sub-result
-sub-result c = rw (c .power .ensures .0) (pow-pos _)
-
 returns : tie.Need-returns
-returns c = rw (c .power .ensures .0) (sym (all-greatest (c .before .args .marks) (c .before .args .count)))
+returns c =
+    let a = c .before .args in
+    rw (c .power .ensures .0) (sym (all-greatest (a .marks) (a .count)))
 
+-- the weight is not 0
 pub all-marked-spec : {M : Type 1} → statement M
-all-marked-spec = tie.close (tie.spec power-requires rem-result sub-result returns)
+all-marked-spec = tie.close (tie.spec (λ c κs. search needs) (λ c. rw (c .power .ensures .0) (pow-pos _)) (λ c. rw (c .power .ensures .0) (pow-pos _)) returns)
