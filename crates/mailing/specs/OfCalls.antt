@@ -6,6 +6,7 @@ use lib.ListN.{length}
 use denote.Ref.{RefT, now}
 use Rattle.answers.specs.Answers.{Said, said, held, delivered, message, refused}
 use Rattle.answers.specs.declared.Reading.{Reading}
+use Rattle.responses.specs.Type13.{responseSize}
 use Rattle.reading.specs.Desk.{Desk, withResponse}
 use Rattle.reading.specs.Table.{lent}
 use Rattle.reading.specs.Read.{ReadPromise}
@@ -36,7 +37,7 @@ FetchesMail d (refused number) mail = mail ≡ []
 pub data MailCalls : Desk → List (List ℕ) → List MailCall → Type 0 where
   all-made : {d : Desk} → MailCalls d [] []
   made : {d : Desk} {p : List ℕ} {ps : List (List ℕ)} {cs : List MailCall} (given : List ℕ) (r : Reading) (left : Desk) (mail : List Mail)
-      → 7 ≤ length given
+      → responseSize ≤ length given
       → ReadPromise (lent (withResponse d given) p) r left
       → FetchesMail left (said (r .answer)) mail
       → MailCalls left ps cs
