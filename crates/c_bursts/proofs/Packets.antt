@@ -14,7 +14,7 @@ use Rattle.answers.specs.Answers.{said}
 use Rattle.contexts.specs.State.{Setup, streamContexts}
 use Rattle.reading.specs.Desk.{Desk, stateOn, withResponse}
 use Rattle.reading.specs.Table.{lent}
-use Rattle.reading.specs.Read.{Left, left, reading, ReadPromise}
+use Rattle.reading.specs.Read.{Settled, settled, reading, ReadPromise}
 use Rattle.reading.specs.Good.{StillGood}
 use Rattle.reading.specs.Inside.{Fit}
 use Rattle.reading.proofs.Kept.{stays-good}
@@ -50,11 +50,11 @@ module _ (r : Run) (ready : ReadyToRun r 1) where
 
   -- what reading left: in its memories, in its slot, and with the report beside it
   module _ (packet : List ℕ) (small : getD packet 5 0 < 256) (x : Reading) (after : Desk) (promise : ReadPromise (lent lentDesk packet) x after) where
-    as-defined : left (said (x .answer)) (x .dropped) (x .response) after ≡ readIn r packet
+    as-defined : settled (said (x .answer)) (x .dropped) (x .response) after ≡ readIn r packet
     as-defined = promise ∙ ap (λ (s : List ℕ). reading (lent (withResponse (r .desk) s) packet)) slot-is
 
     still-good : StillGood (stateOn (r .desk)) (after .words)
-    still-good = rw (ap (λ (l : Left). l .desk .words) as-defined) (stays-good (lentIn r packet) (ready .fit .whole) (ready .fit .good) small)
+    still-good = rw (ap (λ (l : Settled). l .desk .words) as-defined) (stays-good (lentIn r packet) (ready .fit .whole) (ready .fit .good) small)
 
     module _ (streams : length (after .streamMemory) ≡ length (r .desk .streamMemory)) (messages : length (after .messageMemory) ≡ length (r .desk .messageMemory)) where
       still-fit : (response : List ℕ) → Fit (withResponse after response)
@@ -74,6 +74,6 @@ module _ (r : Run) (ready : ReadyToRun r 1) where
             (put-back (r .desk .response) (after .response) (slotBytes * r .count) size (slot ∙ slot-length ∙ sym size-is))
             (f ∙ ap (λ (w : Report). written (r .reports) (reportWords * r .count) (wordsOfReport w)) e)
             ∙ ap (answersPlaced r (r .next)) as-defined;
-        reported = ap (λ (w : Report). w .kind) e ∙ ap (λ (l : Left). reportFor l .kind) as-defined;
+        reported = ap (λ (w : Report). w .kind) e ∙ ap (λ (l : Settled). reportFor l .kind) as-defined;
         fit = still-fit _;
       }

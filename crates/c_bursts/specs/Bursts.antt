@@ -9,7 +9,7 @@ use Rattle.lists.specs.Bytes.{written}
 use Rattle.tables.specs.Refusals.{Verdict, refuse, accept, verdict}
 use Rattle.reading.specs.Desk.{Desk, withResponse}
 use Rattle.reading.specs.Table.{Lent, lent, lentRows}
-use Rattle.reading.specs.Read.{Left, reading}
+use Rattle.reading.specs.Read.{Settled, reading}
 use Rattle.log_records.specs.declared.Next.{Next}
 use Rattle.log_records.specs.declared.Next.the-variants.{Record, End, Bad}
 use Rattle.log_records.specs.Records.{nextRecord}
@@ -43,15 +43,15 @@ abbrev pub lentIn : Run → List ℕ → Lent
 lentIn r packet = lent (withResponse (r .desk) (slot (r .desk .response) (r .count))) packet
 
 -- what reading it answers and leaves, as the call for one packet
-abbrev pub readIn : Run → List ℕ → Left
+abbrev pub readIn : Run → List ℕ → Settled
 readIn r packet = reading (lentIn r packet)
 
 -- the report of what reading a packet answers
-abbrev pub reportFor : Left → Report
+abbrev pub reportFor : Settled → Report
 reportFor x = reportOf (x .says) (x .dropped) (x .replied)
 
 -- the packet is read: its response stands in its slot, its report in its own words
-abbrev pub answersPlaced : Run → ℕ → Left → Run
+abbrev pub answersPlaced : Run → ℕ → Settled → Run
 answersPlaced r next x =
     run
     (withResponse (x .desk) (written (r .desk .response) (slotBytes * r .count) (x .desk .response)))

@@ -65,11 +65,11 @@ after-answer x d {fetched = fetched} = subst (λ (says : Said). Fetches d says f
 
 are-reads : {d : Desk} {ps : List (List ℕ)} {ds : List Delivery} → ReadsFromC d ps ds → Reads d ps ds
 are-reads no-more = stop
-are-reads (one-more {d = d} {left = left} {p = p} {fetched = fetched} r given enough promise fetch calls) =
+are-reads (one-more {d = d} {next = next} {p = p} {fetched = fetched} r given enough promise fetch calls) =
     let x : Lent = lent (withResponse d given) p in
-    let fetch′ = fetched-from-c left (left .response) (reading x .says) (reading x .dropped) (reading x .replied) (subst (λ (q : Report). FetchesFromC left q fetched) (promise .report) fetch) in
-    let kept : ReadPromise x (answered-by x) left = rw (promise .desk) (promised x) in
-    call (answered-by x) given enough kept (after-answer x left fetch′) (are-reads calls)
+    let fetch′ = fetched-from-c next (next .response) (reading x .says) (reading x .dropped) (reading x .replied) (subst (λ (q : Report). FetchesFromC next q fetched) (promise .report) fetch) in
+    let kept : ReadPromise x (answered-by x) next = rw (promise .desk) (promised x) in
+    call (answered-by x) given enough kept (after-answer x next fetch′) (are-reads calls)
 
 pub calls-from-c-are-reads : CallsFromCAreReads
 calls-from-c-are-reads d ps ds reads = are-reads reads

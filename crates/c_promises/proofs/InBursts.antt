@@ -22,7 +22,7 @@ use Rattle.reading.specs.Desk.{Desk, desk, stateOn}
 use Rattle.reading.specs.Table.{Lent, isState, wrongSizes, lentRows}
 use Rattle.reading.specs.Read.{reading}
 use Rattle.reading.proofs.Kept.{room-kept}
-use Rattle.reading.proofs.Left.{sizes-fit}
+use Rattle.reading.proofs.Laws.{sizes-fit}
 use Rattle.reading.proofs.Spoken.{answered-by, promised}
 use Rattle.endpoint.specs.Calls.{SetupPromise}
 use Rattle.c_reports.specs.declared.Report.{Report}

@@ -110,11 +110,11 @@ pub data FetchesFromC (d : Desk) (r : Report) : List Delivery → Type 0 where
 -- calls of `kaiverohm_read`, one for each packet, as `Reads` (demands/specs/Calls.antt); and what is fetched after their reports
 pub data ReadsFromC : Desk → List (List ℕ) → List Delivery → Type 0 where
   no-more : {d : Desk} → ReadsFromC d [] []
-  one-more : {d left : Desk} {p : List ℕ} {ps : List (List ℕ)} {fetched ds : List Delivery} (r : Report) (given : List ℕ)
+  one-more : {d next : Desk} {p : List ℕ} {ps : List (List ℕ)} {fetched ds : List Delivery} (r : Report) (given : List ℕ)
       → responseSize ≤ length given
-      → ReadFromCPromise (lent (withResponse d given) p) r left
-      → FetchesFromC left r fetched
-      → ReadsFromC left ps ds
+      → ReadFromCPromise (lent (withResponse d given) p) r next
+      → FetchesFromC next r fetched
+      → ReadsFromC next ps ds
       → ReadsFromC d (p ∷ ps) (fetched ++ ds)
 
 abbrev pub CallsFromCAreReads : Type 0

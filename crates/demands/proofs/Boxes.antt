@@ -17,8 +17,8 @@ use Rattle.wire.specs.declared.MessageSegment.{MessageSegment}
 use Rattle.wire.specs.Type11.{messageOf, isSingle, mailbox}
 use Rattle.sizes.specs.Sizes.{bytesOf}
 use Rattle.sizes.proofs.Laws.{bytes-le}
-use Rattle.rules.specs.Messages.{reservedSize, badLength, pastLast, judged, lastWith}
-use Rattle.rules.proofs.Laws.{sound, last-with-le}
+use Rattle.rules.specs.Messages.{formRows, lastWith}
+use Rattle.rules.proofs.Laws.{raw-le, last-with-le}
 use Rattle.contexts.specs.State.{Setup, State, freeMessage, messageIn, messageContext}
 use Rattle.contexts.proofs.Words.{eight}
 use Rattle.refusal19.proofs.Good.{good, message-found}
@@ -31,7 +31,7 @@ use Rattle.messages.specs.Joining as message
 use Rattle.messages.proofs.Laws.{last-le}
 use Rattle.streams.specs.Rows.{streamRows}
 use Rattle.reading.specs.Table.{Lent, stateIn, segmentIn, messageSegmentIn, lentRows, table}
-use Rattle.reading.specs.Read.{Left, ofStream, ofMessage, leaving, accepting, outcome, reading}
+use Rattle.reading.specs.Read.{Settled, ofStream, ofMessage, refusing, accepting, outcome, reading}
 use Rattle.reading.specs.Good.{StillGood}
 use Rattle.lists.proofs.Tests.{by-test}
 use Rattle.reading.proofs.Kept.{stays-good, other-type}
@@ -49,7 +49,7 @@ held-none : NoMessage answers.held
 held-none context source letter box size e = let z : _≡_ {A = ℕ} 0 1 = cc in omega arith
 
 -- refused, nothing is delivered
-leaving-none : (x : Lent) (number : ℕ) (leaves : Leaves) → NoMessage (leaving x number leaves .says)
+leaving-none : (x : Lent) (number : ℕ) (leaves : Leaves) → NoMessage (refusing x number leaves .says)
 unfolding stream.refusedClosing
 leaving-none x number all = refused-none number
 leaving-none x number flowClosed = refused-none number
@@ -92,27 +92,22 @@ module _ (x : Lent) (passed : none (table x)) (eleven : is11 (x .packet) ≡ tru
   unfolding messageOf
   data-length = length-drop 7 (x .packet)
 
-  -- rows 20 to 22
-  raw-le : m .raw ≤ bytesOf (m .ssize)
-  unfolding table lentRows headRows given streamRows messageRows judged
-  raw-le =
-      let row-20 : reservedSize m ≡ false = of-type (is11 (x .packet)) _ eleven (row-passed 20 (table x) passed) in
-      let row-21 : badLength m ≡ false = of-type (is11 (x .packet)) _ eleven (row-passed 21 (table x) passed) in
-      let row-22 : pastLast m ≡ false = of-type (is11 (x .packet)) _ eleven (row-passed 22 (table x) passed) in
-      sound m (rw (row-20, row-21, row-22)) .fits
+  row-21 : m .raw ≤ bytesOf (m .ssize)
+  unfolding table lentRows headRows given streamRows messageRows formRows
+  row-21 = raw-le m (of-type (is11 (x .packet)) _ eleven (row-passed 21 (table x) passed))
 
   row-25 : neededNoneFree s m ≡ false
-  unfolding table lentRows headRows given streamRows messageRows
+  unfolding table lentRows headRows given streamRows messageRows formRows
   row-25 = of-type (is11 (x .packet)) _ eleven (row-passed 25 (table x) passed)
 
   alone-in : (n : ℕ) → n < 8 → InBox (message.deliveredAtOnce s memory (x .desk .response) (x .packet) m n)
   unfolding message.deliveredAtOnce
   alone-in n below = record {
-    size-kept = length-written memory (boxes.messageData (x .packet)) (n * 4096) (omega (arith, data-length, raw-le, bytes-le (m .ssize), size-is)) ∙ size-is;
+    size-kept = length-written memory (boxes.messageData (x .packet)) (n * 4096) (omega (arith, data-length, row-21, bytes-le (m .ssize), size-is)) ∙ size-is;
     delivers = λ context source letter box size e.
         let same-context : n ≡ context = cc in
         let same-size : m .raw ≡ size = cc in
-        (omega arith, omega (arith, raw-le, bytes-le (m .ssize)));
+        (omega arith, omega (arith, row-21, bytes-le (m .ssize)));
   }
 
   placed-in : (n marks last : ℕ) → n < 8 → last ≤ 256 → InBox (boxes.messagePlaced s memory (x .desk .response) (x .packet) m n marks last)
@@ -120,7 +115,7 @@ module _ (x : Lent) (passed : none (table x)) (eleven : is11 (x .packet) ≡ tru
   placed-in n marks last below short = record {
     size-kept =
         length-written memory (boxes.messageData (x .packet)) (n * 4096 + m .msgseg * bytesOf (m .ssize))
-        (omega (arith, data-length, size-is, segment-ends n (m .msgseg) (bytesOf (m .ssize)) (m .raw) below (few .1) (bytes-le (m .ssize)) raw-le)) ∙ size-is;
+        (omega (arith, data-length, size-is, segment-ends n (m .msgseg) (bytesOf (m .ssize)) (m .raw) below (few .1) (bytes-le (m .ssize)) row-21)) ∙ size-is;
     delivers = λ context source letter box size. go (boxes.complete m (boxes.marksWith m marks)) context source letter box size;
   }
     where
@@ -128,7 +123,7 @@ module _ (x : Lent) (passed : none (table x)) (eleven : is11 (x .packet) ≡ tru
       total = m .msglen * bytesOf (m .ssize) + lastWith m last
 
       total-le : total ≤ 4096
-      total-le = omega (arith, product-le (m .msglen) (bytesOf (m .ssize)) (few .0) (bytes-le (m .ssize)), last-with-le m last short (omega (arith, raw-le, bytes-le (m .ssize))))
+      total-le = omega (arith, product-le (m .msglen) (bytesOf (m .ssize)) (few .0) (bytes-le (m .ssize)), last-with-le m last short (omega (arith, row-21, bytes-le (m .ssize))))
 
       go : (t : Bool) (context source letter box size : ℕ) → cond t (answers.message n (m .source) (m .letter) (mailbox m) total) answers.held ≡ answers.message context source letter box size
           → (context < 8) × (size ≤ 4096)

@@ -7,7 +7,7 @@ use lib.ListN.{length}
 use Rattle.answers.specs.Answers.{Said, held, delivered, message, refused, said}
 use Rattle.reading.specs.Desk.{Desk, withResponse}
 use Rattle.reading.specs.Table.{lent}
-use Rattle.reading.specs.Read.{Left, left, butResponse}
+use Rattle.reading.specs.Read.{Settled, settled, butResponse}
 use Rattle.reading.proofs.Response.{response-decides-nothing, response-length}
 use Rattle.flows.specs.OneFlow.{pdu}
 use Rattle.flows.specs.Deliveries.{Delivery, delivery, read, after, deliveredOn, deliveries}
@@ -27,15 +27,15 @@ fetched-is-delivered d p fetched f = go (read d p .says) refl fetched f
 -- with any response buffer of the desk's own
 calls-deliver-with : {d : Desk} {ps : List (List ℕ)} {ds : List Delivery} → Reads d ps ds → (own : List ℕ) → 7 ≤ length own → ds ≡ deliveries (withResponse d own) ps
 calls-deliver-with stop own h = refl
-calls-deliver-with (call {d = d} {left = to} {p = p} {ps = ps} {fetched = fetched} {ds = ds} r given g promise fetch rest) own h =
+calls-deliver-with (call {d = d} {next = to} {p = p} {ps = ps} {fetched = fetched} {ds = ds} r given g promise fetch rest) own h =
     let onward : List ℕ = after (withResponse d own) p .response in
     let later : ds ≡ deliveries (withResponse to onward) ps = calls-deliver-with rest onward (omega (arith, response-length (lent (withResponse d own) p) h, h)) in
     let now-delivered : fetched ≡ deliveredOn to (said (r .answer)) =
-    subst (λ (l : Left). Fetches (l .desk) (l .says) fetched → fetched ≡ deliveredOn (l .desk) (l .says)) (sym promise) (fetched-is-delivered (withResponse d given) p fetched) fetch in
-    let alike : butResponse (left (said (r .answer)) (r .dropped) (r .response) to) ≡ butResponse (read (withResponse d own) p) =
+    subst (λ (l : Settled). Fetches (l .desk) (l .says) fetched → fetched ≡ deliveredOn (l .desk) (l .says)) (sym promise) (fetched-is-delivered (withResponse d given) p fetched) fetch in
+    let alike : butResponse (settled (said (r .answer)) (r .dropped) (r .response) to) ≡ butResponse (read (withResponse d own) p) =
     ap butResponse promise ∙ response-decides-nothing (d .words) (d .streamMemory) (d .messageMemory) given own p (omega (arith, g)) h in
     ap₂ (λ (l m : List Delivery). l ++ m) now-delivered later
-    ∙ ap (λ (l : Left). deliveredOn (l .desk) (l .says) ++ deliveries (withResponse (l .desk) onward) ps) alike
+    ∙ ap (λ (l : Settled). deliveredOn (l .desk) (l .says) ++ deliveries (withResponse (l .desk) onward) ps) alike
 
 pub calls-deliver : CallsDeliver
 calls-deliver d ps ds h reads = calls-deliver-with reads (d .response) h

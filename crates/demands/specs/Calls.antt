@@ -35,10 +35,10 @@ pub data Fetches (d : Desk) : Said → List Delivery → Type 0 where
 -- each outcome one that its promise allows; and after it what the caller fetches. The desk's own response buffer is lent only where the caller does so
 pub data Reads : Desk → List (List ℕ) → List Delivery → Type 0 where
   stop : {d : Desk} → Reads d [] []
-  call : {d left : Desk} {p : List ℕ} {ps : List (List ℕ)} {fetched ds : List Delivery} (r : Reading) (given : List ℕ) → responseSize ≤ length given
-      → ReadPromise (lent (withResponse d given) p) r left
-      → Fetches left (said (r .answer)) fetched
-      → Reads left ps ds
+  call : {d next : Desk} {p : List ℕ} {ps : List (List ℕ)} {fetched ds : List Delivery} (r : Reading) (given : List ℕ) → responseSize ≤ length given
+      → ReadPromise (lent (withResponse d given) p) r next
+      → Fetches next (said (r .answer)) fetched
+      → Reads next ps ds
       → Reads d (p ∷ ps) (fetched ++ ds)
 
 -- what is fetched is what the definitions say is delivered, whatever the desk

@@ -11,7 +11,7 @@ use Rattle.wire.specs.declared.Flow.{Flow}
 use Rattle.wire.specs.Type9.{isS}
 use Rattle.contexts.specs.State.{Setup}
 use Rattle.reading.specs.Desk.{Desk, withStreams}
-use Rattle.reading.specs.Read.{left}
+use Rattle.reading.specs.Read.{settled}
 use Rattle.cutting.specs.declared.Heading.{Heading}
 use Rattle.flows.specs.Deliveries.{Endpoint, read, after}
 use Rattle.flows.specs.Fresh.{Fresh}
@@ -36,7 +36,7 @@ StoresOnlyStarts e = (d : Desk) (p : List ℕ) → e d p .desk .streamMemory ≡
 -- the one of them that answers and counts as ours does
 abbrev pub countMover : Endpoint
 countMover d p =
-    left (read d p .says) (read d p .dropped) (read d p .replied)
+    settled (read d p .says) (read d p .dropped) (read d p .replied)
     (withStreams (after d p) (after d p .words) (cond (isS p) (after d p .streamMemory) (d .streamMemory)))
 
 -- it invents the length: all is as ours but the length of what is delivered, which it takes from anywhere
@@ -47,7 +47,7 @@ resized (message context source letter mailbox size) n = message context source 
 resized (refused number) n = refused number
 
 abbrev pub inventor : (Desk → List ℕ → ℕ) → Endpoint
-inventor size d p = left (resized (read d p .says) (size d p)) (read d p .dropped) (read d p .replied) (after d p)
+inventor size d p = settled (resized (read d p .says) (size d p)) (read d p .dropped) (read d p .replied) (after d p)
 
 -- it keeps the context after 11, so that a later end can complete it
 abbrev pub keptAfter : Said → List ℕ → List ℕ → List ℕ
@@ -58,7 +58,7 @@ keptAfter (message context source letter mailbox size) before now = now
 
 abbrev pub keeper : Endpoint
 keeper d p =
-    left (read d p .says) (read d p .dropped) (read d p .replied)
+    settled (read d p .says) (read d p .dropped) (read d p .replied)
     (withStreams (after d p) (keptAfter (read d p .says) (d .words) (after d p .words)) (after d p .streamMemory))
 
 -- a writer that does nothing, whatever it says

@@ -14,7 +14,7 @@ use Rattle.contexts.proofs.Words.{sixteen, state-of, length-words}
 use Rattle.refusal19.proofs.Kept.{fresh-good}
 use Rattle.refusal19.specs.Refusal19.{namedBy19}
 use Rattle.refusal19.proofs.Good.{good, stream-holds}
-use Rattle.reading.specs.Read.{Left}
+use Rattle.reading.specs.Read.{Settled}
 use Rattle.reading.specs.Good.{StillGood}
 use Rattle.reading.specs.Desk.{Desk, stateOn}
 use Rattle.flows.specs.Deliveries.{viewOf, view}
@@ -55,7 +55,7 @@ module _ {setup : Setup} {flows : List Flow} {b : Desk} (f : Fine setup flows b)
   }
 
   -- what is left is fine too, where the state is still good, the sizes stay, and the contexts are as they should be
-  pub still-fine : (y : Left) → StillGood (stateOn b) (y .desk .words) → length (y .desk .streamMemory) ≡ length (b .streamMemory) → length (y .desk .messageMemory) ≡ length (b .messageMemory)
+  pub still-fine : (y : Settled) → StillGood (stateOn b) (y .desk .words) → length (y .desk .streamMemory) ≡ length (b .streamMemory) → length (y .desk .messageMemory) ≡ length (b .messageMemory)
       → length (y .desk .response) ≡ length (b .response) → Once (stateOf (y .desk .words) .streams) → Inside flows (stateOf (y .desk .words) .streams) → Fine setup flows (y .desk)
   still-fine y g streams messages response once inside = record {
     whole = g .whole;

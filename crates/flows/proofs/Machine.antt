@@ -20,18 +20,18 @@ use Rattle.contexts.specs.State.{Setup, State}
 use Rattle.contexts.specs.Words.{stateOf, wordsOf}
 use Rattle.contexts.proofs.Words.{sixteen, eight, state-of}
 use Rattle.stream_rooms.specs.Placing as streamRoom
-use Rattle.streams.specs.Step as streamStep
+use Rattle.streams.specs.Joining as streamStep
 use Rattle.streams.proofs.Laws.{data-le}
 use Rattle.message_rooms.specs.Placing as messageRoom
-use Rattle.messages.specs.Step as messageStep
+use Rattle.messages.specs.Joining as messageStep
 use Rattle.reading.specs.Desk.{Desk, stateOn}
 use Rattle.reading.specs.Table.{lent}
-use Rattle.reading.specs.Read.{Left, ofStream, ofMessage}
+use Rattle.reading.specs.Read.{Settled, ofStream, ofMessage}
 use Rattle.reading.specs.Good.{StillGood}
 use Rattle.reading.proofs.Rows.{byParsed, by-packet}
 use Rattle.reading.proofs.Packets.{stream-parsed, message-parsed, message-small}
 use Rattle.reading.proofs.Kept.{stays-good}
-use Rattle.reading.proofs.Left.{sizes-right}
+use Rattle.reading.proofs.Laws.{sizes-right}
 use Rattle.flows.specs.OneFlow.{PDU, flowStep}
 use Rattle.flows.specs.Deliveries.{read, deliveredBy, viewOf, view}
 use Rattle.flows.specs.ByFlow.{among, Tells, OwnFlow, NoFlow, ByFlow}
@@ -84,18 +84,18 @@ module _ (setup : Setup) (flows : List Flow) (b : Desk) (p : List ℕ) (f : Fine
     left-fine : Fine setup flows (ofStream (lent b p) j .desk)
     left-fine =
         let contexts : (P : List StreamContext → Type 0) → P (j .state .streams) → P (stateOf (wordsOf (j .state)) .streams) = λ P h. subst (λ (t : State). P (t .streams)) (sym back) h in
-        still-fine f (ofStream (lent b p) j) (subst (λ (y : Left). StillGood s (y .desk .words)) leaves still-good)
+        still-fine f (ofStream (lent b p) j) (subst (λ (y : Settled). StillGood s (y .desk .words)) leaves still-good)
         (sim .leaves .sound .rooms ∙ sym (rooms-on f)) refl refl (contexts Once (sim .leaves .sound .once)) (contexts (Inside flows) (sim .leaves .sound .inside))
 
     -- by the state's own MTU and R
     own-flow : OwnFlow (Fine setup flows) (s .setup) b p g
     own-flow = record {
-      ok = subst (λ (y : Left). Fine setup flows (y .desk)) (sym leaves) left-fine;
-      own = ap (λ (y : Left). view (y .desk) (g .flow)) leaves ∙ (view-left (g .flow) ∙ sim .leaves .own-is);
-      others = λ k ne. ap (λ (y : Left). view (y .desk) k) leaves ∙ (view-left k ∙ (sim .leaves .others k (same-false k (g .flow) ne) ∙ sym (view-is b k)));
+      ok = subst (λ (y : Settled). Fine setup flows (y .desk)) (sym leaves) left-fine;
+      own = ap (λ (y : Settled). view (y .desk) (g .flow)) leaves ∙ (view-left (g .flow) ∙ sim .leaves .own-is);
+      others = λ k ne. ap (λ (y : Settled). view (y .desk) k) leaves ∙ (view-left k ∙ (sim .leaves .others k (same-false k (g .flow) ne) ∙ sym (view-is b k)));
       tells =
-          subst (λ (y : Left). Tells (s .setup .room) (y .desk .streamMemory) (g .flow) (y .says) (flowStep (s .setup) (view b (g .flow)) g (streamRoom.dataOf p g) .told)) (sym leaves) (sim .tells);
-      drops = ap (λ (y : Left). y .dropped) leaves ∙ sim .drops;
+          subst (λ (y : Settled). Tells (s .setup .room) (y .desk .streamMemory) (g .flow) (y .says) (flowStep (s .setup) (view b (g .flow)) g (streamRoom.dataOf p g) .told)) (sym leaves) (sim .tells);
+      drops = ap (λ (y : Settled). y .dropped) leaves ∙ sim .drops;
     }
 
     by-stream : OwnFlow (Fine setup flows) setup b p g
@@ -128,14 +128,14 @@ module _ (setup : Setup) (flows : List Flow) (b : Desk) (p : List ℕ) (f : Fine
     message-fine : Fine setup flows (ofMessage (lent b p) k .desk)
     message-fine =
         let same : stateOf (wordsOf (k .state)) .streams ≡ s .streams = ap (λ (t : State). t .streams) message-back ∙ quiet .same-streams in
-        still-fine f (ofMessage (lent b p) k) (subst (λ (y : Left). StillGood s (y .desk .words)) message-leaves still-good)
+        still-fine f (ofMessage (lent b p) k) (subst (λ (y : Settled). StillGood s (y .desk .words)) message-leaves still-good)
         refl (quiet .boxes) (quiet .reply) (subst Once (sym same) (f .once)) (subst (Inside flows) (sym same) (f .inside))
 
     by-message : NoFlow (Fine setup flows) setup b p
     by-message = record {
-      ok = subst (λ (y : Left). Fine setup flows (y .desk)) (sym message-leaves) message-fine;
-      views = λ x. ap (λ (y : Left). view (y .desk) x) message-leaves ∙ message-view x;
-      tells = ap (λ (y : Left). deliveredBy (setup .room) (y .desk .streamMemory) (y .says)) message-leaves ∙ quiet .tells (setup .room) (b .streamMemory);
+      ok = subst (λ (y : Settled). Fine setup flows (y .desk)) (sym message-leaves) message-fine;
+      views = λ x. ap (λ (y : Settled). view (y .desk) x) message-leaves ∙ message-view x;
+      tells = ap (λ (y : Settled). deliveredBy (setup .room) (y .desk .streamMemory) (y .says)) message-leaves ∙ quiet .tells (setup .room) (b .streamMemory);
     }
 
   -- ---- a packet that rows 1 to 5 refuse
@@ -143,9 +143,9 @@ module _ (setup : Setup) (flows : List Flow) (b : Desk) (p : List ℕ) (f : Fine
   by-refused number e =
       let same : read b p ≡ byParsed (lent b p) (Refused number) = read-is (Refused number) e in
       record {
-        ok = subst (λ (y : Left). Fine setup flows (y .desk)) (sym same) f;
-        views = λ x. ap (λ (y : Left). view (y .desk) x) same;
-        tells = ap (λ (y : Left). deliveredBy (setup .room) (y .desk .streamMemory) (y .says)) same;
+        ok = subst (λ (y : Settled). Fine setup flows (y .desk)) (sym same) f;
+        views = λ x. ap (λ (y : Settled). view (y .desk) x) same;
+        tells = ap (λ (y : Settled). deliveredBy (setup .room) (y .desk .streamMemory) (y .says)) same;
       }
 
 pub by-flow : (setup : Setup) (flows : List Flow) → length flows ≤ 16 → ByFlow setup flows (Fine setup flows)

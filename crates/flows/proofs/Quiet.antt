@@ -5,22 +5,21 @@ use mathlib.Core.Path.{_≡_, refl, ap, sym, _∙_}
 use mathlib.Core.Bool.{Bool, true, false, cond, not, _&&_}
 use mathlib.Core.List.{List, []}
 use lib.ListN.{length, length-drop, length-set}
-use lib.Dec.{eqb, ltb}
-use borrow.Author.Tests.{ltb-true, eqb-true, not-false}
+use lib.Dec.{ltb}
+use borrow.Author.Tests.{ltb-true, not-false}
 use Rattle.lists.proofs.Written.{length-written}
 use Rattle.answers.specs.Answers as answers
 use Rattle.wire.specs.declared.MessageSegment.{MessageSegment}
 use Rattle.sizes.specs.Sizes.{bytesOf}
 use Rattle.wire.specs.Type11.{messageDataFrom, isSingle, mailbox}
-use Rattle.responses.specs.Type13.{responseSize, ERROR, RETRY}
+use Rattle.responses.specs.Type13.{responseSize}
 use Rattle.sizes.proofs.Laws.{bytes-le}
-use Rattle.rules.specs.Messages.{judged, lastWith}
-use Rattle.rules.proofs.Laws.{sound}
+use Rattle.rules.specs.Messages.{lastWith}
 use Rattle.contexts.specs.State.{State, freeMessage}
-use Rattle.messages.specs.Rows.{messageFound, messageOpen, otherMessage, alreadyMarked, neededNoneFree}
+use Rattle.messages.specs.Rows.{messageFound, messageOpen, neededNoneFree}
 use Rattle.message_rooms.specs.Placing.{MessageJoined, messageData, marksWith, complete, messagePlaced}
-use Rattle.messages.specs.Joining.{deliveredAtOnce, messageAccepted}
-use Rattle.messages.specs.Step.{refusedWith, matched, messageStepped}
+use Rattle.messages.specs.Joining.{deliveredAtOnce, messageAccepted, refusedWith, messageStepped}
+use Rattle.messages.proofs.Laws.{step-cases}
 use Rattle.message_rooms.proofs.Laws.{segment-ends}
 use Rattle.lists.proofs.Tests.{by-test}
 use Rattle.reading.proofs.Response.{length-answered}
@@ -101,14 +100,5 @@ module _ (s : State) (memory response p : List ℕ) (m : MessageSegment)
       (λ o. rw (t, o) (quiet-placed fits (messageFound s m) (ltb-true (messageFound s m) 8 o) _ _))
       (λ o. rw (t, o) (quiet-placed fits (freeMessage s) (free-there s m e o) 0 0)))
 
-  quiet-matched : m .raw ≤ bytesOf (m .ssize) → Quiet s memory response (matched s memory response p m)
-  unfolding matched
-  quiet-matched fits =
-      by-test (otherMessage s m) (λ a. rw a (quiet-refused 23 ERROR))
-      (λ a. by-test (alreadyMarked s m) (λ b. rw (a, b) (quiet-refused 24 ERROR))
-      (λ b. by-test (neededNoneFree s m) (λ d. rw (a, b, d) (quiet-refused 25 RETRY)) (λ d. rw (a, b, d) (quiet-accepted fits d))))
-
   pub quiet-stepped : Quiet s memory response (messageStepped s memory response p m)
-  unfolding messageStepped
-  quiet-stepped =
-      by-test (eqb (judged m) 0) (λ a. rw a (quiet-matched (sound m (eqb-true (judged m) 0 a) .fits))) (λ a. rw a (quiet-refused (judged m) ERROR))
+  quiet-stepped = step-cases s memory response p m (Quiet s memory response) quiet-refused quiet-accepted

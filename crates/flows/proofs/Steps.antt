@@ -22,9 +22,8 @@ use Rattle.refusal19.proofs.Good.{good}
 use Rattle.streams.specs.Rows.{foundFor, missized}
 use Rattle.streams.specs.Joining as stream
 use Rattle.stream_rooms.specs.Placing as streamRoom
-use Rattle.streams.specs.Step as step
 use Rattle.streams.specs.Inside.{Passed}
-use Rattle.streams.proofs.Laws.{size-le, passed, begin-own, begin-free, go-closed, go-passes, go-differs, go-placed, step-begins, step-continues}
+use Rattle.streams.proofs.Laws.{size-le, passed, by-rows, begin-own, begin-free, go-closed, go-passes, go-differs, go-placed}
 use Rattle.lists.proofs.Tests.{by-test}
 use Rattle.flows.specs.OneFlow.{PDU, pdu, held, delivered, refused, FlowOutcome, flowOutcome, isOpen, flowRefused, flowJoined, flowStep}
 use Rattle.flows.specs.Deliveries.{inRoom, delivery}
@@ -120,16 +119,15 @@ module _ (flows : List Flow) (s : State) (memory p : List ℕ) (g : Segment) (ok
   sim-staying v = record { leaves = record { sound = ok; own-is = v; others = λ l ne. refl }; tells = refl; drops = refl; same-room = refl; same-messages = refl }
 
   -- a closing refusal by the code's tests
-  closing-6 : malformed g ≡ true → step.stepped s memory p g ≡ stream.refusedClosing s memory g 6
-  unfolding step.stepped
-  closing-6 d = rw d
+  closing-6 : malformed g ≡ true → stream.stepped s memory p g ≡ stream.refusedClosing s memory g 6
+  closing-6 d = by-rows s memory p g ∙ rw d
 
-  closing-7 : malformed g ≡ false → wrongSize (g .ends) (dataLength g) (s .setup .mtu) ≡ true → step.stepped s memory p g ≡ stream.refusedClosing s memory g 7
-  unfolding step.stepped missized
-  closing-7 d e = rw (d, e)
+  closing-7 : malformed g ≡ false → wrongSize (g .ends) (dataLength g) (s .setup .mtu) ≡ true → stream.stepped s memory p g ≡ stream.refusedClosing s memory g 7
+  unfolding missized
+  closing-7 d e = by-rows s memory p g ∙ rw (d, e)
 
   abbrev Stepped : Option PDU → Type 0
-  Stepped before = Sim flows s memory g (step.stepped s memory p g) (flowStep (s .setup) before g (streamRoom.dataOf p g))
+  Stepped before = Sim flows s memory g (stream.stepped s memory p g) (flowStep (s .setup) before g (streamRoom.dataOf p g))
 
   module _ (few : length flows ≤ 16) (fine : namedBy19 s ≡ false) where
     sim-6 : (before : Option PDU) → ltb (own (s .streams) (g .flow)) 16 ≡ isOpen before → malformed g ≡ true → Stepped before
@@ -149,7 +147,7 @@ module _ (flows : List Flow) (s : State) (memory p : List ℕ) (g : Segment) (ok
 
         -- the code's facts on the packet
         now : Passed s g (foundFor s g) (dataLength g)
-        now = passed s g {count = dataLength g} {mtu = s .setup .mtu} refl refl {found = foundFor s g} refl e
+        now = passed s g {count = dataLength g} {mtu = s .setup .mtu} refl refl {found = foundFor s g} d refl e
 
         sim-begins : (before : Option PDU) → Own (s .streams) (g .flow) → ltb (own (s .streams) (g .flow)) 16 ≡ isOpen before → g .begins ≡ true → Stepped before
         unfolding flowContext freeStream
@@ -158,7 +156,7 @@ module _ (flows : List Flow) (s : State) (memory p : List ℕ) (g : Segment) (ok
             let lt : i < 16 = omega (arith, ok .size) in
             let opened : true ≡ isOpen before = sym (lt-ltb i 16 lt) ∙ o in
             subst₂ (λ (j : streamRoom.Joined) (x : FlowOutcome). Sim flows s memory g j x)
-            (step-begins s memory p g d {count = dataLength g} {mtu = s .setup .mtu} refl refl e t (begin-own s memory p g t now lt refl))
+            (begin-own s memory p g t now fine lt refl)
             (ap (flowJoined g (pdu (g .field) (streamRoom.dataOf p g))) opened ∙ sym (flow-begins (s .setup) g (streamRoom.dataOf p g) d e before t))
             (sim-placed i 0 (g .field) true (own-mine flows (s .setup .room) (s .streams) memory ok (g .flow)) lt start-small)
         sim-begins before (lacks q no-one) o t =
@@ -168,7 +166,7 @@ module _ (flows : List Flow) (s : State) (memory p : List ℕ) (g : Segment) (ok
             let past-all : 16 ≤ own (s .streams) (g .flow) = omega (arith, ok .size) in
             let shut : false ≡ isOpen before = sym (le-ltb (own (s .streams) (g .flow)) 16 past-all) ∙ o in
             subst₂ (λ (j : streamRoom.Joined) (x : FlowOutcome). Sim flows s memory g j x)
-            (step-begins s memory p g d {count = dataLength g} {mtu = s .setup .mtu} refl refl e t (begin-free s memory p g t now past-all {free = i} refl lt refl))
+            (begin-free s memory p g t now fine past-all {free = i} refl lt refl)
             (ap (flowJoined g (pdu (g .field) (streamRoom.dataOf p g))) shut ∙ sym (flow-begins (s .setup) g (streamRoom.dataOf p g) d e before t))
             (sim-placed i 0 (g .field) false (spare-mine flows (s .setup .room) (s .streams) memory ok (g .flow) no-one within) lt start-small)
 
@@ -187,7 +185,7 @@ module _ (flows : List Flow) (s : State) (memory p : List ℕ) (g : Segment) (ok
           unfolding flowContext
           sim-closed o =
               subst₂ (λ (j : streamRoom.Joined) (x : FlowOutcome). Sim flows s memory g j x)
-              (step-continues s memory p g d {count = dataLength g} {mtu = s .setup .mtu} refl refl e t (go-closed s memory p g t now o))
+              (go-closed s memory p g t now o)
               (sym (flow-closed (s .setup) g (streamRoom.dataOf p g) d e t))
               (sim-staying (seen-none (s .setup .room) (s .streams) memory (g .flow) o))
 
@@ -199,9 +197,8 @@ module _ (flows : List Flow) (s : State) (memory p : List ℕ) (g : Segment) (ok
             unfolding flowContext stream.refusedClosing
             sim-9 h =
                 subst₂ (λ (j : streamRoom.Joined) (x : FlowOutcome). Sim flows s memory g j x)
-                (step-continues s memory p g d {count = dataLength g} {mtu = s .setup .mtu} refl refl e t
                 (go-passes s memory p g t now lt {c = c} {room = s .setup .room} refl refl (ltb-true (s .setup .room) (c .held + dataLength g) h)
-                (record { answer = refl; drop = refl; state = refl })))
+                (record { answer = refl; drop = refl; state = refl }))
                 (sym (flow-passes (s .setup) g (streamRoom.dataOf p g) d e t held-so-far (c .held) holds h))
                 (sim-closing (some held-so-far) 9 (lt-ltb i 16 lt))
 
@@ -213,8 +210,7 @@ module _ (flows : List Flow) (s : State) (memory p : List ℕ) (g : Segment) (ok
               unfolding flowContext stream.refusedClosing
               sim-11 w =
                   subst₂ (λ (j : streamRoom.Joined) (x : FlowOutcome). Sim flows s memory g j x)
-                  (step-continues s memory p g d {count = dataLength g} {mtu = s .setup .mtu} refl refl e t
-                  (go-differs s memory p g t now lt {c = c} {room = s .setup .room} refl refl fits w (record { answer = refl; drop = refl; state = refl })))
+                  (go-differs s memory p g t now lt {c = c} {room = s .setup .room} refl refl fits w (record { answer = refl; drop = refl; state = refl }))
                   (sym (flow-differs (s .setup) g (streamRoom.dataOf p g) d e t held-so-far (c .held) holds h w))
                   (sim-closing (some held-so-far) 11 (lt-ltb i 16 lt))
 
@@ -222,7 +218,7 @@ module _ (flows : List Flow) (s : State) (memory p : List ℕ) (g : Segment) (ok
               unfolding flowContext
               sim-joins w =
                   subst₂ (λ (j : streamRoom.Joined) (x : FlowOutcome). Sim flows s memory g j x)
-                  (step-continues s memory p g d {count = dataLength g} {mtu = s .setup .mtu} refl refl e t (go-placed s memory p g t now lt {c = c} {room = s .setup .room} refl refl fits w refl))
+                  (go-placed s memory p g t now lt {c = c} {room = s .setup .room} refl refl fits w refl)
                   (sym (flow-joins (s .setup) g (streamRoom.dataOf p g) d e t held-so-far (c .held) holds h w))
                   (sim-placed i (c .held) (c .stream) false (own-mine flows (s .setup .room) (s .streams) memory ok (g .flow)) lt fits)
 

@@ -10,12 +10,12 @@ use Rattle.wire.specs.declared.Flow.{Flow}
 use Rattle.contexts.specs.State.{State, streamIn, flowContext}
 use Rattle.reading.specs.Desk.{Desk, stateOn}
 use Rattle.reading.specs.Table.{lent}
-use Rattle.reading.specs.Read.{Left, reading}
+use Rattle.reading.specs.Read.{Settled, reading}
 use Rattle.flows.specs.OneFlow.{PDU, pdu}
 
 -- an endpoint, ours or any other: what it answers and leaves at a desk and a packet
 abbrev pub Endpoint : Type 0
-Endpoint = Desk → List ℕ → Left
+Endpoint = Desk → List ℕ → Settled
 
 -- ours
 abbrev pub read : Endpoint

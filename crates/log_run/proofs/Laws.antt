@@ -12,7 +12,7 @@ use lib.ListN.{take, drop}
 use Rattle.answers.specs.declared.Reading.{Reading}
 use Rattle.answers.specs.Answers.{said}
 use Rattle.reading.specs.Table.{lent}
-use Rattle.reading.specs.Read.{Left, ReadPromise}
+use Rattle.reading.specs.Read.{Settled, ReadPromise}
 use Rattle.reading.specs.Desk.{Desk, desk}
 use Rattle.log_records.specs.declared.Next.{Next}
 use Rattle.log_records.specs.declared.Next.the-variants.{Record, End, Bad}
@@ -42,7 +42,7 @@ module _ (b : Desk) (log : List ℕ) (at count : ℕ) (out : List ℕ) where
   unfolding printed
   at-record from size next packet r words streams messages response n line e same p q =
       ap (λ (x : LinePut). printing (Line (x .size) next) (desk words streams messages response) (x .out)) q
-      ∙ (ap (λ (x : Left). printing (Line (putLine out (lineOf (x .says) (x .dropped)) .size) next) (x .desk) (putLine out (lineOf (x .says) (x .dropped)) .out)) p
+      ∙ (ap (λ (x : Settled). printing (Line (putLine out (lineOf (x .says) (x .dropped)) .size) next) (x .desk) (putLine out (lineOf (x .says) (x .dropped)) .out)) p
       ∙ (ap (λ (l : List ℕ). recordPrinted b l out next) same
       ∙ sym (ap (printedBy b log count out) e)))
 

@@ -4,7 +4,7 @@ use mathlib.Core.Path.{_≡_, ap, sym, _∙_}
 use mathlib.Core.List.{List}
 use Rattle.log_lines.specs.Puts.{LinePut, linePut}
 use Rattle.log_run.specs.Printing.{Printing}
-use Rattle.log_run.specs.Running.{RunLeft}
+use Rattle.log_run.specs.Running.{RunSettled}
 use Rattle.log_run.specs.Once.{NextRecordOnce, WriteLineOnce, WriteEndOnce, WriteBadOnce, NextLineOnce, LogRunOnce}
 
 pub next-record-once : NextRecordOnce
@@ -33,4 +33,4 @@ next-line-once b log at count line r r′ after after′ line₁ line₂ p q =
 pub log-run-once : LogRunOnce
 log-run-once b log at count out r r′ after after′ out₁ out₂ p q =
     let e = p ∙ sym q in
-    (ap (λ (l : RunLeft). l .ran) e, ap (λ (l : RunLeft). l .desk) e, ap (λ (l : RunLeft). l .out) e)
+    (ap (λ (l : RunSettled). l .ran) e, ap (λ (l : RunSettled). l .desk) e, ap (λ (l : RunSettled). l .out) e)

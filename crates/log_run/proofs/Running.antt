@@ -24,7 +24,7 @@ use Rattle.log_run.specs.declared.Ran.{Ran}
 use Rattle.log_run.specs.Printing.{Printing, printing, lastPrinted, printedBy, printed, LinePromise, Onward}
 use Rattle.log_run.proofs.Laws.{of-line, of-last}
 use Rattle.log_run.proofs.Pieces.{put-there}
-use Rattle.log_run.specs.Running.{Running, running, linesBefore, recordRan, ranBy, ranFrom, ranOf, RunLeft, runLeft, runLeftBy, leaves, LogRunPromise, RunOnward}
+use Rattle.log_run.specs.Running.{Running, running, linesBefore, recordRan, ranBy, ranFrom, ranOf, RunSettled, runSettled, runSettledBy, logRun, LogRunPromise, RunOnward}
 
 -- ---- every number of steps that is more than the bytes left makes the same run
 ran-enough : (m k : ℕ) (b : Desk) (log : List ℕ) (at count room : ℕ) → length log - at < m → length log - at < k
@@ -77,8 +77,8 @@ module _ (b : Desk) (log : List ℕ) (at count room : ℕ) where
   at-bad h e = rw (le-ltb room 128 h, e)
 
 -- what a run leaves, with no more records than bytes before its place
-pub leaves-is : (b : Desk) (log : List ℕ) (at count : ℕ) (out : List ℕ) → count ≤ at → leaves b log at count out ≡ runLeftBy out (rest b log at count (length out))
-unfolding leaves ranOf
+pub leaves-is : (b : Desk) (log : List ℕ) (at count : ℕ) (out : List ℕ) → count ≤ at → logRun b log at count out ≡ runSettledBy out (rest b log at count (length out))
+unfolding logRun ranOf
 leaves-is b log at count out h = rw (le-ltb at count h)
 
 -- ---- the loop of `run`: the lines so far stand in the buffer, the whole run is those and what is still to come, and no more records
@@ -170,8 +170,8 @@ module _ (b₀ : Desk) (log : List ℕ) (at₀ count₀ : ℕ) (out₀ : List �
 
   -- what the whole run leaves, once no more is to come
   leaves-lines : (b′ : Desk) (line : List ℕ) (over : Bool) → rest b log at count (length out₀ - used) ≡ running line b′ at count over
-      → leaves b₀ log at₀ count₀ out₀ ≡ runLeftBy out₀ (running (g .lines ++ line) b′ at count over)
-  leaves-lines b′ line over e = leaves-is b₀ log at₀ count₀ out₀ (g .front) ∙ ap (runLeftBy out₀) (g .whole ∙ ap (linesBefore (g .lines)) e)
+      → logRun b₀ log at₀ count₀ out₀ ≡ runSettledBy out₀ (running (g .lines ++ line) b′ at count over)
+  leaves-lines b′ line over e = leaves-is b₀ log at₀ count₀ out₀ (g .front) ∙ ap (runSettledBy out₀) (g .whole ∙ ap (linesBefore (g .lines)) e)
 
   -- the last line
   ends-by : (size : ℕ) (b′ : Desk) (line part : List ℕ) → 128 ≤ length out - used → size ≤ 128
@@ -183,8 +183,8 @@ module _ (b₀ : Desk) (log : List ℕ) (at₀ count₀ : ℕ) (out₀ : List �
       let size-is : size ≡ putLine (midOf used (length out - used) out) line .size = cc in
       let a = add-line line part size room few (ap₂ linePut size-is (ap (λ (x : Printing). x .out) p)) in
       let long : used + size ≡ length (g .lines ++ line) = simp length-append (omega (arith, g .size, a .sized)) in
-      ap (λ (x : Desk). runLeft (record { used = used + size; at = at; count = count; over = true }) x (putMid used (length out - used) out part)) (ap (λ (x : Printing). x .desk) p)
-      ∙ (ap₂ (λ (k : ℕ) (l : List ℕ). runLeft (record { used = k; at = at; count = count; over = true }) b l) long (a .stored)
+      ap (λ (x : Desk). runSettled (record { used = used + size; at = at; count = count; over = true }) x (putMid used (length out - used) out part)) (ap (λ (x : Printing). x .desk) p)
+      ∙ (ap₂ (λ (k : ℕ) (l : List ℕ). runSettled (record { used = k; at = at; count = count; over = true }) b l) long (a .stored)
       ∙ sym (leaves-lines b line true e))
 
   pub ends : (piece : Piece) (size : ℕ) (b′ : Desk) (part : List ℕ) → piece ≡ Last size → 128 ≤ length out - used → Onward (length log) at piece
@@ -203,15 +203,15 @@ module _ (b₀ : Desk) (log : List ℕ) (at₀ count₀ : ℕ) (out₀ : List �
   -- no room for one more
   pub stops : length out - used < 128 → LogRunPromise b₀ log at₀ count₀ out₀ (record { used = used; at = at; count = count; over = false }) b out
   stops h =
-      ap₂ (λ (k : ℕ) (l : List ℕ). runLeft (record { used = k; at = at; count = count; over = false }) b l)
+      ap₂ (λ (k : ℕ) (l : List ℕ). runSettled (record { used = k; at = at; count = count; over = false }) b l)
       (g .size ∙ ap length (sym (append-nil (g .lines)))) (g .stored ∙ ap (written out₀ 0) (sym (append-nil (g .lines))))
       ∙ sym (leaves-lines b [] false (no-room b log at count (length out₀ - used) (omega (arith, g .same))))
 
 -- more records than bytes before the place
 pub refuses : (b : Desk) (log : List ℕ) (at count : ℕ) (out : List ℕ) → at < count
     → LogRunPromise b log at count out (record { used = 0; at = at; count = count; over = true }) b out
-unfolding leaves ranOf
-refuses b log at count out h = rw (lt-ltb at count h) (ap (runLeft (record { used = 0; at = at; count = count; over = true }) b) (sym (written-front out [])))
+unfolding logRun ranOf
+refuses b log at count out h = rw (lt-ltb at count h) (ap (runSettled (record { used = 0; at = at; count = count; over = true }) b) (sym (written-front out [])))
 
 -- ---- what holds of every run: of one that puts nothing, or the last line alone; and of a record's line and a run behind it, if of that run
 module _ (log : List ℕ) (P : Desk → ℕ → ℕ → Running → Type 0)
@@ -270,8 +270,8 @@ comes-on b log at count room h o = go (nextRecord log at) refl
 -- what a caller's loop needs
 pub onward-by : (b : Desk) (log : List ℕ) (at count : ℕ) (out : List ℕ) (r : Ran) (b′ : Desk) (out′ : List ℕ) → LogRunPromise b log at count out r b′ out′ → r .used ≤ length out
     → RunOnward (length log) at (length out) r
-unfolding leaves ranOf
-onward-by b log at count out r b′ out′ p fits = (fits, λ room o. go (ltb at count) room (sym (ap (λ (x : RunLeft). x .ran .over) p) ∙ o) (ap (λ (x : RunLeft). x .ran .at) p))
+unfolding logRun ranOf
+onward-by b log at count out r b′ out′ p fits = (fits, λ room o. go (ltb at count) room (sym (ap (λ (x : RunSettled). x .ran .over) p) ∙ o) (ap (λ (x : RunSettled). x .ran .at) p))
   where
     go : (t : Bool) → 128 ≤ length out → cond t (running [] b at count true) (rest b log at count (length out)) .over ≡ false
         → r .at ≡ cond t (running [] b at count true) (rest b log at count (length out)) .at

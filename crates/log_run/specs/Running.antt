@@ -60,23 +60,23 @@ ranOf b log at count room = cond (ltb at count) (running [] b at count true) (ra
 -- ---- what `run` answers and leaves
 
 -- the answer, the desk, the buffer
-pub record RunLeft : Type 0 where
+pub record RunSettled : Type 0 where
   pub ran : Ran
   pub desk : Desk
   pub out : List ℕ
 
-abbrev pub runLeft : Ran → Desk → List ℕ → RunLeft
-runLeft ran desk out = record { ran = ran; desk = desk; out = out }
+abbrev pub runSettled : Ran → Desk → List ℕ → RunSettled
+runSettled ran desk out = record { ran = ran; desk = desk; out = out }
 
 -- the lines stand in the buffer's front, and the rest of it stays
-abbrev pub runLeftBy : List ℕ → Running → RunLeft
-runLeftBy out x = runLeft (record { used = length (x .lines); at = x .at; count = x .count; over = x .over }) (x .desk) (written out 0 (x .lines))
+abbrev pub runSettledBy : List ℕ → Running → RunSettled
+runSettledBy out x = runSettled (record { used = length (x .lines); at = x .at; count = x .count; over = x .over }) (x .desk) (written out 0 (x .lines))
 
-unfoldable pub leaves : Desk → List ℕ → ℕ → ℕ → List ℕ → RunLeft
-leaves b log at count out = runLeftBy out (ranOf b log at count (length out))
+unfoldable pub logRun : Desk → List ℕ → ℕ → ℕ → List ℕ → RunSettled
+logRun b log at count out = runSettledBy out (ranOf b log at count (length out))
 
 abbrev pub LogRunPromise : Desk → List ℕ → ℕ → ℕ → List ℕ → Ran → Desk → List ℕ → Type 0
-LogRunPromise b log at count out r after out′ = runLeft r after out′ ≡ leaves b log at count out
+LogRunPromise b log at count out r after out′ = runSettled r after out′ ≡ logRun b log at count out
 
 -- the lines have room in the buffer; a run that had room for a line and is not over has come on, and is still inside the log
 abbrev pub RunOnward : ℕ → ℕ → ℕ → Ran → Type 0
@@ -85,15 +85,15 @@ RunOnward n at room r = (r .used ≤ room) × (lineRoom ≤ room → r .over ≡
 -- ---- runs one after another, each with the desk, the place, the count and the buffer that the one before left, until one is over:
 -- what is written on the way
 
-abbrev pub onRun : List ℕ → RunLeft → List ℕ
+abbrev pub onRun : List ℕ → RunSettled → List ℕ
 onRun later x = take (x .ran .used) (x .out) ++ cond (x .ran .over) [] later
 
 unfoldable pub runs : ℕ → Desk → List ℕ → ℕ → ℕ → List ℕ → List ℕ
 runs zero b log at count out = []
 runs (suc most) b log at count out =
     onRun
-    (runs most (leaves b log at count out .desk) log (leaves b log at count out .ran .at) (leaves b log at count out .ran .count) (leaves b log at count out .out))
-    (leaves b log at count out)
+    (runs most (logRun b log at count out .desk) log (logRun b log at count out .ran .at) (logRun b log at count out .ran .count) (logRun b log at count out .out))
+    (logRun b log at count out)
 
 -- runs into a buffer that has room for a line make the output, and there are no more than the log has bytes, and one
 abbrev pub RunsMakeOutput : Type 0

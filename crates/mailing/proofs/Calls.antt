@@ -8,7 +8,7 @@ use lib.ListN.{length}
 use Rattle.answers.specs.Answers.{Said, said}
 use Rattle.reading.specs.Desk.{Desk, withResponse}
 use Rattle.reading.specs.Table.{Lent, lent}
-use Rattle.reading.specs.Read.{Left}
+use Rattle.reading.specs.Read.{Settled}
 use Rattle.reading.proofs.Response.{response-length}
 use Rattle.reading.proofs.Spoken.{answered-by, says-it, promised}
 use Rattle.flows.specs.Deliveries.{read, after}
@@ -46,7 +46,7 @@ module _ (device : ℕ) (x : Posted) where
   of-promises z {d} (t ∷ ts) (made {cs = cs} given r left mail h promise f rest) =
       let p : List ℕ = turnPacket device x t in
       let e : Desk = withResponse d given in
-      subst (λ (y : Left). Has x (y .desk) (y .says) mail → Calls device x (y .desk) ts cs
+      subst (λ (y : Settled). Has x (y .desk) (y .says) mail → Calls device x (y .desk) ts cs
       → Calls device x d (t ∷ ts) (record { lent = e; packet = p; says = y .says; left = y .desk; mail = mail } ∷ cs))
       (sym promise) (one given mail (omega arith))
       (has-fetched x z left (said (r .answer)) mail f) (of-promises z ts rest)

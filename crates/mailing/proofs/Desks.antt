@@ -17,17 +17,17 @@ use Rattle.contexts.specs.State.{Setup, State, messageIn, closedMessage, messag
 use Rattle.contexts.specs.Words.{stateOf, wordsOf}
 use Rattle.contexts.proofs.Words.{sixteen, eight, state-of}
 use Rattle.stream_rooms.specs.Placing as streamRoom
-use Rattle.streams.specs.Step as streamStep
+use Rattle.streams.specs.Joining as streamStep
 use Rattle.message_rooms.specs.Placing.{MessageJoined}
-use Rattle.messages.specs.Step.{messageStepped}
+use Rattle.messages.specs.Joining.{messageStepped}
 use Rattle.reading.specs.Desk.{Desk, stateOn, withResponse}
 use Rattle.reading.specs.Table.{lent}
-use Rattle.reading.specs.Read.{Left, ofStream, ofMessage}
+use Rattle.reading.specs.Read.{Settled, ofStream, ofMessage}
 use Rattle.reading.specs.Good.{GoodWords, StillGood}
 use Rattle.reading.proofs.Rows.{byParsed, by-packet}
 use Rattle.reading.proofs.Packets.{stream-parsed, message-parsed, message-small}
 use Rattle.reading.proofs.Kept.{stays-good}
-use Rattle.reading.proofs.Left.{sizes-right}
+use Rattle.reading.proofs.Laws.{sizes-right}
 use Rattle.flows.specs.Deliveries.{read, after}
 use Rattle.flows.specs.Fresh.{Lends}
 use Rattle.flows.proofs.Quiet.{Quiet, quiet-stepped}
@@ -35,7 +35,7 @@ use Rattle.mailing.specs.Mail.{Posted}
 use Rattle.mailing.specs.Run.{isOfMail}
 use Rattle.mailing.specs.ReadBack.{GoodDesk, deviceOf, OthersLeaveMail}
 use Rattle.mailing.proofs.Contexts.{isMine, isToldOf}
-use Rattle.mailing.proofs.Others.{Stays, all-stays, leaves-stepped}
+use Rattle.mailing.proofs.Others.{Stays, all-stays, undisturbed-stepped}
 use Rattle.mailing.proofs.Streams.{Beside, beside-stepped}
 
 -- a good desk of that device
@@ -81,10 +81,10 @@ module _ (device : ℕ) (d : Desk) (p : List ℕ) (r : Ready device d) (bytes : 
       ∙ ap (byParsed (lent d p)) (ap (λ (ours : ℕ). parsed ours p) (r .own-device) ∙ e)
 
   -- it leaves a good state, and so a desk that is ready where the memories keep their lengths
-  still-ready : (y : Left) → read d p ≡ y → length (y .desk .streamMemory) ≡ length (d .streamMemory) → length (y .desk .messageMemory) ≡ length (d .messageMemory)
+  still-ready : (y : Settled) → read d p ≡ y → length (y .desk .streamMemory) ≡ length (d .streamMemory) → length (y .desk .messageMemory) ≡ length (d .messageMemory)
       → length (y .desk .response) ≡ length (d .response) → Ready device (y .desk)
   still-ready y e streams messages response =
-      let g : StillGood s (y .desk .words) = subst (λ (l : Left). StillGood s (l .desk .words)) e (stays-good (lent d p) (state .whole) (state .good) (bytes 5)) in
+      let g : StillGood s (y .desk .words) = subst (λ (l : Settled). StillGood s (l .desk .words)) e (stays-good (lent d p) (state .whole) (state .good) (bytes 5)) in
       record {
         desk = record {
           good = record { whole = g .whole; good = g .good };
@@ -116,11 +116,11 @@ module _ (device : ℕ) (d : Desk) (p : List ℕ) (r : Ready device d) (bytes : 
 
     pub read-11 : Read11 device d p j
     read-11 = record {
-      ready = subst (λ (y : Left). Ready device (y .desk)) (sym leaves) (still-ready (ofMessage (lent d p) j) leaves refl (quiet .boxes) (quiet .reply));
-      says = ap (λ (y : Left). y .says) leaves;
-      state = ap (λ (y : Left). stateOf (y .desk .words)) leaves ∙ back;
-      memory = ap (λ (y : Left). y .desk .messageMemory) leaves;
-      response = ap (λ (y : Left). y .desk .response) leaves;
+      ready = subst (λ (y : Settled). Ready device (y .desk)) (sym leaves) (still-ready (ofMessage (lent d p) j) leaves refl (quiet .boxes) (quiet .reply));
+      says = ap (λ (y : Settled). y .says) leaves;
+      state = ap (λ (y : Settled). stateOf (y .desk .words)) leaves ∙ back;
+      memory = ap (λ (y : Settled). y .desk .messageMemory) leaves;
+      response = ap (λ (y : Settled). y .desk .response) leaves;
     }
 
   -- ---- a packet that is not of the message
@@ -129,7 +129,7 @@ module _ (device : ℕ) (d : Desk) (p : List ℕ) (r : Ready device d) (bytes : 
     by-message m e other =
         let k = read-11 m e in
         let z = small m e in
-        let l = leaves-stepped x s (eight (d .words)) (d .messageMemory) (lends .boxes) (d .response) p m other (z .0) (z .2) (z .3) in
+        let l = undisturbed-stepped x s (eight (d .words)) (d .messageMemory) (lends .boxes) (d .response) p m other (z .0) (z .2) (z .3) in
         record {
           ready = k .ready;
           stays = subst₂ (λ (t : State) (memory : List ℕ). Stays x s (d .messageMemory) t memory) (sym (k .state)) (sym (k .memory)) (l .stays);
@@ -140,23 +140,23 @@ module _ (device : ℕ) (d : Desk) (p : List ℕ) (r : Ready device d) (bytes : 
     by-refused number e =
         let same : read d p ≡ byParsed (lent d p) (Refused number) = read-is (Refused number) e in
         record {
-          ready = subst (λ (y : Left). Ready device (y .desk)) (sym same) r;
-          stays = subst (λ (y : Left). Stays x s (d .messageMemory) (stateOf (y .desk .words)) (y .desk .messageMemory)) (sym same) (all-stays x s s (d .messageMemory) refl);
-          silent = ap (λ (y : Left). isToldOf x (y .says)) same;
+          ready = subst (λ (y : Settled). Ready device (y .desk)) (sym same) r;
+          stays = subst (λ (y : Settled). Stays x s (d .messageMemory) (stateOf (y .desk .words)) (y .desk .messageMemory)) (sym same) (all-stays x s s (d .messageMemory) refl);
+          silent = ap (λ (y : Settled). isToldOf x (y .says)) same;
         }
 
     by-stream : (g : Segment) → parsed device p ≡ Stream g → ReadOther device x d p
     by-stream g e =
         let j : streamRoom.Joined = streamStep.stepped s (d .streamMemory) p g in
         let same : read d p ≡ ofStream (lent d p) j = read-is (Stream g) e in
-        let beside : Beside s (d .streamMemory) j = beside-stepped s (d .streamMemory) p g (state .good) (lends .rooms) (stream-parsed p device g e .1) in
+        let beside : Beside s (d .streamMemory) j = beside-stepped s (d .streamMemory) p g (lends .rooms) (stream-parsed p device g e .1) in
         let back : stateOf (wordsOf (j .state)) ≡ j .state = state-of (j .state) (beside .streams ∙ sixteen (d .words)) (ap length (beside .messages) ∙ eight (d .words)) in
         record {
-          ready = subst (λ (y : Left). Ready device (y .desk)) (sym same) (still-ready (ofStream (lent d p) j) same (beside .rooms) refl refl);
+          ready = subst (λ (y : Settled). Ready device (y .desk)) (sym same) (still-ready (ofStream (lent d p) j) same (beside .rooms) refl refl);
           stays =
-              subst (λ (y : Left). Stays x s (d .messageMemory) (stateOf (y .desk .words)) (y .desk .messageMemory)) (sym same)
+              subst (λ (y : Settled). Stays x s (d .messageMemory) (stateOf (y .desk .words)) (y .desk .messageMemory)) (sym same)
               (all-stays x s (stateOf (wordsOf (j .state))) (d .messageMemory) (ap (λ (t : State). t .messages) back ∙ beside .messages));
-          silent = ap (λ (y : Left). isToldOf x (y .says)) same ∙ beside .silent x;
+          silent = ap (λ (y : Settled). isToldOf x (y .says)) same ∙ beside .silent x;
         }
 
     pub read-other : isOfMail x (parsed device p) ≡ false → ReadOther device x d p

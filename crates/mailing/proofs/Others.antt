@@ -19,18 +19,17 @@ use Rattle.wire.specs.declared.MessageSegment.{MessageSegment}
 use Rattle.wire.specs.Type11.{isSingle, mailbox}
 use Rattle.sizes.specs.Sizes.{bytesOf}
 use Rattle.sizes.proofs.Laws.{bytes-le}
-use Rattle.responses.specs.Type13.{ERROR, RETRY}
 use Rattle.contexts.specs.declared.MessageContext.{MessageContext}
 use Rattle.contexts.specs.State.{State, messageIn, withMessage, closedMessage, isFreeMessage, isOfMessage, messageContext, freeMessage}
-use Rattle.rules.specs.Messages.{judged, lastWith}
-use Rattle.rules.proofs.Laws.{sound}
+use Rattle.rules.specs.Messages.{lastWith}
 use Rattle.message_rooms.specs.Placing.{MessageJoined, messageData, kept, complete, marksWith, contextWith, messagePlaced}
 use Rattle.message_rooms.proofs.Laws.{product-le}
-use Rattle.messages.specs.Rows.{messageFound, messageOpen, otherMessage, alreadyMarked, neededNoneFree}
-use Rattle.messages.specs.Joining.{deliveredAtOnce, messageAccepted}
-use Rattle.messages.specs.Step.{refusedWith, matched, messageStepped}
+use Rattle.messages.specs.Rows.{messageFound, messageOpen, neededNoneFree}
+use Rattle.messages.specs.Joining.{deliveredAtOnce, messageAccepted, refusedWith, messageStepped}
+use Rattle.messages.proofs.Laws.{step-cases}
 use Rattle.lists.proofs.Tests.{by-test}
 use Rattle.flows.proofs.Contexts.{first-set}
+use Rattle.flows.proofs.Quiet.{free-there, single-shut}
 use Rattle.mailing.specs.Mail.{Posted}
 use Rattle.mailing.specs.Run.{isName}
 use Rattle.mailing.proofs.Rooms.{before-stays, behind-stays}
@@ -77,15 +76,15 @@ module _ (x : Posted) (s : State) (memory : List ℕ) (size : length memory ≡ 
 -- ---- A packet of another message
 
 -- nothing of the message changes, and no message of its source, letter and mbox is delivered
-pub record Leaves (x : Posted) (s : State) (memory : List ℕ) (j : MessageJoined) : Type 0 where
+pub record Undisturbed (x : Posted) (s : State) (memory : List ℕ) (j : MessageJoined) : Type 0 where
   pub stays : Stays x s memory (j .state) (j .memory)
   pub silent : isToldOf x (j .says) ≡ false
 
 module _ (x : Posted) (s : State) (eight : length (s .messages) ≡ 8) (memory : List ℕ) (size : length memory ≡ 32768) (response p : List ℕ) (m : MessageSegment)
     (other : isName x (m .source) (m .letter) (m .mbox) ≡ false) (whole : 7 + m .raw ≡ length p) (number : m .msgseg < 16) (mbox : m .mbox < 4) where
-  leaves-refused : (code status : ℕ) → Leaves x s memory (refusedWith s memory response p code status)
+  undisturbed-refused : (code status : ℕ) → Undisturbed x s memory (refusedWith s memory response p code status)
   unfolding refusedWith
-  leaves-refused code status = record { stays = all-stays x s s memory refl; silent = refl }
+  undisturbed-refused code status = record { stays = all-stays x s s memory refl; silent = refl }
 
   -- a delivery has its own name
   own-mbox : mailbox m % 4 ≡ m .mbox
@@ -102,18 +101,18 @@ module _ (x : Posted) (s : State) (eight : length (s .messages) ≡ 8) (memory :
   data-length = length-drop 7 p ∙ omega arith
 
   module _ (fits : m .raw ≤ bytesOf (m .ssize)) (n : ℕ) (lt : n < 8) (not-mine : isMine x (messageIn s n) ≡ false) where
-    leaves-alone : Leaves x s memory (deliveredAtOnce s memory response p m n)
+    undisturbed-alone : Undisturbed x s memory (deliveredAtOnce s memory response p m n)
     unfolding deliveredAtOnce
-    leaves-alone = record {
+    undisturbed-alone = record {
       stays =
           subst (λ (at : ℕ). Stays x s memory (withMessage s n closedMessage) (written memory at (messageData p))) (add-zero (n * 4096))
           (put-stays x s memory size n lt not-mine closedMessage (closed-none x) 0 (messageData p) (omega (arith, data-length, bytes-le (m .ssize))) (withMessage s n closedMessage) refl);
       silent = own-name n (m .raw);
     }
 
-    leaves-placed : (marks last : ℕ) → Leaves x s memory (messagePlaced s memory response p m n marks last)
+    undisturbed-placed : (marks last : ℕ) → Undisturbed x s memory (messagePlaced s memory response p m n marks last)
     unfolding messagePlaced
-    leaves-placed marks last =
+    undisturbed-placed marks last =
         let context : MessageContext = contextWith m (marksWith m marks) (lastWith m last) in
         record {
           stays =
@@ -142,32 +141,14 @@ module _ (x : Posted) (s : State) (eight : length (s .messages) ≡ 8) (memory :
       let below : n < 8 = rw t at h in
       rw t (found-other x m other (messageIn s n) (first-passes (isOfMessage (m .source) (m .letter) (m .mbox)) (s .messages) closedMessage (omega arith)))
 
-  -- a context is free where one is needed
-  free-there : neededNoneFree s m ≡ false → messageOpen s m ≡ false → freeMessage s < 8
-  unfolding neededNoneFree
-  free-there e o = ltb-true (freeMessage s) 8 (not-false (ltb (freeMessage s) 8) (ap (λ (b : Bool). not b && not (ltb (freeMessage s) 8)) (sym o) ∙ e))
-
-  single-shut : isSingle m ≡ true → messageOpen s m ≡ false
-  unfolding messageFound
-  single-shut t = rw t
-
-  leaves-accepted : m .raw ≤ bytesOf (m .ssize) → neededNoneFree s m ≡ false → Leaves x s memory (messageAccepted s memory response p m)
+  undisturbed-accepted : m .raw ≤ bytesOf (m .ssize) → neededNoneFree s m ≡ false → Undisturbed x s memory (messageAccepted s memory response p m)
   unfolding messageAccepted
-  leaves-accepted fits e =
+  undisturbed-accepted fits e =
       by-test (isSingle m)
-      (λ t. let free = free-there e (single-shut t) in rw t (leaves-alone fits (freeMessage s) free (free-not free)))
+      (λ t. let free = free-there s m e (single-shut s m t) in rw t (undisturbed-alone fits (freeMessage s) free (free-not free)))
       (λ t. by-test (messageOpen s m)
-      (λ o. let own = ltb-true (messageFound s m) 8 o in rw (t, o) (leaves-placed fits (messageFound s m) own (own-not t own) _ _))
-      (λ o. let free = free-there e o in rw (t, o) (leaves-placed fits (freeMessage s) free (free-not free) 0 0)))
+      (λ o. let own = ltb-true (messageFound s m) 8 o in rw (t, o) (undisturbed-placed fits (messageFound s m) own (own-not t own) _ _))
+      (λ o. let free = free-there s m e o in rw (t, o) (undisturbed-placed fits (freeMessage s) free (free-not free) 0 0)))
 
-  leaves-matched : m .raw ≤ bytesOf (m .ssize) → Leaves x s memory (matched s memory response p m)
-  unfolding matched
-  leaves-matched fits =
-      by-test (otherMessage s m) (λ a. rw a (leaves-refused 23 ERROR))
-      (λ a. by-test (alreadyMarked s m) (λ b. rw (a, b) (leaves-refused 24 ERROR))
-      (λ b. by-test (neededNoneFree s m) (λ d. rw (a, b, d) (leaves-refused 25 RETRY)) (λ d. rw (a, b, d) (leaves-accepted fits d))))
-
-  pub leaves-stepped : Leaves x s memory (messageStepped s memory response p m)
-  unfolding messageStepped
-  leaves-stepped =
-      by-test (eqb (judged m) 0) (λ a. rw a (leaves-matched (sound m (eqb-true (judged m) 0 a) .fits))) (λ a. rw a (leaves-refused (judged m) ERROR))
+  pub undisturbed-stepped : Undisturbed x s memory (messageStepped s memory response p m)
+  undisturbed-stepped = step-cases s memory response p m (Undisturbed x s memory) undisturbed-refused undisturbed-accepted

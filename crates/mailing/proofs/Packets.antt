@@ -18,6 +18,7 @@ use Rattle.tables.specs.Refusals.{verdict}
 use Rattle.wire.specs.Head.{headRows}
 use Rattle.wire.specs.Parsed.{parsed}
 use Rattle.sizes.specs.Sizes.{inEights}
+use Rattle.rules.proofs.Laws.{judged-fine}
 use Rattle.rules.specs.Messages.{judged, reservedSize, badLength, pastLast}
 use Rattle.lists.proofs.Tests.{by-test}
 use Rattle.mailing.specs.Mail.{Posted, priorityAt, segmentSize, msglenOf, dataAt, isAlone, mboxOf, lastField, mailPacket, Postable, mailSegment, MailSegmentsReadBack}
@@ -149,10 +150,10 @@ module _ (device : ℕ) (x : Posted) (k : ℕ) (p : Postable device x) (below : 
       go (no e) (no o) = rw (ne-eqb (msglenOf x) 0 o, ne-eqb k (msglenOf x) e, eq-eqb (length (dataAt x k)) (segmentSize x) (length-full x z k (omega arith)))
 
   passes : judged (mailSegment x k) ≡ 0
-  unfolding judged reservedSize badLength pastLast
-  passes = rw (ne-eqb (segmentSize x) 0 (λ e. omega (arith, z .some)), last-or-full) (go (isAlone x))
+  unfolding reservedSize badLength pastLast
+  passes = judged-fine (mailSegment x k) (ne-eqb (segmentSize x) 0 (λ e. omega (arith, z .some))) last-or-full (go (isAlone x))
     where
-      go : (b : Bool) → _≡_ {A = ℕ} (cond (not b && ltb (msglenOf x) (cond b (x .mail .mailbox / 4) k)) 22 0) 0
+      go : (b : Bool) → (not b && ltb (msglenOf x) (cond b (x .mail .mailbox / 4) k)) ≡ false
       go true = refl
       go false = rw (le-ltb (msglenOf x) k below)
 

@@ -13,7 +13,7 @@ use Rattle.contexts.specs.State.{State, messageIn, messageContext, freeMessage}
 use Rattle.marks.specs.Marks.{marked, withMark, allMarked}
 use Rattle.contexts.proofs.Words.{eight}
 use Rattle.message_rooms.specs.Placing.{MessageJoined}
-use Rattle.messages.specs.Step.{messageStepped}
+use Rattle.messages.specs.Joining.{messageStepped}
 use Rattle.reading.specs.Desk.{Desk, stateOn, withResponse}
 use Rattle.flows.specs.Deliveries.{read, after, inRoom}
 use Rattle.mailing.specs.Mail.{Mail, Posted, segmentSize, msglenOf, dataAt, isAlone, mboxOf, mailPacket, mailSegment, Postable, ReadsAsMail, mailAnswer}

@@ -25,9 +25,8 @@ use Rattle.marks.proofs.Bits.{mark-other}
 use Rattle.marks.proofs.Marks.{nothing-marked}
 use Rattle.rules.specs.Messages.{judged}
 use Rattle.message_rooms.specs.Placing.{MessageJoined, messageJoining, messageData, kept, messagePlaced}
-use Rattle.messages.specs.Joining.{deliveredAtOnce}
-use Rattle.messages.specs.Step.{messageStepped}
-use Rattle.messages.proofs.Laws.{alone-taken, begin-placed, join-placed, step-matched}
+use Rattle.messages.specs.Joining.{deliveredAtOnce, messageStepped}
+use Rattle.messages.proofs.Laws.{alone-taken, begin-placed, join-placed}
 use Rattle.flows.proofs.Contexts.{first-set}
 use Rattle.mailing.specs.Mail.{Posted, segmentSize, msglenOf, dataAt, isAlone, mboxOf, mailSegment, mailAnswer}
 use Rattle.mailing.proofs.Sizes.{Sized, length-last}
@@ -139,7 +138,7 @@ module _ (x : Posted) (z : Sized x) (s : State) (eight : length (s .messages) �
     -- the only segment
     module _ (alone : isAlone x ≡ true) (free : freeMessage s < 8) where
       only-is : step ≡ deliveredAtOnce s memory response p m (freeMessage s)
-      only-is = sym (alone-taken s memory response p m alone free ∙ step-matched s memory response p m sound)
+      only-is = sym (alone-taken s memory response p m sound alone free)
 
       whole : dataAt x k ≡ x .mail .bytes
       unfolding dataAt
@@ -161,7 +160,7 @@ module _ (x : Posted) (z : Sized x) (s : State) (eight : length (s .messages) �
       -- the first that comes
       module _ (none : messageContext s (x .mail .source) (x .mail .letter) (mboxOf x) ≡ 8) (free : freeMessage s < 8) where
         first-is : step ≡ messagePlaced s memory response p m (freeMessage s) 0 0
-        first-is = sym (begin-placed s memory response p m several (omega arith) free ∙ step-matched s memory response p m sound)
+        first-is = sym (begin-placed s memory response p m sound several (omega arith) free)
 
         first-finds : Finds x s (freeMessage s)
         unfolding messageContext
@@ -187,8 +186,7 @@ module _ (x : Posted) (z : Sized x) (s : State) (eight : length (s .messages) �
             let n-is : messageContext s (x .mail .source) (x .mail .letter) (mboxOf x) ≡ n = o .found in
             let same : own ≡ messageIn s (messageContext s (x .mail .source) (x .mail .letter) (mboxOf x)) = sym (ap (messageIn s) n-is ∙ o .context) in
             sym (ap (λ (i : ℕ). messagePlaced s memory response p m i marks last) (sym n-is)
-            ∙ (join-placed s memory response p m several own (omega (arith, n-is, o .below)) same refl refl (rw several unset)
-            ∙ step-matched s memory response p m sound))
+            ∙ join-placed s memory response p m sound several own (omega (arith, n-is, o .below)) same refl refl (rw several unset))
 
         next-finds : Finds x s n
         unfolding messageContext

@@ -11,23 +11,14 @@ use Rattle.answers.specs.Answers.{held, delivered}
 use Rattle.wire.specs.declared.Segment.{Segment}
 use Rattle.sizes.specs.Sizes.{dataLength}
 use Rattle.contexts.specs.State.{State, freeStream}
-use Rattle.refusal19.specs.Refusal19.{namedBy19}
-use Rattle.refusal19.proofs.Good.{good}
-use Rattle.rules.specs.Segments.{malformed}
+use Rattle.tables.specs.Refusals.{none}
 use Rattle.stream_rooms.specs.Placing.{Joined, dataOf, placed}
-use Rattle.streams.specs.Rows.{foundFor, flowOpen, heldBefore, total, missized, notOpen, passesRoom, noneFree, lengthDiffers}
-use Rattle.streams.specs.Joining.{contextFor, accepted, refusedClosing}
-use Rattle.streams.specs.Step.{refusedStaying, begun, continued, stepped}
-use Rattle.streams.proofs.Laws.{data-le, size-le}
-use Rattle.lists.proofs.Tests.{by-test}
+use Rattle.streams.specs.Rows.{foundFor, flowOpen, heldBefore, total, notOpen, passesRoom, noneFree, streamRows}
+use Rattle.streams.specs.Joining.{contextFor, accepted, refusedClosing, refusedStaying, stepped}
+use Rattle.streams.proofs.Laws.{data-le, step-cases}
 use Rattle.flows.proofs.Rooms.{stored-length}
 use Rattle.mailing.specs.Mail.{Posted}
 use Rattle.mailing.proofs.Contexts.{isToldOf}
-
--- what holds of either holds of the one that is chosen
-chosen : {A : Type 0} (P : A → Type 0) (b : Bool) (x y : A) → (b ≡ true → P x) → (b ≡ false → P y) → P (cond b x y)
-chosen P true x y f g = f refl
-chosen P false x y f g = g refl
 
 pub record Beside (s : State) (memory : List ℕ) (j : Joined) : Type 0 where
   pub messages : j .state .messages ≡ s .messages
@@ -36,7 +27,7 @@ pub record Beside (s : State) (memory : List ℕ) (j : Joined) : Type 0 where
   -- and no message is delivered
   pub silent : (x : Posted) → isToldOf x (j .says) ≡ false
 
-module _ (s : State) (memory p : List ℕ) (g : Segment) (fine : namedBy19 s ≡ false) (rooms : length memory ≡ 16 * s .setup .room) (whole : g .from + g .raw ≡ length p) where
+module _ (s : State) (memory p : List ℕ) (g : Segment) (rooms : length memory ≡ 16 * s .setup .room) (whole : g .from + g .raw ≡ length p) where
   beside-staying : (number : ℕ) → Beside s memory (refusedStaying s memory number)
   unfolding refusedStaying
   beside-staying number = record { messages = refl; streams = refl; rooms = refl; silent = λ x. refl }
@@ -62,41 +53,20 @@ module _ (s : State) (memory p : List ℕ) (g : Segment) (fine : namedBy19 s ≡
       told x true n stream count = refl
       told x false n stream count = refl
 
-  -- a start or single: row 10 left a context, row 7 at most MTU bytes
-  beside-begun : g .begins ≡ true → missized s g ≡ false → Beside s memory (begun s memory p g)
-  unfolding begun noneFree missized
-  beside-begun t e =
-      by-test (noneFree s g) (λ a. rw a (beside-staying 10))
-      (λ a. rw a (beside-accepted (go (flowOpen s g) refl (rw t at a)) (omega (arith, none-held, size-le (g .ends) (dataLength g) (s .setup .mtu) e, good s fine .holds))))
+  -- row 8 left an open context, or row 10 a free one
+  context-there : notOpen s g ≡ false → noneFree s g ≡ false → contextFor s g < 16
+  unfolding notOpen noneFree
+  context-there = go (g .begins) (flowOpen s g) refl
     where
-      none-held : heldBefore s g ≡ 0
-      none-held = rw t
+      go : (begins opened : Bool) → flowOpen s g ≡ opened → (not begins && not opened) ≡ false → (begins && (not opened && not (ltb (freeStream s) 16))) ≡ false
+          → cond opened (foundFor s g) (freeStream s) < 16
+      go begins true e row-8 row-10 = ltb-true (foundFor s g) 16 e
+      go true false e row-8 row-10 = ltb-true (freeStream s) 16 (not-false (ltb (freeStream s) 16) row-10)
+      go false false e row-8 row-10 = absurd (true≢false row-8)
 
-      go : (b : Bool) → flowOpen s g ≡ b → (not b && not (ltb (freeStream s) 16)) ≡ false → cond b (foundFor s g) (freeStream s) < 16
-      go true e h = ltb-true (foundFor s g) 16 e
-      go false e h = ltb-true (freeStream s) 16 (not-false (ltb (freeStream s) 16) h)
-
-  -- a continuation or end: row 8 left an open context, row 9 a total within R
-  beside-continued : g .begins ≡ false → Beside s memory (continued s memory p g)
-  unfolding continued
-  beside-continued t =
-      by-test (notOpen s g) (λ a. rw a (beside-staying 8))
-      (λ a. by-test (passesRoom s g) (λ b. rw (a, b) (beside-closing 9))
-      (λ b. by-test (lengthDiffers s g) (λ d. rw (a, b, d) (beside-closing 11)) (λ d. rw (a, b, d) (beside-accepted (below a) (within b)))))
-    where
-      below : notOpen s g ≡ false → contextFor s g < 16
-      below a = unfold notOpen in go (flowOpen s g) refl (rw t at a)
-        where
-          go : (b : Bool) → flowOpen s g ≡ b → (not b) ≡ false → cond b (foundFor s g) (freeStream s) < 16
-          go true e h = ltb-true (foundFor s g) 16 e
-          go false e h = absurd (true≢false h)
-
-      within : passesRoom s g ≡ false → total s g ≤ s .setup .room
-      within b = unfold passesRoom in ltb-false (s .setup .room) (total s g) b
-
+  -- and row 9 a total within R
   pub beside-stepped : Beside s memory (stepped s memory p g)
-  unfolding stepped
+  unfolding streamRows none passesRoom
   beside-stepped =
-      by-test (malformed g) (λ a. rw a (beside-closing 6))
-      (λ a. by-test (missized s g) (λ b. rw (a, b) (beside-closing 7))
-      (λ b. rw (a, b) (chosen (Beside s memory) (g .begins) (begun s memory p g) (continued s memory p g) (λ t. beside-begun t b) beside-continued)))
+      step-cases s memory p g (Beside s memory) beside-staying beside-closing
+      (λ passed. beside-accepted (context-there (passed .1 .1 .0) (passed .1 .1 .1 .1 .0)) (ltb-false (s .setup .room) (total s g) (passed .1 .1 .1 .0)))

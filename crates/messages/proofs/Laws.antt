@@ -1,6 +1,6 @@
 -- Laws of a type 11 step: what each way through the code leaves is what the definition says.
 use Prim.Native.Nat.{ℕ, _≤_, _<_, _-_, _*_}
-use mathlib.Core.Path.{_≡_, sym, _∙_}
+use mathlib.Core.Path.{_≡_, ap, sym, _∙_}
 use mathlib.Core.List.{List}
 use mathlib.Core.Bool.{Bool, true, false, cond, not, _||_, or-true}
 use native.Mathlib.Omega.{arith}
@@ -8,6 +8,11 @@ use lib.Dec.{eqb}
 use lib.ListN.{length, take, drop}
 use borrow.Author.Tests.{lt-ltb, le-ltb, eq-eqb, ne-eqb, eqb-true, not-false}
 use Rattle.lists.specs.Bytes.{written}
+use Rattle.lists.proofs.Tests.{_and_}
+use Rattle.tables.specs.Refusals.{allERROR, Verdict, byVerdict, none}
+use Rattle.tables.proofs.Cases.{by-row, by-end, whichever}
+use Rattle.tables.proofs.Joined.{joined-refuses, joined-passes}
+use Rattle.tables.proofs.Numbers.{number-refused}
 use Rattle.answers.specs.Answers.{Said, message}
 use Rattle.wire.specs.declared.MessageSegment.{MessageSegment}
 use Rattle.wire.specs.Type11.{messageDataFrom, isSingle, mailbox}
@@ -21,13 +26,13 @@ use Rattle.refusal19.specs.Refusal19.{badLast, namedBy19}
 use Rattle.contexts.specs.Words.{stateOf}
 use Rattle.contexts.proofs.Words.{eight}
 use Rattle.refusal19.proofs.Good.{Message, good, message-found}
-use Rattle.rules.specs.Messages.{judged}
-use Rattle.message_rooms.specs.Placing.{messageJoining, messagePlaced, messageRoomBytes}
+use Rattle.rules.specs.Messages.{formRows, judged}
+use Rattle.rules.proofs.Laws.{raw-le, writes-error, form-passes}
+use Rattle.message_rooms.specs.Placing.{MessageJoined, messageJoining, messagePlaced, messageRoomBytes}
 use Rattle.message_rooms.specs.Inside.{Replied}
 use Rattle.message_rooms.proofs.Laws.{data-whole}
-use Rattle.messages.specs.Rows.{messageFound, messageOpen, otherMessage, alreadyMarked, neededNoneFree}
-use Rattle.messages.specs.Joining.{deliveredAtOnce, messageAccepted}
-use Rattle.messages.specs.Step.{matched, messageStepped, refusedWith}
+use Rattle.messages.specs.Rows.{messageFound, messageOpen, otherMessage, alreadyMarked, neededNoneFree, messageRows}
+use Rattle.messages.specs.Joining.{deliveredAtOnce, messageAccepted, refusedWith, messageRefusing, messageStepped}
 
 -- the kept length of the last segment
 pub last-le : (c : MessageContext) → badLast c ≡ false → c .last ≤ 256
@@ -38,105 +43,127 @@ last-le c = go (marked (c .marks) (c .msglen))
     go true e = omega (arith, eights-le (c .last) (bytesOf (c .ssize)) (not-false _ e), bytes-le (c .ssize))
     go false e = omega (arith, eqb-true (c .last) 0 (not-false _ e))
 
--- ---- rows 23 to 25
+-- ---- a refusal and its response
 replying : (s : State) (memory response p : List ℕ) (number status : ℕ) (says : Said) (after : List ℕ)
     → Replied response p number status says after → messageJoining says s memory after ≡ refusedWith s memory response p number status
 unfolding refusedWith
 replying s memory response p number status says after r = rw (r .answer, r .response)
 
 module _ (s : State) (memory response p : List ℕ) (m : MessageSegment) where
-  -- a single-segment message
-  module _ (t : isSingle m ≡ true) where
-    none-open : messageFound s m ≡ messageContexts
-    unfolding messageFound
-    none-open = rw t
+  abbrev by : Verdict → MessageJoined
+  by = byVerdict (messageRefusing s memory response p) (messageAccepted s memory response p m)
 
-    never : (otherMessage s m ≡ false) × (alreadyMarked s m ≡ false)
-    unfolding otherMessage alreadyMarked
-    never = (rw none-open, rw none-open)
+  -- what holds of every refusal with its response, and of what is accepted once every row has failed, holds of the step
+  pub step-cases : (P : MessageJoined → Type 0) → ((number status : ℕ) → P (refusedWith s memory response p number status))
+      → (m .raw ≤ bytesOf (m .ssize) → neededNoneFree s m ≡ false → P (messageAccepted s memory response p m)) → P (messageStepped s memory response p m)
+  unfolding messageStepped messageRows formRows none
+  step-cases P refuses accepts =
+      let error : (number : ℕ) → P (refusedWith s memory response p number ERROR) = λ n. refuses n ERROR in
+      let retry : (number : ℕ) → P (refusedWith s memory response p number RETRY) = λ n. refuses n RETRY in
+      whichever (messageRefusing s memory response p) _ P (messageRows s m) (error and error and error and error and error and retry and tt)
+      (λ passed. accepts (raw-le m (passed .1 .0)) (passed .1 .1 .1 .1 .1 .0))
 
-    pub alone-none : {says : Said} {after : List ℕ} → messageContexts ≤ freeMessage s → Replied response p 25 RETRY says after → messageJoining says s memory after ≡ matched s memory response p m
-    unfolding matched neededNoneFree
-    alone-none h r = replying s memory response p 25 RETRY _ _ r ∙ rw (never .0, never .1, none-open, le-ltb (freeMessage s) messageContexts h)
-
-    pub alone-taken : freeMessage s < messageContexts → deliveredAtOnce s memory response p m (freeMessage s) ≡ matched s memory response p m
-    unfolding matched neededNoneFree messageAccepted
-    alone-taken h = rw (never .0, never .1, none-open, lt-ltb (freeMessage s) messageContexts h, t)
-
-  -- one of several
-  module _ (t : isSingle m ≡ false) where
-    found-is : messageFound s m ≡ messageContext s (m .source) (m .letter) (m .mbox)
-    unfolding messageFound
-    found-is = rw t
-
-    -- of an open message
-    module _ (c : MessageContext) (o : messageContext s (m .source) (m .letter) (m .mbox) < messageContexts) (same : c ≡ messageIn s (messageContext s (m .source) (m .letter) (m .mbox))) where
-      opened : messageOpen s m ≡ true
-      opened = rw found-is (lt-ltb (messageContext s (m .source) (m .letter) (m .mbox)) messageContexts o)
-
-      context : messageIn s (messageFound s m) ≡ c
-      context = rw found-is (sym same)
-
-      other-is : otherMessage s m ≡ (not (eqb (c .msglen) (m .msglen)) || not (eqb (c .ssize) (m .ssize)))
-      unfolding otherMessage
-      other-is = rw (opened, context)
-
-      marked-is : alreadyMarked s m ≡ marked (c .marks) (m .msgseg)
-      unfolding alreadyMarked
-      marked-is = rw (opened, context)
-
-      free-is : neededNoneFree s m ≡ false
-      unfolding neededNoneFree
-      free-is = rw opened
-
-      pub join-msglen : {says : Said} {after : List ℕ} → (c .msglen ≡ m .msglen → ⊥) → Replied response p 23 ERROR says after → messageJoining says s memory after ≡ matched s memory response p m
-      unfolding matched
-      join-msglen d r = replying s memory response p 23 ERROR _ _ r ∙ rw (other-is, ne-eqb (c .msglen) (m .msglen) d)
-
-      pub join-ssize : {says : Said} {after : List ℕ} → (c .ssize ≡ m .ssize → ⊥) → Replied response p 23 ERROR says after → messageJoining says s memory after ≡ matched s memory response p m
-      unfolding matched
-      join-ssize d r = replying s memory response p 23 ERROR _ _ r ∙ rw (other-is, ne-eqb (c .ssize) (m .ssize) d, or-true (not (eqb (c .msglen) (m .msglen))))
-
-      module _ (l : c .msglen ≡ m .msglen) (z : c .ssize ≡ m .ssize) where
-        not-other : otherMessage s m ≡ false
-        not-other = other-is ∙ rw (eq-eqb (c .msglen) (m .msglen) l, eq-eqb (c .ssize) (m .ssize) z)
-
-        pub join-marked : {says : Said} {after : List ℕ} → marked (c .marks) (m .msgseg) ≡ true → Replied response p 24 ERROR says after
-            → messageJoining says s memory after ≡ matched s memory response p m
-        unfolding matched
-        join-marked d r = replying s memory response p 24 ERROR _ _ r ∙ rw (not-other, marked-is, d)
-
-        pub join-placed : marked (c .marks) (m .msgseg) ≡ false
-            → messagePlaced s memory response p m (messageContext s (m .source) (m .letter) (m .mbox)) (c .marks) (c .last) ≡ matched s memory response p m
-        unfolding matched messageAccepted
-        join-placed d = rw (not-other, marked-is, d, free-is, t, opened, context, found-is)
-
-    -- of a new message
-    module _ (o : messageContexts ≤ messageContext s (m .source) (m .letter) (m .mbox)) where
-      shut : messageOpen s m ≡ false
-      shut = rw found-is (le-ltb (messageContext s (m .source) (m .letter) (m .mbox)) messageContexts o)
-
-      new : (otherMessage s m ≡ false) × (alreadyMarked s m ≡ false)
-      unfolding otherMessage alreadyMarked
-      new = (rw shut, rw shut)
-
-      pub begin-none : {says : Said} {after : List ℕ} → messageContexts ≤ freeMessage s → Replied response p 25 RETRY says after → messageJoining says s memory after ≡ matched s memory response p m
-      unfolding matched neededNoneFree
-      begin-none h r = replying s memory response p 25 RETRY _ _ r ∙ rw (new .0, new .1, shut, le-ltb (freeMessage s) messageContexts h)
-
-      pub begin-placed : freeMessage s < messageContexts → messagePlaced s memory response p m (freeMessage s) 0 0 ≡ matched s memory response p m
-      unfolding matched neededNoneFree messageAccepted
-      begin-placed h = rw (new .0, new .1, shut, lt-ltb (freeMessage s) messageContexts h, t)
-
-  -- ---- the whole step
+  -- rows 20 to 22
   pub step-refused : {says : Said} {after : List ℕ} (number : ℕ) → number ≡ judged m → (number ≡ 0 → ⊥) → Replied response p number ERROR says after
       → messageJoining says s memory after ≡ messageStepped s memory response p m
-  unfolding messageStepped
-  step-refused number j n r = replying s memory response p number ERROR _ _ r ∙ rw (← j, ne-eqb number 0 n)
+  unfolding messageStepped messageRows judged
+  step-refused number j n r =
+      replying s memory response p number ERROR _ _ r
+      ∙ sym (ap by (joined-refuses (formRows m) _ number allERROR (number-refused allERROR (formRows m) number (writes-error m) j n)))
 
-  pub step-matched : judged m ≡ 0 → matched s memory response p m ≡ messageStepped s memory response p m
-  unfolding messageStepped
-  step-matched j = rw j
+  -- rows 23 to 25, once these have passed
+  module _ (fine : judged m ≡ 0) where
+    pub matched : messageStepped s memory response p m
+        ≡ cond (otherMessage s m) (refusedWith s memory response p 23 ERROR)
+        (cond (alreadyMarked s m) (refusedWith s memory response p 24 ERROR)
+        (cond (neededNoneFree s m) (refusedWith s memory response p 25 RETRY)
+        (messageAccepted s memory response p m)))
+    unfolding messageStepped messageRows
+    matched = ap by (joined-passes (formRows m) _ (form-passes m fine)) ∙ simp (by-row, by-end)
+
+    -- a single-segment message
+    module _ (t : isSingle m ≡ true) where
+      none-open : messageFound s m ≡ messageContexts
+      unfolding messageFound
+      none-open = rw t
+
+      never : (otherMessage s m ≡ false) × (alreadyMarked s m ≡ false)
+      unfolding otherMessage alreadyMarked
+      never = (rw none-open, rw none-open)
+
+      pub alone-none : {says : Said} {after : List ℕ} → messageContexts ≤ freeMessage s → Replied response p 25 RETRY says after
+          → messageJoining says s memory after ≡ messageStepped s memory response p m
+      unfolding neededNoneFree
+      alone-none h r = replying s memory response p 25 RETRY _ _ r ∙ sym (matched ∙ rw (never .0, never .1, none-open, le-ltb (freeMessage s) messageContexts h))
+
+      pub alone-taken : freeMessage s < messageContexts → deliveredAtOnce s memory response p m (freeMessage s) ≡ messageStepped s memory response p m
+      unfolding neededNoneFree messageAccepted
+      alone-taken h = sym (matched ∙ rw (never .0, never .1, none-open, lt-ltb (freeMessage s) messageContexts h, t))
+
+    -- one of several
+    module _ (t : isSingle m ≡ false) where
+      found-is : messageFound s m ≡ messageContext s (m .source) (m .letter) (m .mbox)
+      unfolding messageFound
+      found-is = rw t
+
+      -- of an open message
+      module _ (c : MessageContext) (o : messageContext s (m .source) (m .letter) (m .mbox) < messageContexts) (same : c ≡ messageIn s (messageContext s (m .source) (m .letter) (m .mbox))) where
+        opened : messageOpen s m ≡ true
+        opened = rw found-is (lt-ltb (messageContext s (m .source) (m .letter) (m .mbox)) messageContexts o)
+
+        context : messageIn s (messageFound s m) ≡ c
+        context = rw found-is (sym same)
+
+        other-is : otherMessage s m ≡ (not (eqb (c .msglen) (m .msglen)) || not (eqb (c .ssize) (m .ssize)))
+        unfolding otherMessage
+        other-is = rw (opened, context)
+
+        marked-is : alreadyMarked s m ≡ marked (c .marks) (m .msgseg)
+        unfolding alreadyMarked
+        marked-is = rw (opened, context)
+
+        free-is : neededNoneFree s m ≡ false
+        unfolding neededNoneFree
+        free-is = rw opened
+
+        pub join-msglen : {says : Said} {after : List ℕ} → (c .msglen ≡ m .msglen → ⊥) → Replied response p 23 ERROR says after
+            → messageJoining says s memory after ≡ messageStepped s memory response p m
+        join-msglen d r = replying s memory response p 23 ERROR _ _ r ∙ sym (matched ∙ rw (other-is, ne-eqb (c .msglen) (m .msglen) d))
+
+        pub join-ssize : {says : Said} {after : List ℕ} → (c .ssize ≡ m .ssize → ⊥) → Replied response p 23 ERROR says after
+            → messageJoining says s memory after ≡ messageStepped s memory response p m
+        join-ssize d r = replying s memory response p 23 ERROR _ _ r ∙ sym (matched ∙ rw (other-is, ne-eqb (c .ssize) (m .ssize) d, or-true (not (eqb (c .msglen) (m .msglen)))))
+
+        module _ (l : c .msglen ≡ m .msglen) (z : c .ssize ≡ m .ssize) where
+          not-other : otherMessage s m ≡ false
+          not-other = other-is ∙ rw (eq-eqb (c .msglen) (m .msglen) l, eq-eqb (c .ssize) (m .ssize) z)
+
+          pub join-marked : {says : Said} {after : List ℕ} → marked (c .marks) (m .msgseg) ≡ true → Replied response p 24 ERROR says after
+              → messageJoining says s memory after ≡ messageStepped s memory response p m
+          join-marked d r = replying s memory response p 24 ERROR _ _ r ∙ sym (matched ∙ rw (not-other, marked-is, d))
+
+          pub join-placed : marked (c .marks) (m .msgseg) ≡ false
+              → messagePlaced s memory response p m (messageContext s (m .source) (m .letter) (m .mbox)) (c .marks) (c .last) ≡ messageStepped s memory response p m
+          unfolding messageAccepted
+          join-placed d = sym (matched ∙ rw (not-other, marked-is, d, free-is, t, opened, context, found-is))
+
+      -- of a new message
+      module _ (o : messageContexts ≤ messageContext s (m .source) (m .letter) (m .mbox)) where
+        shut : messageOpen s m ≡ false
+        shut = rw found-is (le-ltb (messageContext s (m .source) (m .letter) (m .mbox)) messageContexts o)
+
+        new : (otherMessage s m ≡ false) × (alreadyMarked s m ≡ false)
+        unfolding otherMessage alreadyMarked
+        new = (rw shut, rw shut)
+
+        pub begin-none : {says : Said} {after : List ℕ} → messageContexts ≤ freeMessage s → Replied response p 25 RETRY says after
+            → messageJoining says s memory after ≡ messageStepped s memory response p m
+        unfolding neededNoneFree
+        begin-none h r = replying s memory response p 25 RETRY _ _ r ∙ sym (matched ∙ rw (new .0, new .1, shut, le-ltb (freeMessage s) messageContexts h))
+
+        pub begin-placed : freeMessage s < messageContexts → messagePlaced s memory response p m (freeMessage s) 0 0 ≡ messageStepped s memory response p m
+        unfolding neededNoneFree messageAccepted
+        begin-placed h = sym (matched ∙ rw (new .0, new .1, shut, lt-ltb (freeMessage s) messageContexts h, t))
 
 -- ---- what the stores and the context make
 pub taking : (s : State) (memory response p : List ℕ) (m : MessageSegment) (n box : ℕ) (state : State) (memory′ response′ : List ℕ)

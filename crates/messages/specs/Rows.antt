@@ -1,13 +1,13 @@
--- Rows 20 to 25 of the refusal table, for a type 11 packet and a state: the tests of 23 to 25 (20 to 22 need no state, crate rules), and
--- the rows (document 01, 'Refusal numbers').
+-- Rows 20 to 25 of the refusal table, for a type 11 packet and a state: the tests of 23 to 25, and the rows. 20 to 22 need no state
+-- (rules/specs/Messages.antt). Document 01, 'Refusal numbers'.
 use Prim.Native.Nat.{ℕ}
-use mathlib.Core.List.{List, [], _∷_}
+use mathlib.Core.List.{List, [], _∷_, _++_}
 use mathlib.Core.Bool.{Bool, cond, not, _||_, _&&_}
 use lib.Dec.{eqb, ltb}
 use Rattle.tables.specs.Refusals.{Row, row, allERROR, allRETRY}
 use Rattle.wire.specs.declared.MessageSegment.{MessageSegment}
 use Rattle.wire.specs.Type11.{isSingle}
-use Rattle.rules.specs.Messages.{reservedSize, badLength, pastLast}
+use Rattle.rules.specs.Messages.{formRows}
 use Rattle.contexts.specs.State.{State, messageIn, messageContext, freeMessage, messageContexts}
 use Rattle.marks.specs.Marks.{marked}
 
@@ -33,16 +33,12 @@ neededNoneFree s m = not (messageOpen s m) && not (ltb (freeMessage s) messageCo
 -- in the paper's order and words
 unfoldable pub messageRows : State → MessageSegment → List Row
 messageRows s m =
-    -- ssize reserved
-    row 20 (reservedSize m) allERROR
-    -- message data length breaks the rule
-    ∷ row 21 (badLength m) allERROR
-    -- msglen over 0, msgseg over msglen
-    ∷ row 22 (pastLast m) allERROR
+    -- 20, 21, 22: the packet's form
+    formRows m
     -- open message has another msglen or ssize
-    ∷ row 23 (otherMessage s m) allERROR
+    ++ (row 23 (otherMessage s m) allERROR
     -- segment already marked
     ∷ row 24 (alreadyMarked s m) allERROR
     -- context needed, none free
     ∷ row 25 (neededNoneFree s m) allRETRY
-    ∷ []
+    ∷ [])

@@ -11,7 +11,7 @@ ghost use Rattle.contexts.specs.Words.{stateOf};
 ghost use Rattle.rules.specs.Inside.{Sound};
 ghost use Rattle.message_rooms.specs.Placing.{messageJoining};
 ghost use Rattle.message_rooms.specs.Inside.{MessageReady};
-ghost use Rattle.messages.specs.Step.{matched, messageStepped};
+ghost use Rattle.messages.specs.Joining.{messageStepped};
 
 // A single-segment message: the lowest free context, delivered at once.
 fn take_alone(
@@ -24,7 +24,7 @@ fn take_alone(
     requires { ⌜ MessageReady (now state) (now memory) (now response) (now packet) m ⌝ }
     requires { ⌜ (Sound m) × (isSingle m ≡ true) ⌝ }
     ensures { λ r. ⌜ messageJoining (said r) (stateOf (now (state .exit))) (now (memory .exit)) (now (response .exit))
-        ≡ matched (stateOf (now (state .entry))) (now (memory .entry)) (now (response .entry)) (now (packet .entry)) m ⌝ }
+        ≡ messageStepped (stateOf (now (state .entry))) (now (memory .entry)) (now (response .entry)) (now (packet .entry)) m ⌝ }
 {
     let n = finding::free_message(state);
     if contexts::MESSAGE_CONTEXTS <= n {
@@ -55,7 +55,7 @@ fn join(
     requires { ⌜ MessageReady (now state) (now memory) (now response) (now packet) m ⌝ }
     requires { ⌜ (Sound m) × (isSingle m ≡ false) × (found < messageContexts) × (found ≡ messageContext (stateOf (now state)) (m .source) (m .letter) (m .mbox)) ⌝ }
     ensures { λ r. ⌜ messageJoining (said r) (stateOf (now (state .exit))) (now (memory .exit)) (now (response .exit))
-        ≡ matched (stateOf (now (state .entry))) (now (memory .entry)) (now (response .entry)) (now (packet .entry)) m ⌝ }
+        ≡ messageStepped (stateOf (now (state .entry))) (now (memory .entry)) (now (response .entry)) (now (packet .entry)) m ⌝ }
 {
     let c = contexts::message_at(state, found);
     if c.msglen != m.msglen {
@@ -81,7 +81,7 @@ fn begin(
     requires { ⌜ MessageReady (now state) (now memory) (now response) (now packet) m ⌝ }
     requires { ⌜ (Sound m) × (isSingle m ≡ false) × (messageContexts ≤ messageContext (stateOf (now state)) (m .source) (m .letter) (m .mbox)) ⌝ }
     ensures { λ r. ⌜ messageJoining (said r) (stateOf (now (state .exit))) (now (memory .exit)) (now (response .exit))
-        ≡ matched (stateOf (now (state .entry))) (now (memory .entry)) (now (response .entry)) (now (packet .entry)) m ⌝ }
+        ≡ messageStepped (stateOf (now (state .entry))) (now (memory .entry)) (now (response .entry)) (now (packet .entry)) m ⌝ }
 {
     let n = finding::free_message(state);
     if contexts::MESSAGE_CONTEXTS <= n {

@@ -23,7 +23,7 @@ use Rattle.message_rooms.specs.Placing as messageRoom
 use Rattle.messages.specs.Joining as message
 use Rattle.messages.specs.Rows.{messageOpen}
 use Rattle.reading.specs.Table.{Lent, stateIn, segmentIn, messageSegmentIn, table}
-use Rattle.reading.specs.Read.{Left, leaving, accepting, outcome, reading}
+use Rattle.reading.specs.Read.{Settled, refusing, accepting, outcome, reading}
 use Rattle.endpoint.specs.Calls.{Stands, setupTable, setupBy, setup, abandonTable, abandonBy, abandonStream, abandonMessage}
 use Rattle.cutting.specs.Cutting.{packetOf}
 use Rattle.segments.specs.Writer.{writerTable, wroteBy, writing}
@@ -63,7 +63,7 @@ no-refusal says = (number : ℕ) → says ≡ refused number → ⊥
 held-no : no-refusal held
 held-no number e = let z : _≡_ {A = ℕ} 0 1 = cc in omega arith
 
-pub number-said : (x : Lent) (number : ℕ) (leaves : Leaves) → leaving x number leaves .says ≡ refused number
+pub number-said : (x : Lent) (number : ℕ) (leaves : Leaves) → refusing x number leaves .says ≡ refused number
 unfolding stream.refusedClosing
 number-said x number all = refl
 number-said x number flowClosed = refl
@@ -87,12 +87,12 @@ module _ (x : Lent) where
       (chosen (λ (j : messageRoom.MessageJoined). no-refusal (j .says)) (messageOpen (stateIn x) (messageSegmentIn x)) _ _ (placed-no _ _ _) (placed-no _ 0 0))
 
   accepted-no : no-refusal (accepting x .says)
-  accepted-no = chosen (λ (l : Left). no-refusal (l .says)) (is9 (x .packet)) _ _ stream-no message-no
+  accepted-no = chosen (λ (l : Settled). no-refusal (l .says)) (is9 (x .packet)) _ _ stream-no message-no
 
 pub reading-by-table : ReadingByTable
 unfolding reading
 reading-by-table x =
-    by-table (table x) (λ (n : ℕ) (o : Left). o .says ≡ refused n) (outcome x) (number-said x)
+    by-table (table x) (λ (n : ℕ) (o : Settled). o .says ≡ refused n) (outcome x) (number-said x)
     (λ n number leaves e. let s : refused number ≡ refused n = sym (number-said x number leaves) ∙ e in cc) (accepted-no x)
 
 -- ---- The others

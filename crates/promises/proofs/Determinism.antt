@@ -10,7 +10,7 @@ use Rattle.answers.specs.declared.Abandoned.{Abandoned}
 use Rattle.answers.specs.Answers.{SetupSaid, AbandonSaid, saidOfAbandon}
 use Rattle.answers.specs.Once.{Outcome, OneOutcome}
 use Rattle.answers.proofs.Once.{said-once, setup-once, abandon-once, writer-once, both}
-use Rattle.reading.specs.Read.{Left}
+use Rattle.reading.specs.Read.{Settled}
 use Rattle.endpoint.specs.Calls.{Stands, stands, Part, IsPart}
 use Rattle.segments.specs.Writer.{Wrote}
 use Rattle.promises.specs.Determinism.{OneRoom, OneOutcomeEach}
@@ -39,8 +39,8 @@ one-outcome-each = record {
   read = λ x y z p q.
       let e = p ∙ sym q in
       both
-      (same-reading (y .answer) (z .answer) (said-once (y .answer .answer) (z .answer .answer) (ap (λ (l : Left). l .says) e)) (ap (λ (l : Left). l .dropped) e) (ap (λ (l : Left). l .replied) e))
-      (ap (λ (l : Left). l .desk) e);
+      (same-reading (y .answer) (z .answer) (said-once (y .answer .answer) (z .answer .answer) (ap (λ (l : Settled). l .says) e)) (ap (λ (l : Settled). l .dropped) e) (ap (λ (l : Settled). l .replied) e))
+      (ap (λ (l : Settled). l .desk) e);
   abandon-stream = λ words n. abandoned _;
   abandon-message = λ words n. abandoned _;
   stream-room = λ words memory n l. room memory _;

@@ -14,19 +14,19 @@ use Rattle.refusal19.specs.Refusal19.{namedBy19}
 use Rattle.contexts.proofs.Words.{state-of, length-words}
 use Rattle.refusal19.proofs.Kept.{fresh-good, stream-kept, message-kept, closed-stream, closed-message}
 use Rattle.reading.specs.Good.{GoodWords, StillGood}
-use Rattle.reading.proofs.Kept.{settled, unchanged, stays-good}
+use Rattle.reading.proofs.Kept.{good-words, unchanged, stays-good}
 use Rattle.wire.specs.Packet.{header}
 use Rattle.answers.specs.declared.Begun.the-variants.{Ready}
 use Rattle.endpoint.specs.Calls.{SetupPromise, Stands, stands, SetupLeaves, setupTable, setup, setupBy, abandonTable, abandonBy, abandonStream, abandonMessage}
 use Rattle.promises.specs.GoodStates.{GoodStatesStay}
 
 -- ---- setup
-good-words : (device mtu room : ℕ) → namedBy19 (fresh (fixed device mtu room)) ≡ false → GoodWords (wordsOf (fresh (fixed device mtu room)))
-good-words device mtu room g = record { whole = length-words (fresh (fixed device mtu room)) refl refl; good = ap namedBy19 (state-of (fresh (fixed device mtu room)) refl refl) ∙ g }
+fresh-words : (device mtu room : ℕ) → namedBy19 (fresh (fixed device mtu room)) ≡ false → GoodWords (wordsOf (fresh (fixed device mtu room)))
+fresh-words device mtu room g = record { whole = length-words (fresh (fixed device mtu room)) refl refl; good = ap namedBy19 (state-of (fresh (fixed device mtu room)) refl refl) ∙ g }
 
 passed : (words : List ℕ) (device mtu room : ℕ) → none (setupTable words mtu room) → GoodWords (wordsOf (fresh (fixed device mtu room)))
 unfolding none setupTable
-passed words device mtu room n = good-words device mtu room (fresh-good (fixed device mtu room) (n .1 .0) (n .1 .1 .0))
+passed words device mtu room n = fresh-words device mtu room (fresh-good (fixed device mtu room) (n .1 .0) (n .1 .1 .0))
 
 module _ (words : List ℕ) (device mtu room : ℕ) (after : List ℕ) where
   by-setup : (v : VerdictOf SetupLeaves) → verdict (setupTable words mtu room) ≡ v → stands ready after ≡ setupBy words device mtu room v → GoodWords after
@@ -51,14 +51,14 @@ module _ (words : List ℕ) (n : ℕ) (g : GoodWords words) where
   unfolding abandonStream
   abandon-stream-good =
       by-verdict words _ _ (verdict (abandonTable words streamContexts n)) g
-      (settled words (withStream (stateOf words) n closedStream) (record { setup = refl; streams = simp length-set; messages = refl })
+      (good-words words (withStream (stateOf words) n closedStream) (record { setup = refl; streams = simp length-set; messages = refl })
       (stream-kept (stateOf words) n closedStream (g .good) (closed-stream (stateOf words .setup .room))))
 
   abandon-message-good : StillGood (stateOf words) (abandonMessage words n .words)
   unfolding abandonMessage
   abandon-message-good =
       by-verdict words _ _ (verdict (abandonTable words messageContexts n)) g
-      (settled words (withMessage (stateOf words) n closedMessage) (record { setup = refl; streams = refl; messages = simp length-set })
+      (good-words words (withMessage (stateOf words) n closedMessage) (record { setup = refl; streams = refl; messages = simp length-set })
       (message-kept (stateOf words) n closedMessage (g .good) closed-message))
 
 pub good-states-stay : GoodStatesStay

@@ -22,8 +22,7 @@ use Rattle.wire.specs.Parsed.{parsedBy, parsed}
 use Rattle.sizes.specs.Sizes.{dataLength}
 use Rattle.contexts.specs.State.{State}
 use Rattle.stream_rooms.specs.Placing.{dataOf, placed}
-use Rattle.streams.specs.Joining.{accepted}
-use Rattle.streams.specs.Step.{begun, continued, stepped}
+use Rattle.streams.specs.Joining.{accepted, stepped}
 use Rattle.reading.specs.Desk.{Desk, stateOn}
 use Rattle.reading.specs.Table.{lent, isState, wrongSizes, lentRows, lentRefusal}
 use Rattle.reading.specs.Read.{ofStream, reading}
@@ -176,7 +175,7 @@ nine-parsed P p nine refused stream device = go (verdict (headRows device p))
 
 -- a step takes from a type 9 packet only its data
 same-step : (s : State) (memory p q : List ℕ) (g : Segment) → dataOf p g ≡ dataOf q g → stepped s memory p g ≡ stepped s memory q g
-unfolding stepped begun continued accepted placed
+unfolding stepped accepted placed
 same-step s memory p q g e = rw e
 
 module _ (d : Desk) (p q : List ℕ) (differ : DifferInIgnored p q) where

@@ -17,9 +17,10 @@ use Rattle.streams.specs.Joining as stream
 use Rattle.message_rooms.specs.Placing as messageRoom
 use Rattle.messages.specs.Joining as message
 use Rattle.streams.specs.Rows.{streamRows}
+use Rattle.rules.specs.Messages.{formRows}
 use Rattle.messages.specs.Rows.{messageOpen, messageRows}
 use Rattle.reading.specs.Table.{Lent, stateIn, segmentIn, messageSegmentIn, lentRows, table}
-use Rattle.reading.specs.Read.{reading, outcome, leaving, accepting}
+use Rattle.reading.specs.Read.{reading, outcome, refusing, accepting}
 use Rattle.wire.proofs.Head.{one-type}
 use Rattle.reading.proofs.Kept.{other-type}
 use Rattle.lists.specs.Each.{Each}
@@ -36,13 +37,13 @@ writes flowClosed = option.none
 writes allERROR = option.some ERROR
 writes allRETRY = option.some RETRY
 
-left-response : (x : Lent) (number : ℕ) (leaves : Leaves) → leaving x number leaves .desk .response ≡ responseLeft x (writes leaves)
+left-response : (x : Lent) (number : ℕ) (leaves : Leaves) → refusing x number leaves .desk .response ≡ responseLeft x (writes leaves)
 left-response x number all = refl
 left-response x number flowClosed = refl
 left-response x number allERROR = refl
 left-response x number allRETRY = refl
 
-left-replied : (x : Lent) (number : ℕ) (leaves : Leaves) → leaving x number leaves .replied ≡ repliedBy (writes leaves)
+left-replied : (x : Lent) (number : ℕ) (leaves : Leaves) → refusing x number leaves .replied ≡ repliedBy (writes leaves)
 left-replied x number all = refl
 left-replied x number flowClosed = refl
 left-replied x number allERROR = refl
@@ -69,7 +70,7 @@ module _ (x : Lent) where
   told number test leaves s = record { status = s; type = λ status e h. both (is11 (x .packet)) test h .0 }
 
   agree : Each (Agrees x) (table x)
-  unfolding table lentRows headRows given streamRows messageRows
+  unfolding table lentRows headRows given streamRows messageRows formRows
   agree =
       quiet 19 _ all refl refl and quiet 12 _ all refl refl and quiet 1 _ all refl refl and quiet 2 _ all refl refl and quiet 3 _ all refl refl and quiet 4 _ all refl refl
       and quiet 1 _ all refl refl and quiet 5 _ all refl refl and quiet 1 _ all refl refl and quiet 6 _ flowClosed refl refl and quiet 7 _ flowClosed refl refl
@@ -130,12 +131,12 @@ module _ (x : Lent) where
       let d = message-done t in
       rw n (by-status (option.some DONE) (j .response) (j .says) (d .status) (d .response))
 
-  pub said-status : (number : ℕ) (leaves : Leaves) → statusOf x (leaving x number leaves .says) ≡ statusIn statuses number
+  pub said-status : (number : ℕ) (leaves : Leaves) → statusOf x (refusing x number leaves .says) ≡ statusIn statuses number
   said-status number leaves = ap (statusOf x) (number-said x number leaves)
 
   left : (v : Verdict) → verdict (table x) ≡ v → outcome x v .desk .response ≡ responseLeft x (statusOf x (outcome x v .says))
   left (refuse number leaves) e =
-      by-status (writes leaves) (leaving x number leaves .desk .response) (leaving x number leaves .says) (said-status number leaves ∙ refused-so number leaves e .status)
+      by-status (writes leaves) (refusing x number leaves .desk .response) (refusing x number leaves .says) (said-status number leaves ∙ refused-so number leaves e .status)
       (left-response x number leaves)
   left accept e = by-test (is9 (x .packet)) stream-left (λ n. message-left n (other-type x (none-held (table x) e) n))
 

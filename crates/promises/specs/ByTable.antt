@@ -18,25 +18,25 @@ use Rattle.contexts.specs.State.{Setup, fresh, streamIn, messageIn, withStream,
 use Rattle.contexts.specs.State.{streamContexts, messageContexts}
 use Rattle.contexts.specs.Words.{stateOf, wordsOf}
 use Rattle.reading.specs.Table.{Lent, table}
-use Rattle.reading.specs.Read.{Left, leaving, accepting, reading}
+use Rattle.reading.specs.Read.{Settled, refusing, accepting, reading}
 use Rattle.endpoint.specs.Calls.{Stands, stands, setupTable, setupLeaving, setup, abandonTable, abandonStream, abandonMessage}
 use Rattle.cutting.specs.declared.Heading.{Heading}
 use Rattle.cutting.specs.Cutting.{packetOf}
 use Rattle.segments.specs.Writer.{Wrote, wroteOf, writerTable, writing}
 
--- `refuses n o`: the outcome o refuses by number n; `leaving` is the table's last column, `accepting` what is left where no row's test holds
-pub record ByTable {O L : Type 0} (table : List (RowOf L)) (refuses : ℕ → O → Type 0) (leaving : ℕ → L → O) (accepting outcome : O) : Type 0 where
+-- `refuses n o`: the outcome o refuses by number n; `refusing` is the table's last column, `accepting` what is left where no row's test holds
+pub record ByTable {O L : Type 0} (table : List (RowOf L)) (refuses : ℕ → O → Type 0) (refusing : ℕ → L → O) (accepting outcome : O) : Type 0 where
   -- a number is answered exactly if a row of that number has a test that holds and no earlier row has
   pub refused-exactly : (number : ℕ) → refuses number outcome ↔ ((r : RowOf L) × Decides table r × (r .number ≡ number))
   -- the row that decides also says what is left
-  pub row-leaves : (r : RowOf L) → Decides table r → outcome ≡ leaving (r .number) (r .leaves)
+  pub row-leaves : (r : RowOf L) → Decides table r → outcome ≡ refusing (r .number) (r .leaves)
   -- it is refused by no number exactly if no row's test holds
   pub accepted-exactly : none table ↔ ((number : ℕ) → refuses number outcome → ⊥)
   pub accepted-leaves : none table → outcome ≡ accepting
 
 -- reading a packet: state, memories and response as the table's last column says
 abbrev pub ReadingByTable : Type 0
-ReadingByTable = (x : Lent) → ByTable (table x) (λ (n : ℕ) (o : Left). o .says ≡ refused n) (leaving x) (accepting x) (reading x)
+ReadingByTable = (x : Lent) → ByTable (table x) (λ (n : ℕ) (o : Settled). o .says ≡ refused n) (refusing x) (accepting x) (reading x)
 
 -- a packet by itself, before any context: rows 1 to 5; else the fields of its type
 abbrev pub HeadByTable : Type 0

@@ -20,11 +20,12 @@ use Rattle.streams.specs.Joining as stream
 use Rattle.message_rooms.specs.Placing as messageRoom
 use Rattle.messages.specs.Joining as message
 use Rattle.streams.specs.Rows.{streamRows}
+use Rattle.rules.specs.Messages.{formRows}
 use Rattle.messages.specs.Rows.{messageOpen, messageFound, messageRows}
 use Rattle.streams.proofs.Kept as streams
 use Rattle.messages.proofs.Kept as messages
 use Rattle.reading.specs.Table.{Lent, stateIn, segmentIn, messageSegmentIn, lentRows, table}
-use Rattle.reading.specs.Read.{reading, outcome, leaving}
+use Rattle.reading.specs.Read.{reading, outcome, refusing}
 use Rattle.reading.specs.Good.{StillGood}
 
 -- the words of a state with as many contexts
@@ -33,8 +34,8 @@ pub record Same (s t : State) : Type 0 where
   pub streams : length (t .streams) ≡ length (s .streams)
   pub messages : length (t .messages) ≡ length (s .messages)
 
-pub settled : (w : List ℕ) (t : State) → Same (stateOf w) t → namedBy19 t ≡ false → StillGood (stateOf w) (wordsOf t)
-settled w t e g =
+pub good-words : (w : List ℕ) (t : State) → Same (stateOf w) t → namedBy19 t ≡ false → StillGood (stateOf w) (wordsOf t)
+good-words w t e g =
     let back : stateOf (wordsOf t) ≡ t = state-of t (e .streams ∙ sixteen w) (e .messages ∙ eight w) in
     record {
       whole = length-words t (e .streams ∙ sixteen w) (e .messages ∙ eight w);
@@ -91,33 +92,33 @@ module _ (x : Lent) where
 
   -- an accepted packet that is not of type 9 is of type 11
   pub other-type : Passed → is9 (x .packet) ≡ false → is11 (x .packet) ≡ true
-  unfolding none table lentRows headRows given streamRows messageRows
+  unfolding none table lentRows headRows given streamRows messageRows formRows
   other-type n f = the-other (is9 (x .packet)) (is11 (x .packet)) (n .1 .1 .1 .1 .1 .0) f
 
   module _ (whole : length (x .desk .words) ≡ stateWords) (fine : namedBy19 (stateIn x) ≡ false) (small : getD (x .packet) header 0 < 256) where
-    stream-settled : Passed → is9 (x .packet) ≡ true → StillGood (stateIn x) (wordsOf (stream.accepted (stateIn x) (x .desk .streamMemory) (x .packet) (segmentIn x) .state))
-    unfolding none table lentRows headRows given streamRows messageRows
-    stream-settled n t =
+    stream-good : Passed → is9 (x .packet) ≡ true → StillGood (stateIn x) (wordsOf (stream.accepted (stateIn x) (x .desk .streamMemory) (x .packet) (segmentIn x) .state))
+    unfolding none table lentRows headRows given streamRows messageRows formRows
+    stream-good n t =
         let row-6 = n .1 .1 .1 .1 .1 .1 .1 .1 .1 in
         let row-9 = row-6 .1 .1 .1 in
-        settled (x .desk .words) _ stream-same
+        good-words (x .desk .words) _ stream-same
         (streams.accepted-kept (stateIn x) (x .desk .streamMemory) (x .packet) (segmentIn x) fine (not-second (is9 (x .packet)) _ t (row-6 .0)) (not-second (is9 (x .packet)) _ t (row-9 .0)))
 
     few : messageSegmentIn x .msglen < 16
     unfolding messageOf
     few = omega (arith, small)
 
-    message-settled : Passed → is9 (x .packet) ≡ false
+    message-good : Passed → is9 (x .packet) ≡ false
         → StillGood (stateIn x) (wordsOf (message.messageAccepted (stateIn x) (x .desk .messageMemory) (x .desk .response) (x .packet) (messageSegmentIn x) .state))
-    unfolding none table lentRows headRows given streamRows messageRows
-    message-settled n f =
+    unfolding none table lentRows headRows given streamRows messageRows formRows
+    message-good n f =
         let t : is11 (x .packet) ≡ true = other-type n f in
         let row-20 = n .1 .1 .1 .1 .1 .1 .1 .1 .1 .1 .1 .1 .1 .1 .1 in
         let row-21 = row-20 .1 in
         let row-22 = row-21 .1 in
         let row-23 = row-22 .1 in
         let row-24 = row-23 .1 in
-        settled (x .desk .words) _ message-same
+        good-words (x .desk .words) _ message-same
         (messages.accepted-kept (stateIn x) (x .desk .messageMemory) (x .desk .response) (x .packet) (messageSegmentIn x) fine (eight (x .desk .words)) few
         (not-second (is11 (x .packet)) _ t (row-20 .0)) (not-second (is11 (x .packet)) _ t (row-21 .0)) (not-second (is11 (x .packet)) _ t (row-22 .0))
         (not-second (is11 (x .packet)) _ t (row-23 .0)) (not-second (is11 (x .packet)) _ t (row-24 .0)))
@@ -126,9 +127,9 @@ module _ (x : Lent) where
     unfolding reading
     stays-good = by-verdict (verdict (table x)) refl
       where
-        by-leaves : (number : ℕ) (leaves : Leaves) → StillGood (stateIn x) (leaving x number leaves .desk .words)
+        by-leaves : (number : ℕ) (leaves : Leaves) → StillGood (stateIn x) (refusing x number leaves .desk .words)
         by-leaves number all = unchanged (x .desk .words) whole fine
-        by-leaves number flowClosed = settled (x .desk .words) _ (closing-same number) (streams.closing-kept (stateIn x) (x .desk .streamMemory) (x .packet) (segmentIn x) fine number)
+        by-leaves number flowClosed = good-words (x .desk .words) _ (closing-same number) (streams.closing-kept (stateIn x) (x .desk .streamMemory) (x .packet) (segmentIn x) fine number)
         by-leaves number allERROR = unchanged (x .desk .words) whole fine
         by-leaves number allRETRY = unchanged (x .desk .words) whole fine
 
@@ -136,5 +137,5 @@ module _ (x : Lent) where
         by-verdict (refuse number leaves) e = by-leaves number leaves
         by-verdict accept e =
             by-test (is9 (x .packet))
-            (λ t. rw t (stream-settled (none-held (table x) e) t))
-            (λ t. rw t (message-settled (none-held (table x) e) t))
+            (λ t. rw t (stream-good (none-held (table x) e) t))
+            (λ t. rw t (message-good (none-held (table x) e) t))

@@ -16,7 +16,7 @@ use Rattle.refusal19.specs.Lent.{stateRefusal}
 use Rattle.reading.specs.Desk.{Desk, stateOn}
 use Rattle.reading.specs.Table.{isState, wrongSizes, lentRows, lentRefusal}
 use Rattle.reading.specs.Inside.{ReadyToRead}
-use Rattle.reading.proofs.Left.{sizes-fit}
+use Rattle.reading.proofs.Laws.{sizes-fit}
 
 module _ (d : Desk) where
   -- ---- the test, by what the code asks

@@ -1,10 +1,7 @@
-pub mod Cases
-pub mod StreamRows
-pub mod MessageRows
 pub mod Rows
 pub mod Packets
 pub mod Kept
-pub mod Left
+pub mod Laws
 pub mod Response
 pub mod Spoken
 pub mod Computing

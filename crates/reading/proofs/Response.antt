@@ -16,7 +16,7 @@ use Rattle.messages.specs.Joining as message
 use Rattle.messages.specs.Rows.{messageOpen, messageFound}
 use Rattle.reading.specs.Desk.{desk}
 use Rattle.reading.specs.Table.{Lent, lent, stateIn, messageSegmentIn, wrongSizes, lentRows, table}
-use Rattle.reading.specs.Read.{butResponse, ofMessage, reading, outcome, leaving}
+use Rattle.reading.specs.Read.{butResponse, ofMessage, reading, outcome, refusing}
 use Rattle.lists.proofs.Tests.{by-test}
 
 module _ (words streams messages response response′ packet : List ℕ) where
@@ -42,7 +42,7 @@ module _ (words streams messages response response′ packet : List ℕ) where
       (λ o. rw (t, o) (placed-alike (messageFound (stateIn x) (messageSegmentIn x)) _ _))
       (λ o. rw (t, o) (placed-alike (freeMessage (stateIn x)) 0 0)))
 
-  by-leaves : (number : ℕ) (leaves : Leaves) → butResponse (leaving x number leaves) ≡ butResponse (leaving y number leaves)
+  by-leaves : (number : ℕ) (leaves : Leaves) → butResponse (refusing x number leaves) ≡ butResponse (refusing y number leaves)
   by-leaves number all = refl
   by-leaves number flowClosed = refl
   by-leaves number allERROR = refl

@@ -4,7 +4,7 @@ use Rattle.answers.specs.declared.Reading.{Reading}
 use Rattle.answers.specs.Answers.{Said, said}
 use Rattle.answers.proofs.Once as once
 use Rattle.reading.specs.Table.{Lent}
-use Rattle.reading.specs.Read.{left, reading, ReadPromise}
+use Rattle.reading.specs.Read.{settled, reading, ReadPromise}
 
 module _ (x : Lent) where
   abbrev pub answered-by : Reading
@@ -14,4 +14,4 @@ module _ (x : Lent) where
   says-it = once.says-it (reading x .says)
 
   pub promised : ReadPromise x answered-by (reading x .desk)
-  promised = ap (λ (s : Said). left s (reading x .dropped) (reading x .replied) (reading x .desk)) says-it
+  promised = ap (λ (s : Said). settled s (reading x .dropped) (reading x .replied) (reading x .desk)) says-it

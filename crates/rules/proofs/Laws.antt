@@ -5,14 +5,19 @@ use mathlib.Core.Bool.{Bool, true, false, cond, not, _&&_}
 use native.Mathlib.Omega.{arith}
 use lib.Dec.{eqb, ltb}
 use borrow.Author.Tests.{lt-ltb, le-ltb, eq-eqb, ne-eqb, eqb-true, ltb-false, not-false}
+use Rattle.lists.specs.Each.{Each}
+use Rattle.lists.proofs.Tests.{_and_}
+use Rattle.tables.specs.Refusals.{Row, allERROR, accept, verdict, none}
+use Rattle.tables.proofs.Exactly.{none-held}
+use Rattle.tables.proofs.Numbers.{number-accepted}
 use Rattle.wire.specs.declared.MessageSegment.{MessageSegment}
 use Rattle.wire.specs.Type11.{isSingle, isLast}
 use Rattle.sizes.specs.Sizes.{bytesOf, inEights}
 use Rattle.sizes.proofs.Laws.{eights-le}
-use Rattle.rules.specs.Messages.{reservedSize, badLength, pastLast, judged, lastWith}
+use Rattle.rules.specs.Messages.{reservedSize, badLength, pastLast, formRows, judged, lastWith}
 use Rattle.rules.specs.Inside.{Sound}
 
-raw-le : (m : MessageSegment) → badLength m ≡ false → m .raw ≤ bytesOf (m .ssize)
+pub raw-le : (m : MessageSegment) → badLength m ≡ false → m .raw ≤ bytesOf (m .ssize)
 unfolding badLength
 raw-le m = go (isLast m)
   where
@@ -24,31 +29,49 @@ pub seg-le : (m : MessageSegment) → pastLast m ≡ false → isSingle m ≡ fa
 unfolding pastLast
 seg-le m e s = ltb-false (m .msglen) (m .msgseg) (ap (λ (b : Bool). not b && ltb (m .msglen) (m .msgseg)) (sym s) ∙ e)
 
-pub sound : (m : MessageSegment) → judged m ≡ 0 → Sound m
+-- each of these rows has a number, and writes ERROR
+some-number : (m : MessageSegment) → Each (λ (r : Row). r .number ≡ 0 → ⊥) (formRows m)
+unfolding formRows
+some-number m = (λ z. omega arith) and (λ z. omega arith) and (λ z. omega arith) and tt
+
+pub writes-error : (m : MessageSegment) → Each (λ (r : Row). r .leaves ≡ allERROR) (formRows m)
+unfolding formRows
+writes-error m = refl and refl and refl and tt
+
+-- judged to be fine: no row holds
+pub form-passes : (m : MessageSegment) → judged m ≡ 0 → verdict (formRows m) ≡ accept
 unfolding judged
-sound m = go (reservedSize m) (badLength m) (pastLast m) refl refl
-  where
-    go : (a b d : Bool) → badLength m ≡ b → pastLast m ≡ d → _≡_ {A = ℕ} (cond a 20 (cond b 21 (cond d 22 0))) 0 → Sound m
-    go true b d p q e = absurd (omega arith)
-    go false true d p q e = absurd (omega arith)
-    go false false true p q e = absurd (omega arith)
-    go false false false p q e = record { fits = raw-le m p; past = seg-le m q }
+form-passes m e = number-accepted (formRows m) (some-number m) e
+
+pub sound : (m : MessageSegment) → judged m ≡ 0 → Sound m
+unfolding formRows none
+sound m e =
+    let rows = none-held (formRows m) (form-passes m e) in
+    record { rows = e; fits = raw-le m (rows .1 .0); past = seg-le m (rows .1 .1 .0) }
+
+pub judged-fine : (m : MessageSegment) → reservedSize m ≡ false → badLength m ≡ false → pastLast m ≡ false → judged m ≡ 0
+unfolding judged formRows verdict
+judged-fine m a b d = rw (a, b, d)
 
 -- the code's numbers are these
+pub judge-size : (m : MessageSegment) → bytesOf (m .ssize) ≡ 0 → 20 ≡ judged m
+unfolding judged formRows verdict reservedSize
+judge-size m a = rw (eq-eqb (bytesOf (m .ssize)) 0 a)
+
 pub judge-length : (m : MessageSegment) → (bytesOf (m .ssize) ≡ 0 → ⊥) → badLength m ≡ true → 21 ≡ judged m
-unfolding judged reservedSize
+unfolding judged formRows verdict reservedSize
 judge-length m a e = rw (ne-eqb (bytesOf (m .ssize)) 0 a, e)
 
 pub judge-single : (m : MessageSegment) → (bytesOf (m .ssize) ≡ 0 → ⊥) → badLength m ≡ false → m .msglen ≡ 0 → 0 ≡ judged m
-unfolding judged reservedSize pastLast
+unfolding judged formRows verdict reservedSize pastLast
 judge-single m a e s = rw (ne-eqb (bytesOf (m .ssize)) 0 a, e, eq-eqb (m .msglen) 0 s)
 
 pub judge-past : (m : MessageSegment) → (bytesOf (m .ssize) ≡ 0 → ⊥) → badLength m ≡ false → (m .msglen ≡ 0 → ⊥) → m .msglen < m .msgseg → 22 ≡ judged m
-unfolding judged reservedSize pastLast
+unfolding judged formRows verdict reservedSize pastLast
 judge-past m a e s h = rw (ne-eqb (bytesOf (m .ssize)) 0 a, e, ne-eqb (m .msglen) 0 s, lt-ltb (m .msglen) (m .msgseg) h)
 
 pub judge-none : (m : MessageSegment) → (bytesOf (m .ssize) ≡ 0 → ⊥) → badLength m ≡ false → (m .msglen ≡ 0 → ⊥) → m .msgseg ≤ m .msglen → 0 ≡ judged m
-unfolding judged reservedSize pastLast
+unfolding judged formRows verdict reservedSize pastLast
 judge-none m a e s h = rw (ne-eqb (bytesOf (m .ssize)) 0 a, e, ne-eqb (m .msglen) 0 s, le-ltb (m .msglen) (m .msgseg) h)
 
 pub last-with-le : (m : MessageSegment) (last : ℕ) → last ≤ 256 → m .raw ≤ 256 → lastWith m last ≤ 256

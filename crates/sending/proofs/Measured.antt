@@ -18,7 +18,7 @@ use Rattle.wire.specs.declared.MessageSegment.{MessageSegment}
 use Rattle.wire.specs.Type11.{isSingle, mailbox}
 use Rattle.wire.specs.Head.{is9, headRows}
 use Rattle.sizes.specs.Sizes.{bytesOf, dataLength}
-use Rattle.rules.specs.Messages.{lastWith}
+use Rattle.rules.specs.Messages.{lastWith, formRows}
 use Rattle.messages.specs.Rows.{messageFound as found, messageOpen, messageRows}
 use Rattle.contexts.specs.State.{Setup, State, freeStream, freeMessage, messageIn}
 use Rattle.contexts.specs.Words.{stateWords}
@@ -30,10 +30,10 @@ use Rattle.streams.proofs.Kept as streams
 use Rattle.message_rooms.specs.Placing as boxes
 use Rattle.messages.specs.Joining as message
 use Rattle.reading.specs.Table.{Lent, lent, stateIn, segmentIn, messageSegmentIn, isState, wrongSizes, lentRows, table}
-use Rattle.reading.specs.Read.{Left, ofStream, ofMessage, leaving, outcome, reading}
+use Rattle.reading.specs.Read.{Settled, ofStream, ofMessage, refusing, outcome, reading}
 use Rattle.reading.specs.Inside.{Fit, ReadyToRead}
-use Rattle.reading.proofs.Left.{sizes-fit}
-use Rattle.reading.proofs.Kept.{settled, room-kept}
+use Rattle.reading.proofs.Laws.{sizes-fit}
+use Rattle.reading.proofs.Kept.{good-words, room-kept}
 use Rattle.flows.proofs.Rooms.{stored-length, room-length}
 use Rattle.sending.specs.OfSendings.{LengthIsMeasured}
 
@@ -51,7 +51,7 @@ message-none : (n s l m z : ℕ) → NoDelivery (answers.message n s l m z)
 message-none n s l m z context flow stream size e = let w : _≡_ {A = ℕ} 0 1 = cc in omega arith
 
 -- refused, nothing is delivered
-leaving-none : (x : Lent) (number : ℕ) (leaves : Leaves) → NoDelivery (leaving x number leaves .says)
+leaving-none : (x : Lent) (number : ℕ) (leaves : Leaves) → NoDelivery (refusing x number leaves .says)
 unfolding stream.refusedClosing
 leaving-none x number all = refused-none number
 leaving-none x number flowClosed = refused-none number
@@ -81,7 +81,7 @@ messages-none s memory response p m = go (isSingle m) (messageOpen s m)
 -- ---- What a delivery leaves
 
 -- everything lent fits again; the context is one of so many, and the length no longer than its room
-pub record Delivers (rooms room : ℕ) (y : Left) (context size : ℕ) : Type 0 where
+pub record Delivers (rooms room : ℕ) (y : Settled) (context size : ℕ) : Type 0 where
   pub fit : Fit (y .desk)
   pub below : context < rooms
   pub within : size ≤ room
@@ -120,7 +120,7 @@ data-short p g = simp length-take (omega arith)
 module _ (x : Lent) (passed : none (table x)) where
   -- rows 19 and 12
   pub was-ready : ReadyToRead (x .desk)
-  unfolding none table lentRows headRows given streamRows messageRows
+  unfolding none table lentRows headRows given streamRows messageRows formRows
   was-ready =
       let row-12 = neither (not (isState (x .desk))) (wrongSizes (x .desk)) (passed .1 .0) in
       let is-state : isState (x .desk) ≡ true = not-false (isState (x .desk)) (row-12 .0) in
@@ -143,11 +143,11 @@ module _ (x : Lent) (passed : none (table x)) where
     joined = stream.accepted (stateIn x) (x .desk .streamMemory) (x .packet) g
 
     context-below : stream.contextFor (stateIn x) g < 16
-    unfolding table lentRows headRows given streamRows messageRows
+    unfolding table lentRows headRows given streamRows messageRows formRows
     context-below = below-16 (stateIn x) g (of-type (is9 (x .packet)) _ nine (row-passed 8 (table x) passed)) (of-type (is9 (x .packet)) _ nine (row-passed 10 (table x) passed))
 
     row-9 : passesRoom (stateIn x) g ≡ false
-    unfolding table lentRows headRows given streamRows messageRows
+    unfolding table lentRows headRows given streamRows messageRows formRows
     row-9 = of-type (is9 (x .packet)) _ nine (row-passed 9 (table x) passed)
 
     fits : total (stateIn x) g ≤ stateIn x .setup .room
@@ -155,13 +155,13 @@ module _ (x : Lent) (passed : none (table x)) where
     fits = ltb-false (stateIn x .setup .room) (total (stateIn x) g) row-9
 
     good-after : namedBy19 (joined .state) ≡ false
-    unfolding table lentRows headRows given streamRows messageRows
+    unfolding table lentRows headRows given streamRows messageRows formRows
     good-after = streams.accepted-kept (stateIn x) (x .desk .streamMemory) (x .packet) g (was-ready .fit .good) (of-type (is9 (x .packet)) _ nine (row-passed 6 (table x) passed)) row-9
 
     stream-fit : Fit (ofStream x joined .desk)
     unfolding stream.accepted placing.placed
     stream-fit =
-        let kept = settled (x .desk .words) (joined .state) (record { setup = refl; streams = simp length-set; messages = refl }) good-after in
+        let kept = good-words (x .desk .words) (joined .state) (record { setup = refl; streams = simp length-set; messages = refl }) good-after in
         let stored = stored-length (stateIn x .setup .room) (x .desk .streamMemory) (was-ready .fit .rooms) (stream.contextFor (stateIn x) g) context-below (heldBefore (stateIn x) g)
         (placing.dataOf (x .packet) g) (omega (arith, data-short (x .packet) g, fits)) in
         record {

@@ -18,7 +18,7 @@ use Rattle.streams.specs.Joining as stream
 use Rattle.message_rooms.specs.Placing as boxes
 use Rattle.messages.specs.Joining as message
 use Rattle.reading.specs.Table.{Lent, lent, stateIn, segmentIn, messageSegmentIn, table}
-use Rattle.reading.specs.Read.{ofStream, ofMessage, leaving, outcome, reading}
+use Rattle.reading.specs.Read.{ofStream, ofMessage, refusing, outcome, reading}
 use Rattle.reading.specs.Desk.{Desk, stateOn}
 use Rattle.flows.specs.Deliveries.{after, view}
 use Rattle.flows.specs.ByFlow.{OwnFlow, NoFlow, ByFlow}
@@ -29,7 +29,7 @@ words-room : (s : State) → stateOf (wordsOf s) .setup .room ≡ s .setup .room
 unfolding stateOf wordsOf
 words-room s = refl
 
-refused-room : (x : Lent) (number : ℕ) (leaves : Leaves) → stateOf (leaving x number leaves .desk .words) .setup .room ≡ stateIn x .setup .room
+refused-room : (x : Lent) (number : ℕ) (leaves : Leaves) → stateOf (refusing x number leaves .desk .words) .setup .room ≡ stateIn x .setup .room
 unfolding stream.refusedClosing
 refused-room x number all = refl
 refused-room x number flowClosed = words-room (stream.refusedClosing (stateIn x) (x .desk .streamMemory) (segmentIn x) number .state)

@@ -8,7 +8,9 @@ use lib.Dec.{eqb, ltb}
 use lib.ListN.{length}
 use borrow.Author.Tests.{lt-ltb, le-ltb, eqb-false, eqb-true, ltb-false, not-false}
 use Rattle.lists.proofs.First.{first-le}
-use Rattle.lists.proofs.Tests.{neither}
+use Rattle.lists.proofs.Tests.{neither, _and_}
+use Rattle.tables.specs.Refusals.{none}
+use Rattle.tables.proofs.Cases.{by-row, by-end, whichever}
 use Rattle.answers.specs.Answers.{Said, refused}
 use Rattle.wire.specs.declared.Segment.{Segment}
 use Rattle.sizes.specs.Sizes.{dataLength}
@@ -18,9 +20,8 @@ use Rattle.refusal19.specs.Refusal19.{namedBy19}
 use Rattle.refusal19.proofs.Good.{good, found-holds}
 use Rattle.stream_rooms.specs.Placing.{Joined, joining, placed}
 use Rattle.stream_rooms.specs.Inside.{Closing, Fits}
-use Rattle.streams.specs.Rows.{foundFor, total, missized, notOpen, passesRoom, noneFree, lengthDiffers}
-use Rattle.streams.specs.Joining.{accepted, refusedClosing}
-use Rattle.streams.specs.Step.{begun, continued, stepped, refusedStaying}
+use Rattle.streams.specs.Rows.{foundFor, total, missized, notOpen, passesRoom, noneFree, lengthDiffers, streamRows}
+use Rattle.streams.specs.Joining.{accepted, refusedClosing, refusedStaying, streamRefusing, stepped}
 use Rattle.streams.specs.Inside.{Passed}
 use Rattle.rules.specs.Segments.{malformed, wrongO, wrongLength, wrongSize}
 
@@ -87,69 +88,108 @@ module _ (s : State) (g : Segment) (t : g .begins ≡ false) {found count : ℕ}
     unfolding lengthDiffers
     differs = ap₂ (λ (b : Bool) (n : ℕ). not b && wrongLength g n) t total-is
 
+-- row 10 is for starts and singles
+going-on : (s : State) (g : Segment) → g .begins ≡ false → noneFree s g ≡ false
+unfolding noneFree
+going-on s g t = rw t
+
+-- ---- rows 8, 9 and 11 do not hold of a start or single: 7 bounds its data by the MTU, and 19 the MTU by R
+module _ (s : State) (g : Segment) (t : g .begins ≡ true) where
+  started-open : notOpen s g ≡ false
+  unfolding notOpen
+  started-open = rw t
+
+  started-length : lengthDiffers s g ≡ false
+  unfolding lengthDiffers
+  started-length = ap (λ (b : Bool). not b && wrongLength g (total s g)) t
+
+  started-within : namedBy19 s ≡ false → missized s g ≡ false → passesRoom s g ≡ false
+  unfolding passesRoom missized
+  started-within fine e =
+      let alone : total s g ≡ 0 + dataLength g = rw t in
+      le-ltb (s .setup .room) (total s g) (omega (arith, alone, size-le (g .ends) (dataLength g) (s .setup .mtu) e, good s fine .holds))
+
 -- ---- row 7 by what the code has: the bytes of data and the MTU
 module _ (s : State) (g : Segment) {count mtu : ℕ} (z : count ≡ dataLength g) (m : mtu ≡ s .setup .mtu) where
   sizes : {b : Bool} → wrongSize (g .ends) count mtu ≡ b → missized s g ≡ b
   unfolding missized
   sizes e = rw (← z, ← m) e
 
-  pub passed : {found : ℕ} → found ≡ foundFor s g → wrongSize (g .ends) count mtu ≡ false → Passed s g found count
-  passed f e = record { flow = f; size = z; within = rw z (data-le g); small = rw (← m) (size-le (g .ends) count mtu e) }
+  pub passed : {found : ℕ} → malformed g ≡ false → found ≡ foundFor s g → wrongSize (g .ends) count mtu ≡ false → Passed s g found count
+  passed d f e = record { row-6 = d; row-7 = sizes e; flow = f; size = z; within = rw z (data-le g); small = rw (← m) (size-le (g .ends) count mtu e) }
 
 module _ (s : State) (memory p : List ℕ) (g : Segment) where
+  -- the rows, one by one
+  pub by-rows : stepped s memory p g
+      ≡ cond (malformed g) (refusedClosing s memory g 6)
+      (cond (missized s g) (refusedClosing s memory g 7)
+      (cond (notOpen s g) (refusedStaying s memory 8)
+      (cond (passesRoom s g) (refusedClosing s memory g 9)
+      (cond (noneFree s g) (refusedStaying s memory 10)
+      (cond (lengthDiffers s g) (refusedClosing s memory g 11)
+      (accepted s memory p g))))))
+  unfolding stepped streamRows
+  by-rows = simp (by-row, by-end)
+
+  -- what holds of every refusal, and of what is accepted once every row has failed, holds of the step
+  pub step-cases : (P : Joined → Type 0) → ((number : ℕ) → P (refusedStaying s memory number)) → ((number : ℕ) → P (refusedClosing s memory g number))
+      → (none (streamRows s g) → P (accepted s memory p g)) → P (stepped s memory p g)
+  unfolding stepped streamRows
+  step-cases P stays closes accepts =
+      whichever (streamRefusing s memory g) _ P (streamRows s g) (closes and closes and stays and closes and stays and closes and tt) accepts
+
+  -- ---- rows 6 and 7
+  pub step-malformed : {found : ℕ} {says : Said} {dropped : Bool} {state : State} → found ≡ foundFor s g → malformed g ≡ true → Closing s found 6 says dropped state
+      → joining says dropped state memory ≡ stepped s memory p g
+  step-malformed f d k = closing s memory g f k ∙ sym (by-rows ∙ rw d)
+
+  pub step-missized : {found count mtu : ℕ} {says : Said} {dropped : Bool} {state : State} → malformed g ≡ false → count ≡ dataLength g → mtu ≡ s .setup .mtu → found ≡ foundFor s g
+      → wrongSize (g .ends) count mtu ≡ true → Closing s found 7 says dropped state → joining says dropped state memory ≡ stepped s memory p g
+  step-missized d z m f e k = closing s memory g f k ∙ sym (by-rows ∙ rw (d, sizes s g z m e))
+
   -- ---- a start or single
-  module _ (t : g .begins ≡ true) {found count : ℕ} (q : Passed s g found count) where
-    pub begin-own : {j : Joined} → found < streamContexts → j ≡ placed s memory p g found 0 (g .field) true → j ≡ begun s memory p g
-    unfolding begun noneFree accepted
-    begin-own o e = e ∙ rw (t, ← q .flow, lt-ltb found streamContexts o)
+  module _ (t : g .begins ≡ true) {found count : ℕ} (q : Passed s g found count) (fine : namedBy19 s ≡ false) where
+    started : stepped s memory p g ≡ cond (noneFree s g) (refusedStaying s memory 10) (accepted s memory p g)
+    started = by-rows ∙ rw (q .row-6, q .row-7, started-open s g t, started-within s g t fine (q .row-7), started-length s g t)
+
+    pub begin-own : {j : Joined} → found < streamContexts → j ≡ placed s memory p g found 0 (g .field) true → j ≡ stepped s memory p g
+    unfolding noneFree accepted
+    begin-own o e = e ∙ sym (started ∙ rw (t, ← q .flow, lt-ltb found streamContexts o))
 
     module _ (o : streamContexts ≤ found) {free : ℕ} (f : free ≡ freeStream s) where
-      pub begin-free : {j : Joined} → free < streamContexts → j ≡ placed s memory p g free 0 (g .field) false → j ≡ begun s memory p g
-      unfolding begun noneFree accepted
-      begin-free h e = e ∙ rw (t, ← q .flow, le-ltb found streamContexts o, ← f, lt-ltb free streamContexts h)
+      pub begin-free : {j : Joined} → free < streamContexts → j ≡ placed s memory p g free 0 (g .field) false → j ≡ stepped s memory p g
+      unfolding noneFree accepted
+      begin-free h e = e ∙ sym (started ∙ rw (t, ← q .flow, le-ltb found streamContexts o, ← f, lt-ltb free streamContexts h))
 
-      pub begin-none : streamContexts ≤ free → joining (refused 10) false s memory ≡ begun s memory p g
-      unfolding begun noneFree refusedStaying
-      begin-none h = rw (t, ← q .flow, le-ltb found streamContexts o, ← f, le-ltb free streamContexts h)
+      pub begin-none : streamContexts ≤ free → joining (refused 10) false s memory ≡ stepped s memory p g
+      unfolding noneFree refusedStaying
+      begin-none h = sym (started ∙ rw (t, ← q .flow, le-ltb found streamContexts o, ← f, le-ltb free streamContexts h))
 
   -- ---- a continuation or end
   module _ (t : g .begins ≡ false) {found count : ℕ} (q : Passed s g found count) where
-    pub go-closed : streamContexts ≤ found → joining (refused 8) false s memory ≡ continued s memory p g
-    unfolding continued notOpen refusedStaying
-    go-closed o = rw (t, ← q .flow, le-ltb found streamContexts o)
+    continued : stepped s memory p g
+        ≡ cond (notOpen s g) (refusedStaying s memory 8)
+        (cond (passesRoom s g) (refusedClosing s memory g 9)
+        (cond (lengthDiffers s g) (refusedClosing s memory g 11)
+        (accepted s memory p g)))
+    continued = by-rows ∙ rw (q .row-6, q .row-7, going-on s g t)
+
+    pub go-closed : streamContexts ≤ found → joining (refused 8) false s memory ≡ stepped s memory p g
+    unfolding notOpen refusedStaying
+    go-closed o = sym (continued ∙ rw (t, ← q .flow, le-ltb found streamContexts o))
 
     module _ (o : found < streamContexts) {c : StreamContext} {room : ℕ} (e : c ≡ streamIn s found) (r : room ≡ s .setup .room) where
-      pub go-passes : {says : Said} {dropped : Bool} {state : State} → room < c .held + count → Closing s found 9 says dropped state → joining says dropped state memory ≡ continued s memory p g
-      unfolding continued
-      go-passes h k = closing s memory g (q .flow) k ∙ rw (open-flow s g t q o, passes s g t q e r, lt-ltb room (c .held + count) h)
+      pub go-passes : {says : Said} {dropped : Bool} {state : State} → room < c .held + count → Closing s found 9 says dropped state → joining says dropped state memory ≡ stepped s memory p g
+      go-passes h k = closing s memory g (q .flow) k ∙ sym (continued ∙ rw (open-flow s g t q o, passes s g t q e r, lt-ltb room (c .held + count) h))
 
       module _ (h : c .held + count ≤ room) where
+        within : stepped s memory p g ≡ cond (wrongLength g (c .held + count)) (refusedClosing s memory g 11) (accepted s memory p g)
+        within = continued ∙ rw (open-flow s g t q o, passes s g t q e r, le-ltb room (c .held + count) h, differs s g t q e)
+
         pub go-differs : {says : Said} {dropped : Bool} {state : State} → wrongLength g (c .held + count) ≡ true → Closing s found 11 says dropped state
-            → joining says dropped state memory ≡ continued s memory p g
-        unfolding continued
-        go-differs d k = closing s memory g (q .flow) k ∙ rw (open-flow s g t q o, passes s g t q e r, le-ltb room (c .held + count) h, differs s g t q e, d)
+            → joining says dropped state memory ≡ stepped s memory p g
+        go-differs d k = closing s memory g (q .flow) k ∙ sym (within ∙ rw d)
 
-        pub go-placed : {j : Joined} → wrongLength g (c .held + count) ≡ false → j ≡ placed s memory p g found (c .held) (c .stream) false → j ≡ continued s memory p g
-        unfolding continued accepted
-        go-placed d k =
-            k ∙ rw (open-flow s g t q o, passes s g t q e r, le-ltb room (c .held + count) h, differs s g t q e, d) (rw (t, ← q .flow, lt-ltb found streamContexts o, ← e))
-
-  -- ---- rows 6 and 7
-  module _ {found : ℕ} (f : found ≡ foundFor s g) where
-    pub step-malformed : {says : Said} {dropped : Bool} {state : State} → malformed g ≡ true → Closing s found 6 says dropped state → joining says dropped state memory ≡ stepped s memory p g
-    unfolding stepped
-    step-malformed d k = closing s memory g f k ∙ rw d
-
-  module _ (d : malformed g ≡ false) {count mtu : ℕ} (z : count ≡ dataLength g) (m : mtu ≡ s .setup .mtu) where
-    pub step-missized : {found : ℕ} {says : Said} {dropped : Bool} {state : State} → found ≡ foundFor s g → wrongSize (g .ends) count mtu ≡ true → Closing s found 7 says dropped state
-        → joining says dropped state memory ≡ stepped s memory p g
-    unfolding stepped
-    step-missized f e k = closing s memory g f k ∙ rw (d, sizes s g z m e)
-
-    pub step-begins : {j : Joined} → wrongSize (g .ends) count mtu ≡ false → g .begins ≡ true → j ≡ begun s memory p g → j ≡ stepped s memory p g
-    unfolding stepped
-    step-begins e t k = k ∙ rw (d, sizes s g z m e, t)
-
-    pub step-continues : {j : Joined} → wrongSize (g .ends) count mtu ≡ false → g .begins ≡ false → j ≡ continued s memory p g → j ≡ stepped s memory p g
-    unfolding stepped
-    step-continues e t k = k ∙ rw (d, sizes s g z m e, t)
+        pub go-placed : {j : Joined} → wrongLength g (c .held + count) ≡ false → j ≡ placed s memory p g found (c .held) (c .stream) false → j ≡ stepped s memory p g
+        unfolding accepted
+        go-placed d k = k ∙ sym (within ∙ rw d (rw (t, ← q .flow, lt-ltb found streamContexts o, ← e)))

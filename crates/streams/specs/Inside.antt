@@ -5,10 +5,13 @@ use mathlib.Core.Bool.{true, false}
 use Rattle.wire.specs.declared.Segment.{Segment}
 use Rattle.sizes.specs.Sizes.{dataLength}
 use Rattle.contexts.specs.State.{State}
-use Rattle.streams.specs.Rows.{foundFor}
+use Rattle.rules.specs.Segments.{malformed}
+use Rattle.streams.specs.Rows.{foundFor, missized}
 
 -- rows 6 and 7 passed
 pub record Passed (s : State) (g : Segment) (found count : ℕ) : Type 0 where
+  pub row-6 : malformed g ≡ false
+  pub row-7 : missized s g ≡ false
   pub flow : found ≡ foundFor s g
   pub size : count ≡ dataLength g
   pub within : count ≤ g .raw

@@ -7,7 +7,7 @@ ghost use Rattle.answers.specs.Answers.{said};
 ghost use Rattle.contexts.specs.Words.{stateOf};
 ghost use Rattle.stream_rooms.specs.Placing.{joining};
 ghost use Rattle.stream_rooms.specs.Inside.{Ready};
-ghost use Rattle.streams.specs.Step.{begun, continued, stepped};
+ghost use Rattle.streams.specs.Joining.{stepped};
 ghost use Rattle.streams.specs.Inside.{BeginsPDU, ContinuesPDU};
 
 // A start or single: the flow's own context from its beginning, else the lowest free one.
@@ -21,7 +21,8 @@ fn begin(
 ) -> StreamAnswer
     requires { ⌜ Ready (now state) (now memory) (now packet) g ⌝ }
     requires { ⌜ BeginsPDU (stateOf (now state)) g found count ⌝ }
-    ensures { λ r. ⌜ joining (said (r .answer)) (r .dropped) (stateOf (now (state .exit))) (now (memory .exit)) ≡ begun (stateOf (now (state .entry))) (now (memory .entry)) (now (packet .entry)) g ⌝ }
+    ensures { λ r. ⌜ joining (said (r .answer)) (r .dropped) (stateOf (now (state .exit))) (now (memory .exit))
+        ≡ stepped (stateOf (now (state .entry))) (now (memory .entry)) (now (packet .entry)) g ⌝ }
 {
     let stream = g.field;
     if found < contexts::STREAM_CONTEXTS {
@@ -49,7 +50,7 @@ fn go_on(
     requires { ⌜ Ready (now state) (now memory) (now packet) g ⌝ }
     requires { ⌜ ContinuesPDU (stateOf (now state)) g found count ⌝ }
     ensures { λ r. ⌜ joining (said (r .answer)) (r .dropped) (stateOf (now (state .exit))) (now (memory .exit))
-        ≡ continued (stateOf (now (state .entry))) (now (memory .entry)) (now (packet .entry)) g ⌝ }
+        ≡ stepped (stateOf (now (state .entry))) (now (memory .entry)) (now (packet .entry)) g ⌝ }
 {
     if contexts::STREAM_CONTEXTS <= found {
         return StreamAnswer {

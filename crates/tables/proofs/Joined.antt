@@ -43,6 +43,17 @@ module _ {L : Type 0} where
   verdict-given true rows = given-true rows
   verdict-given false rows = given-false rows
 
+  -- two parts of which one is asked for: the one
+  pub first-given : (first second : List (RowOf L)) → verdict (given true first ++ given false second) ≡ verdict first
+  first-given first second = verdict-joined (given true first) (given false second) ∙ rw (given-true first, given-false second) (or-accept (verdict first))
+    where
+      or-accept : (v : VerdictOf L) → orElse v accept ≡ v
+      or-accept (refuse number leaves) = refl
+      or-accept accept = refl
+
+  pub second-given : (first second : List (RowOf L)) → verdict (given false first ++ given true second) ≡ verdict second
+  second-given first second = joined-passes (given false first) (given true second) (given-false first) ∙ given-true second
+
   -- where no row of the joined table holds, none of either part does
   pub none-joined : (first second : List (RowOf L)) → none (first ++ second) → none first × none second
   unfolding none

@@ -45,6 +45,11 @@ unfoldable pub verdict : {L : Type 0} → List (RowOf L) → VerdictOf L
 verdict [] = accept
 verdict (r ∷ rs) = cond (r .holds) (refuse (r .number) (r .leaves)) (verdict rs)
 
+-- what a call comes to: what the row that decides leaves, or what is done where no row's test holds
+abbrev pub byVerdict : {L O : Type 0} → (refusing : ℕ → L → O) → (accepting : O) → VerdictOf L → O
+byVerdict refusing accepting (refuse number leaves) = refusing number leaves
+byVerdict refusing accepting accept = accepting
+
 -- rows that ask one thing more first, as of a packet of that type
 unfoldable pub given : {L : Type 0} → Bool → List (RowOf L) → List (RowOf L)
 given asked [] = []

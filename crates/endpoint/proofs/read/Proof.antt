@@ -4,7 +4,7 @@ use borrow.Author.Needs.{needs}
 use Rattle.reading.specs.Desk.{desk}
 use Rattle.reading.specs.Table.{Lent, lent}
 use Rattle.reading.proofs.Lent.{lent-ready}
-use Rattle.reading.proofs.Left.{refusing}
+use Rattle.reading.proofs.Laws.{refusal-promised}
 use Rattle.reading.proofs.Rows.{refused-lent}
 use Rattle.endpoint.proofs.read.Statement.{statement}
 use Rattle.endpoint.proofs.read.Tie as tie
@@ -20,7 +20,7 @@ returns : tie.Need-returns
 returns c =
     let test = c .before in
     let at-lent = test .before in
-    refusing (lent-to at-lent) (at-lent .lent-refusal .result) _ (c .refused .ensures) (refused-lent (lent-to at-lent) _ (at-lent .lent-refusal .ensures) (test .if1 .taken))
+    refusal-promised (lent-to at-lent) (at-lent .lent-refusal .result) _ (c .refused .ensures) (refused-lent (lent-to at-lent) _ (at-lent .lent-refusal .ensures) (test .if1 .taken))
 
 -- all that is lent is as it should be
 step-requires : tie.Need-step-requires

@@ -23,7 +23,7 @@ returns c =
     let test = at-refuse .before .before in
     let at-free = test .before in
     let s = entry at-free in
-    begin-none _ _ _ _ _ (s .pre .1 .1) (s .pre .1 .2) (rw (← at-free .free-message .ensures) (test .if1 .taken)) (at-refuse .refuse .ensures)
+    begin-none _ _ _ _ _ (s .pre .1 .0 .rows) (s .pre .1 .1) (s .pre .1 .2) (rw (← at-free .free-message .ensures) (test .if1 .taken)) (at-refuse .refuse .ensures)
 
 place-requires : tie.Need-place-requires
 place-requires c κs =
@@ -52,7 +52,7 @@ returns-2 c =
     let p = s .args .packet .now in
     let m = s .args .m in
     at-place .place .ensures
-    ∙ (ap (λ (n : ℕ). messagePlaced st mem rep p m n 0 0) free ∙ begin-placed st mem rep p m (s .pre .1 .1) (s .pre .1 .2) (rw (← free) (test .if1 .left)))
+    ∙ (ap (λ (n : ℕ). messagePlaced st mem rep p m n 0 0) free ∙ begin-placed st mem rep p m (s .pre .1 .0 .rows) (s .pre .1 .1) (s .pre .1 .2) (rw (← free) (test .if1 .left)))
 
 pub begin-spec : {M : Type 1} → statement M
 begin-spec =

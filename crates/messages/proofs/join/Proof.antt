@@ -51,7 +51,7 @@ returns c =
     let at-refuse = c .before .before in
     let test = at-refuse .before .before in
     let own = at-context (test .before) in
-    join-msglen _ _ _ _ _ (entry own .pre .1 .1) _ (is-open own) (is-own own) (test .if1 .taken) (at-refuse .refuse .ensures)
+    join-msglen _ _ _ _ _ (entry own .pre .1 .0 .rows) (entry own .pre .1 .1) _ (is-open own) (is-own own) (test .if1 .taken) (at-refuse .refuse .ensures)
 
 -- 23: another ssize
 returns-2 : tie.Need-returns-2
@@ -59,7 +59,7 @@ returns-2 c =
     let at-refuse = c .before .before in
     let test = at-refuse .before .before in
     let own = at-context (past-msglen (test .before) .before) in
-    join-ssize _ _ _ _ _ (entry own .pre .1 .1) _ (is-open own) (is-own own) (test .if2 .taken) (at-refuse .refuse2 .ensures)
+    join-ssize _ _ _ _ _ (entry own .pre .1 .0 .rows) (entry own .pre .1 .1) _ (is-open own) (is-own own) (test .if2 .taken) (at-refuse .refuse2 .ensures)
 
 cast-marked : tie.Need-cast-marked
 cast-marked c =
@@ -84,7 +84,7 @@ returns-3 c =
     let ssize = past-ssize (test .before) in
     let msglen = past-msglen (ssize .before) in
     let own = at-context (msglen .before) in
-    join-marked _ _ _ _ _ (entry own .pre .1 .1) _ (is-open own) (is-own own) (msglen .if1 .left) (ssize .if2 .left)
+    join-marked _ _ _ _ _ (entry own .pre .1 .0 .rows) (entry own .pre .1 .1) _ (is-open own) (is-own own) (msglen .if1 .left) (ssize .if2 .left)
     (sym (test .before .marked .ensures) ∙ test .if3 .taken) (at-refuse .refuse3 .ensures)
 
 place-requires : tie.Need-place-requires
@@ -120,7 +120,7 @@ returns-4 c =
     let m = s .args .m in
     at-place .place .ensures
     ∙ (ap (λ (n : ℕ). messagePlaced st mem rep p m n (found .marks) (found .last)) (s .pre .1 .3)
-    ∙ join-placed st mem rep p m (s .pre .1 .1) found (is-open own) (is-own own) (msglen .if1 .left) (ssize .if2 .left) (sym (test .before .marked .ensures) ∙ test .if3 .left))
+    ∙ join-placed st mem rep p m (s .pre .1 .0 .rows) (s .pre .1 .1) found (is-open own) (is-own own) (msglen .if1 .left) (ssize .if2 .left) (sym (test .before .marked .ensures) ∙ test .if3 .left))
 
 pub join-spec : {M : Type 1} → statement M
 join-spec =

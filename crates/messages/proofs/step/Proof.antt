@@ -4,7 +4,7 @@ use borrow.Author.Tests.{eq-eqb, ne-eqb}
 use borrow.Author.Needs.{needs}
 use Rattle.rules.specs.Messages.{judged}
 use Rattle.rules.proofs.Laws.{sound}
-use Rattle.messages.proofs.Laws.{step-refused, step-matched}
+use Rattle.messages.proofs.Laws.{step-refused}
 use Rattle.messages.proofs.step.Statement.{statement}
 use Rattle.messages.proofs.step.Tie as tie
 
@@ -31,10 +31,7 @@ take-alone-requires c κs =
     (entry (passed .before) .pre, (sound _ (judged-fine passed), eq-eqb _ _ (test .if2 .taken)))
 
 returns-2 : tie.Need-returns-2
-returns-2 c =
-    let at-alone = c .before .before .before .before .before .before in
-    let passed = at-alone .before .before .before .before .before .before in
-    at-alone .take-alone .ensures ∙ step-matched _ _ _ _ _ (judged-fine passed)
+returns-2 c = c .before .before .before .before .before .before .take-alone .ensures
 
 -- of an open message
 join-requires : tie.Need-join-requires
@@ -45,10 +42,7 @@ join-requires c κs =
     (entry (passed .before) .pre, (sound _ (judged-fine passed), ne-eqb _ _ (several .if2 .left), test .if3 .taken, test .before .find-message .ensures))
 
 returns-3 : tie.Need-returns-3
-returns-3 c =
-    let at-join = c .before .before .before .before .before .before in
-    let several = at-join .before .before .before .before .before .before .before in
-    at-join .join .ensures ∙ step-matched _ _ _ _ _ (judged-fine (several .before .before))
+returns-3 c = c .before .before .before .before .before .before .join .ensures
 
 -- of a new one
 begin-requires : tie.Need-begin-requires
@@ -59,10 +53,7 @@ begin-requires c κs =
     (entry (passed .before) .pre, (sound _ (judged-fine passed), ne-eqb _ _ (several .if2 .left), rw (← test .before .find-message .ensures) (test .if3 .left)))
 
 returns-4 : tie.Need-returns-4
-returns-4 c =
-    let at-begin = c .before .before .before .before .before .before in
-    let several = at-begin .before .before .before .before .before .before .before in
-    at-begin .begin .ensures ∙ step-matched _ _ _ _ _ (judged-fine (several .before .before))
+returns-4 c = c .before .before .before .before .before .before .begin .ensures
 
 pub step-spec : {M : Type 1} → statement M
 step-spec =

@@ -21,7 +21,7 @@ returns c =
     let at-refuse = c .before .before in
     let test = at-refuse .before .before in
     let at-free = test .before in
-    alone-none _ _ _ _ _ (entry at-free .pre .1 .1) (rw (← at-free .free-message .ensures) (test .if1 .taken)) (at-refuse .refuse .ensures)
+    alone-none _ _ _ _ _ (entry at-free .pre .1 .0 .rows) (entry at-free .pre .1 .1) (rw (← at-free .free-message .ensures) (test .if1 .taken)) (at-refuse .refuse .ensures)
 
 -- the store ends inside the room
 store-requires : tie.Need-store-requires
@@ -45,7 +45,7 @@ returns-2 c =
     let p = s .args .packet .now in
     let m = s .args .m in
     taking st mem rep p m _ _ _ _ _ (c .mailbox-of .ensures) (at-close .close-message .ensures) (at-store .store .ensures) (at-done .done .ensures)
-    ∙ (ap (deliveredAtOnce st mem rep p m) free ∙ alone-taken st mem rep p m (s .pre .1 .1) (rw (← free) (test .if1 .left)))
+    ∙ (ap (deliveredAtOnce st mem rep p m) free ∙ alone-taken st mem rep p m (s .pre .1 .0 .rows) (s .pre .1 .1) (rw (← free) (test .if1 .left)))
 
 pub take-alone-spec : {M : Type 1} → statement M
 take-alone-spec =

@@ -12,7 +12,7 @@ use Rattle.reading.specs.Read.{reading}
 use Rattle.reading.specs.Inside.{ReadyToRead}
 use Rattle.reading.proofs.Packets.{stream-parsed, message-parsed, message-small}
 use Rattle.reading.proofs.Rows.{byParsed, by-packet}
-use Rattle.reading.proofs.Left.{refusing, sizes-right, stream-left, message-left}
+use Rattle.reading.proofs.Laws.{refusal-promised, sizes-right, stream-settled, message-settled}
 use Rattle.reading.proofs.step.Statement.{statement}
 use Rattle.reading.proofs.step.Tie as tie
 
@@ -37,7 +37,7 @@ returns : tie.Need-returns
 returns c =
     let at-number = c .before .before in
     let at-parse = at-number .before .before in
-    refusing (lent-to at-parse) _ _ (c .refused .ensures) (sym (by-parse at-parse ∙ ap (byParsed (lent-to at-parse)) (at-number .number .given .1)))
+    refusal-promised (lent-to at-parse) _ _ (c .refused .ensures) (sym (by-parse at-parse ∙ ap (byParsed (lent-to at-parse)) (at-number .number .given .1)))
 
 -- ---- type 9
 
@@ -55,7 +55,7 @@ returns-2 c =
     let at-g = at-step .before .before .before .before in
     let at-parse = at-g .before .before in
     let t = at-step .step in
-    stream-left (lent-to at-parse) _ _ (t .last .0) (t .last .1 .0) _ (t .kept .0 ∙ ready at-parse .fit .whole) (t .ensures)
+    stream-settled (lent-to at-parse) _ _ (t .last .0) (t .last .1 .0) _ (t .kept .0 ∙ ready at-parse .fit .whole) (t .ensures)
     ∙ sym (by-parse at-parse ∙ ap (byParsed (lent-to at-parse)) (at-g .g .given .1))
 
 -- ---- type 11
@@ -79,7 +79,7 @@ returns-3 c =
     let at-m = at-step .before .before .before .before .before in
     let at-parse = at-m .before .before in
     let t = at-step .step2 in
-    message-left (lent-to at-parse) _ (t .last .0) (t .last .1 .0) (t .last .1 .1 .0) _ (t .kept .0 ∙ ready at-parse .fit .whole) (t .ensures)
+    message-settled (lent-to at-parse) _ (t .last .0) (t .last .1 .0) (t .last .1 .1 .0) _ (t .kept .0 ∙ ready at-parse .fit .whole) (t .ensures)
     ∙ sym (by-parse at-parse ∙ ap (byParsed (lent-to at-parse)) (at-m .m .given .1))
 
 pub step-spec : {M : Type 1} → statement M

@@ -24,7 +24,7 @@ returns c =
     let at-place = c .before .before .before .before in
     let test = at-place .before .before .before in
     let s = entry (test .before) in
-    begin-own _ _ _ _ (s .pre .1 .start) (s .pre .1 .passed) (test .if1 .taken) (at-place .place .ensures)
+    begin-own _ _ _ _ (s .pre .1 .start) (s .pre .1 .passed) (s .pre .0 .good) (test .if1 .taken) (at-place .place .ensures)
 
 -- the lowest free one
 place-requires-2 : tie.Need-place-requires-2
@@ -39,14 +39,14 @@ returns-2 c =
     let test = at-place .before .before .before in
     let own = no-own (test .before) in
     let s = entry (own .before) in
-    begin-free _ _ _ _ (s .pre .1 .start) (s .pre .1 .passed) (own .if1 .left) (test .before .free-stream .ensures) (test .if2 .taken) (at-place .place2 .ensures)
+    begin-free _ _ _ _ (s .pre .1 .start) (s .pre .1 .passed) (s .pre .0 .good) (own .if1 .left) (test .before .free-stream .ensures) (test .if2 .taken) (at-place .place2 .ensures)
 
 -- 10: none is free
 returns-3 : tie.Need-returns-3
 returns-3 c =
     let own = no-own (c .before) in
     let s = entry (own .before) in
-    begin-none _ _ _ _ (s .pre .1 .start) (s .pre .1 .passed) (own .if1 .left) (c .before .free-stream .ensures) (c .if2 .left)
+    begin-none _ _ _ _ (s .pre .1 .start) (s .pre .1 .passed) (s .pre .0 .good) (own .if1 .left) (c .before .free-stream .ensures) (c .if2 .left)
 
 pub begin-spec : {M : Type 1} → statement M
 begin-spec =

@@ -8,7 +8,7 @@ use Rattle.contexts.specs.State.{streamContexts}
 use Rattle.contexts.specs.Words.{stateOf}
 use Rattle.contexts.proofs.Words.{sixteen}
 use Rattle.streams.specs.Inside.{Passed}
-use Rattle.streams.proofs.Laws.{some-data, found-le, passed, step-malformed, step-missized, step-begins, step-continues}
+use Rattle.streams.proofs.Laws.{some-data, found-le, passed, step-malformed, step-missized}
 use Rattle.streams.proofs.step.Statement.{statement}
 use Rattle.streams.proofs.step.Tie as tie
 
@@ -38,7 +38,7 @@ has-passed : (c : tie.Else2) → let s = entry (found-at (c .before)) in
     Passed (stateOf (s .args .state .now)) (s .args .g) (found-at (c .before) .find-stream .result) (c .before .before .before .before .data-length .result)
 has-passed c =
     let at-mtu = c .before .before in
-    passed _ _ (at-mtu .before .before .data-length .ensures) (at-mtu .mtu .ensures) (found-at (c .before) .find-stream .ensures) (right-size c)
+    passed _ _ (at-mtu .before .before .data-length .ensures) (at-mtu .mtu .ensures) (well-formed (past-6 (c .before))) (found-at (c .before) .find-stream .ensures) (right-size c)
 
 -- ---- the ways out
 
@@ -78,12 +78,7 @@ begin-requires c κs =
     (entry (found-at (kind .before .before)) .pre, record { passed = has-passed (kind .before); start = kind .if3 .taken })
 
 returns-3 : tie.Need-returns-3
-returns-3 c =
-    let at-begin = c .before .before .before .before in
-    let kind = at-begin .before .before .before in
-    let sized = kind .before in
-    let at-mtu = sized .before .before in
-    step-begins _ _ _ _ (well-formed (past-6 (sized .before))) (at-mtu .before .before .data-length .ensures) (at-mtu .mtu .ensures) (right-size sized) (kind .if3 .taken) (at-begin .begin .ensures)
+returns-3 c = c .before .before .before .before .begin .ensures
 
 -- a continuation or end
 go-on-requires : tie.Need-go-on-requires
@@ -92,12 +87,7 @@ go-on-requires c κs =
     (entry (found-at (kind .before .before)) .pre, record { passed = has-passed (kind .before); start = kind .if3 .left })
 
 returns-4 : tie.Need-returns-4
-returns-4 c =
-    let at-go-on = c .before .before .before .before in
-    let kind = at-go-on .before .before .before in
-    let sized = kind .before in
-    let at-mtu = sized .before .before in
-    step-continues _ _ _ _ (well-formed (past-6 (sized .before))) (at-mtu .before .before .data-length .ensures) (at-mtu .mtu .ensures) (right-size sized) (kind .if3 .left) (at-go-on .go-on .ensures)
+returns-4 c = c .before .before .before .before .go-on .ensures
 
 pub step-spec : {M : Type 1} → statement M
 step-spec =

@@ -19,23 +19,23 @@ use Rattle.message_rooms.specs.Placing as messageRoom
 use Rattle.message_rooms.specs.Placing.{messageMemoryBytes}
 use Rattle.reading.specs.Desk.{Desk, stateOn, withStreams, withMessages}
 use Rattle.reading.specs.Table.{Lent, wrongSizes}
-use Rattle.reading.specs.Read.{left, leaving, ofStream, ofMessage, reading, ReadPromise}
+use Rattle.reading.specs.Read.{settled, refusing, ofStream, ofMessage, reading, ReadPromise}
 use Rattle.reading.specs.Inside.{Refusal}
 
 -- a refusal that changes nothing
-pub refusing : (x : Lent) (number : ℕ) (r : Reading) → Refusal number r → leaving x number all ≡ reading x → ReadPromise x r (x .desk)
-refusing x number r f e = rw (f .answer, f .drop, f .silent) e
+pub refusal-promised : (x : Lent) (number : ℕ) (r : Reading) → Refusal number r → refusing x number all ≡ reading x → ReadPromise x r (x .desk)
+refusal-promised x number r f e = rw (f .answer, f .drop, f .silent) e
 
 -- what a step leaves in the words
-pub stream-left : (x : Lent) (says : Said) (dropped : Bool) (words memory : List ℕ) (j : streamRoom.Joined) → length words ≡ stateWords
-    → streamRoom.joining says dropped (stateOf words) memory ≡ j → left says dropped 0 (withStreams (x .desk) words memory) ≡ ofStream x j
-stream-left x says dropped words memory j z e =
-    ap (λ (w : List ℕ). left says dropped 0 (withStreams (x .desk) w memory)) (sym (words-of words z)) ∙ ap (ofStream x) e
+pub stream-settled : (x : Lent) (says : Said) (dropped : Bool) (words memory : List ℕ) (j : streamRoom.Joined) → length words ≡ stateWords
+    → streamRoom.joining says dropped (stateOf words) memory ≡ j → settled says dropped 0 (withStreams (x .desk) words memory) ≡ ofStream x j
+stream-settled x says dropped words memory j z e =
+    ap (λ (w : List ℕ). settled says dropped 0 (withStreams (x .desk) w memory)) (sym (words-of words z)) ∙ ap (ofStream x) e
 
-pub message-left : (x : Lent) (says : Said) (words memory response : List ℕ) (j : messageRoom.MessageJoined) → length words ≡ stateWords
-    → messageRoom.messageJoining says (stateOf words) memory response ≡ j → left says false responseSize (withMessages (x .desk) words memory response) ≡ ofMessage x j
-message-left x says words memory response j z e =
-    ap (λ (w : List ℕ). left says false responseSize (withMessages (x .desk) w memory response)) (sym (words-of words z)) ∙ ap (ofMessage x) e
+pub message-settled : (x : Lent) (says : Said) (words memory response : List ℕ) (j : messageRoom.MessageJoined) → length words ≡ stateWords
+    → messageRoom.messageJoining says (stateOf words) memory response ≡ j → settled says false responseSize (withMessages (x .desk) words memory response) ≡ ofMessage x j
+message-settled x says words memory response j z e =
+    ap (λ (w : List ℕ). settled says false responseSize (withMessages (x .desk) w memory response)) (sym (words-of words z)) ∙ ap (ofMessage x) e
 
 -- row 12 passed
 pub sizes-right : (d : Desk) → length (d .streamMemory) ≡ streamContexts * stateOn d .setup .room → length (d .messageMemory) ≡ messageMemoryBytes → responseSize ≤ length (d .response)
