@@ -1,7 +1,7 @@
 -- The promises hold: each by the theorem that is cited.
 use Rattle.sending.proofs.Cut.{segments-read-back}
 use Rattle.sending.proofs.Meaning.{in-order, whole-is-intact}
-use Rattle.sending.proofs.Joint.{joint-exactly, joint-only, joint-length}
+use Rattle.sending.proofs.Joint.{joint-exactly, joint-only, joint-length, joint-unsent}
 use Rattle.sending.proofs.Untold.{joint-untold}
 use Rattle.sending.proofs.Mixture.{mixture-is-fair}
 use Rattle.sending.proofs.MixtureRun.{mixture-delivered}
@@ -70,6 +70,7 @@ promises = record {
   joint = joint-exactly;
   joint-only = joint-only;
   joint-length = joint-length;
+  joint-unsent = joint-unsent;
   joint-untold = joint-untold;
   examples = examples-hold;
   witnesses = premises-can-be-met;

@@ -8,7 +8,7 @@
 -- `RefT`, `now`: a part of a caller's memory, and the bytes that it holds at that moment.
 use Rattle.sending.specs.Segment.{SegmentsReadBack}
 use Rattle.sending.specs.Meaning.{InOrder, WholeIsIntact}
-use Rattle.sending.specs.Joint.{JointExactly, JointOnly, JointLength, JointUntold}
+use Rattle.sending.specs.Joint.{JointExactly, JointOnly, JointLength, JointUnsent, JointUntold}
 use Rattle.flows.specs.Apart.{FlowsApart, SamePacketsSameAnswers}
 use Rattle.mailing.specs.Mail.{MailSegmentsReadBack}
 use Rattle.mailing.specs.ReadBack.{OthersLeaveMail}
@@ -82,6 +82,8 @@ pub record Promises : Type 0 where
   pub joint : JointExactly
   pub joint-only : JointOnly
   pub joint-length : JointLength
+  -- nobody sent it, unless it is one of the two: they have the same end, or the same streamID and the same beginning
+  pub joint-unsent : JointUnsent
   -- no receiver can tell: the joint's packets are left by a sending that breaks the neighbours' premise and no other, and by a fair one
   pub joint-untold : JointUntold
   -- ==== The paper's starred examples come out as it says; and every premise above can be met

@@ -2,12 +2,12 @@
 use Prim.Native.Nat.{ℕ, zero, suc, _+_, _*_, _<_}
 use mathlib.Core.Path.{_≡_, refl, sym, ap, _∙_}
 use mathlib.Core.Logic.{inl, _↔_}
-use mathlib.Core.List.{List, [], _∷_, _++_, map, append-nil}
+use mathlib.Core.List.{List, [], _∷_, _++_, map, append-nil, append-cancel-left, append-cancel-right}
 use mathlib.Core.Bool.{Bool, true, false, cond, _&&_, false≢true}
 use mathlib.Core.Option.{Option, none, some}
 use native.Mathlib.Omega.{arith}
 use native.Mathlib.Nat.{one-mul}
-use lib.ListN.{length, take, drop, length-append, length-drop}
+use lib.ListN.{length, take, drop, length-append, length-drop, take-append-drop}
 use lib.Seq.{length-take-le}
 use lib.Dec.{eqb, leb}
 use borrow.Author.Tests.{eqb-true, eq-eqb, ne-eqb, leb-true}
@@ -18,7 +18,7 @@ use Rattle.flows.specs.Deliveries.{delivery}
 use Rattle.lists.specs.Each.{Each}
 use Rattle.sending.specs.Sending.{Sent, isLost, packetCount, Put, putOf, putsFrom, flowPuts, FairPDU, Ranges}
 use Rattle.sending.specs.OneFlow.{flowDeliveries, arriving}
-use Rattle.sending.specs.Joint.{isJoint, jointPDU, pairPackets, JointExactly, JointOnly, JointLength, JointDelivered}
+use Rattle.sending.specs.Joint.{isJoint, jointPDU, pairPackets, JointExactly, JointOnly, JointLength, JointUnsent, JointDelivered}
 use Rattle.sending.proofs.Steps.{mtu-pos, inner-size}
 use Rattle.sending.proofs.OneFlow.{Proper, proper-packet}
 use Rattle.sending.proofs.Rooms.{carried}
@@ -92,6 +92,19 @@ joint-length setup flow a b pair e = go (eqb (packetCount (setup .mtu) a) 2) (is
     go true true false y ep eq e = absurd (false≢true e)
     go true false q y ep eq e = absurd (false≢true e)
     go false x q y ep eq e = absurd (false≢true e)
+
+-- were it the first, what follows the same beginning would be the same; were it the second, what comes before the same end
+pub joint-unsent : JointUnsent
+joint-unsent mtu a b ends begins = (
+  λ e. ends
+      (append-cancel-left (take mtu (a .pdu .bytes)) (drop mtu (a .pdu .bytes)) (drop mtu (b .pdu .bytes))
+      (take-append-drop mtu (a .pdu .bytes) ∙ sym (ap (λ (p : PDU). p .bytes) e))),
+  λ e. begins (
+    ap (λ (p : PDU). p .stream) e,
+    append-cancel-right (take mtu (a .pdu .bytes)) (take mtu (b .pdu .bytes)) (drop mtu (b .pdu .bytes))
+    (ap (λ (p : PDU). p .bytes) e ∙ sym (take-append-drop mtu (b .pdu .bytes))),
+  ),
+)
 
 -- ---- The endpoint
 

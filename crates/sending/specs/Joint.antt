@@ -20,7 +20,8 @@ use Rattle.sending.specs.OfSendings.{Begins}
 unfoldable pub isJoint : ℕ → Sent → Sent → Bool
 isJoint mtu first second = (eqb (packetCount mtu first) 2 && isLost first 1) && (leb 2 (packetCount mtu second) && isLost second 0)
 
--- the first's streamID, its first MTU bytes, and the second's bytes from MTU on. Nobody sent it, where the two differ in streamID or in the bytes before MTU
+-- the first's streamID, its first MTU bytes, and the second's bytes from MTU on. Nobody sent it, where the two differ in the bytes from MTU on (else it is
+-- the first) and also in streamID or in the bytes before MTU (else it is the second)
 abbrev pub jointPDU : ℕ → Sent → Sent → PDU
 jointPDU mtu first second = pdu (first .pdu .stream) (take mtu (first .pdu .bytes) ++ drop mtu (second .pdu .bytes))
 
@@ -54,7 +55,15 @@ JointLength =
     (setup : Setup) (flow : Flow) (first second : Sent) → Pair setup flow first second
     → isJoint (setup .mtu) first second ≡ true → length (jointPDU (setup .mtu) first second .bytes) ≡ length (second .pdu .bytes)
 
--- the same of the endpoint, from a board with no open flow
+-- it is neither of the two, where they differ in the bytes from MTU on and also in streamID or in the bytes before MTU: whatever their lengths
+abbrev pub JointUnsent : Type 0
+JointUnsent =
+    (mtu : ℕ) (first second : Sent)
+    → (drop mtu (first .pdu .bytes) ≡ drop mtu (second .pdu .bytes) → ⊥)
+    → ((first .pdu .stream ≡ second .pdu .stream) × (take mtu (first .pdu .bytes) ≡ take mtu (second .pdu .bytes)) → ⊥)
+    → (jointPDU mtu first second ≡ first .pdu → ⊥) × (jointPDU mtu first second ≡ second .pdu → ⊥)
+
+-- the same of the endpoint, from a desk on which no flow is open
 abbrev pub JointDelivered : Type 1
 JointDelivered =
     (setup : Setup) (flow : Flow) (first second : Sent) (b : Desk) → Pair setup flow first second → Begins setup (flow ∷ []) b
