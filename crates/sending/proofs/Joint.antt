@@ -102,7 +102,7 @@ joint-unsent mtu a b ends begins = (
   λ e. begins (
     ap (λ (p : PDU). p .stream) e,
     append-cancel-right (take mtu (a .pdu .bytes)) (take mtu (b .pdu .bytes)) (drop mtu (b .pdu .bytes))
-    (ap (λ (p : PDU). p .bytes) e ∙ sym (take-append-drop mtu (b .pdu .bytes))),
+        (ap (λ (p : PDU). p .bytes) e ∙ sym (take-append-drop mtu (b .pdu .bytes))),
   ),
 )
 
