@@ -1,4 +1,4 @@
--- Calls from C are calls: a report says what the answer says, and a place is the part that the room call hands back.
+-- Calls from C are calls: a report and the numbers of an answer say what the answer says, and a place is the part that the room call hands back.
 use Prim.Native.Nat.{ℕ, _+_}
 use mathlib.Core.Path.{_≡_, refl, ap, ap₂, sym, _∙_, subst}
 use mathlib.Core.List.{List, [], _∷_}
@@ -6,7 +6,7 @@ use mathlib.Core.Bool.{Bool}
 use native.Mathlib.Omega.{arith}
 use lib.ListN.{length}
 use denote.Ref.{RefT}
-use Rattle.answers.specs.Answers.{Said, said, held, delivered, message, refused, SetupSaid, ready, setupRefused}
+use Rattle.answers.specs.Answers.{Said, said, held, delivered, message, refused, SetupSaid, ready, setupRefused, WriterSaid, wrote, writeRefused}
 use Rattle.wire.specs.declared.Flow.{Flow}
 use Rattle.contexts.specs.State.{Setup}
 use Rattle.reading.specs.Desk.{Desk, withResponse}
@@ -14,17 +14,19 @@ use Rattle.reading.specs.Table.{Lent, lent}
 use Rattle.reading.specs.Read.{reading, ReadPromise}
 use Rattle.reading.proofs.Spoken.{answered-by, says-it, promised}
 use Rattle.endpoint.specs.Calls.{stands, setup, streamRoom}
+use Rattle.segments.specs.Writer.{wroteOf, writing}
 use Rattle.flows.specs.OneFlow.{pdu}
 use Rattle.flows.specs.Deliveries.{Delivery, delivery}
+use Rattle.sending.specs.Sending.{Sent, headingFor}
 use Rattle.c_reports.specs.declared.Numbers.{Numbers}
 use Rattle.c_reports.specs.declared.Report.{Report}
-use Rattle.c_reports.specs.Reports.{numbersOfSetup, reportOf}
+use Rattle.c_reports.specs.Reports.{numbersOfSetup, numbersOfWriter, reportOf}
 use Rattle.c_places.specs.declared.Place.{Place}
 use Rattle.c_places.specs.Places.{StreamPlacePromise}
-use Rattle.demands.specs.Calls.{Fetches, room, none-held, none-message, none-refused, Reads, stop, call}
+use Rattle.demands.specs.Calls.{Fetches, room, none-held, none-message, none-refused, Reads, stop, call, Writes, written-all, write}
 use Rattle.demands.specs.OfCalls.{SetUp}
-use Rattle.demands.proofs.OfCalls.{demand3-of-calls}
-use Rattle.c_promises.specs.OfCalls.{bytesAt, FetchesFromC, at-place, nothing, ReadsFromC, no-more, one-more, CallsFromCAreReads, SetUpFromC, Demand3FromC}
+use Rattle.demands.proofs.OfCalls.{demand2-of-calls, demand3-of-calls}
+use Rattle.c_promises.specs.OfCalls.{bytesAt, FetchesFromC, at-place, nothing, ReadsFromC, no-more, one-more, CallsFromCAreReads, SetUpFromC, readyKind, writtenKind, WritesFromC, no-segment, one-segment, WritesFromCAreWrites, Demand2FromC, Demand3FromC}
 
 -- ---- What is fetched
 
@@ -74,20 +76,45 @@ are-reads (one-more {d = d} {next = next} {p = p} {fetched = fetched} r given en
 pub calls-from-c-are-reads : CallsFromCAreReads
 calls-from-c-are-reads d ps ds reads = are-reads reads
 
--- setup's kind 4 is ready, and no other answer's
-four-is-ready : (says : SetupSaid) → numbersOfSetup says .kind ≡ 4 → says ≡ ready
-four-is-ready ready e = refl
-four-is-ready (setupRefused number) e = absurd (omega (arith, e))
+-- ---- Setting up
 
-set-up : {s : Setup} {d : Desk} → SetUpFromC s d → SetUp s d
+-- no other answer of setup has this kind
+is-ready : (says : SetupSaid) → numbersOfSetup says .kind ≡ readyKind → says ≡ ready
+is-ready ready e = refl
+is-ready (setupRefused number) e = absurd (omega (arith, e))
+
+pub set-up : {s : Setup} {d : Desk} → SetUpFromC s d → SetUp s d
 set-up {s = s} {d = d} up =
-    let says = four-is-ready (setup (up .before) (s .device) (s .mtu) (s .room) .says) (ap (λ (n : Numbers). n .kind) (sym (up .promised .answer)) ∙ up .ready) in
+    let says = is-ready (setup (up .before) (s .device) (s .mtu) (s .room) .says) (ap (λ (n : Numbers). n .kind) (sym (up .promised .answer)) ∙ up .ready) in
     record {
       device-ID = up .device-ID;
       before = up .before;
       ready = ap₂ (λ (t : SetupSaid) (w : List ℕ). stands t w) (sym says) (up .promised .state);
       lends = up .lends;
     }
+
+-- ---- Writing
+
+-- nor of the writer, and the number is the length
+is-written : (says : WriterSaid) → numbersOfWriter says .kind ≡ writtenKind → wrote (numbersOfWriter says .number) ≡ says
+is-written (wrote size) e = refl
+is-written (writeRefused number) e = absurd (omega (arith, e))
+
+are-writes : {setup : Setup} {flow : Flow} {s : Sent} {k n : ℕ} {ps : List (List ℕ)} → WritesFromC setup flow s k n ps → Writes setup flow s k n ps
+are-writes no-segment = written-all
+are-writes {setup = setup} {flow = flow} {s = s} {k = k} (one-segment out left answer promise kind more) =
+    let says : WriterSaid = writing out (headingFor (setup .device) flow s k) (setup .mtu) (s .pdu .bytes) k .says in
+    let told : wrote (answer .number) ≡ says =
+    ap (λ (a : Numbers). wrote (a .number)) (promise .answer) ∙ is-written says (ap (λ (a : Numbers). a .kind) (sym (promise .answer)) ∙ kind) in
+    write out left (answer .number) (ap₂ (λ (t : WriterSaid) (o : List ℕ). wroteOf t o) told (promise .packet)) (are-writes more)
+
+pub writes-from-c-are-writes : WritesFromCAreWrites
+writes-from-c-are-writes setup flow s k n ps writes = are-writes writes
+
+-- ---- The demands
+
+pub demand2-from-c : Demand2FromC
+demand2-from-c s d flow x count ps ds up source cos fair says writes reads = demand2-of-calls s d flow x count ps ds (set-up up) source cos fair says (are-writes writes) (are-reads reads)
 
 pub demand3-from-c : Demand3FromC
 demand3-from-c s d sending ds up fair reads = demand3-of-calls s d sending ds (set-up up) (fair .sent-fairly) (fair .one-loss) (fair .neighbours) (are-reads reads)

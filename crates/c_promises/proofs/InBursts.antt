@@ -1,46 +1,34 @@
 -- A burst is calls one after another, each with its slot as the response buffer: by induction over the packets. Later packets leave the reports of
 -- earlier ones, and a report names what its packet delivers.
-use Prim.Native.Nat.{ℕ, _+_, _*_, _≤_, _<_}
+use Prim.Native.Nat.{ℕ, _+_, _*_, _≤_}
 use mathlib.Core.Path.{_≡_, refl, ap, ap₂, sym, _∙_, subst}
 use mathlib.Core.List.{List, [], _∷_, _++_, map}
-use mathlib.Core.Bool.{Bool, not}
+use mathlib.Core.Bool.{Bool}
 use native.Mathlib.Omega.{arith}
-use lib.ListN.{length, take, drop, length-replicate}
+use lib.ListN.{length, take, drop}
 use lib.Seq.{take-add, take-take, drop-at, drop-drop, length-take-le}
 use Rattle.lists.specs.Rows.{rows}
-use Rattle.lists.proofs.Tests.{neither}
-use Rattle.answers.specs.declared.Begun.the-variants.{Ready}
 use Rattle.answers.specs.Answers.{Said, held, delivered, message, refused}
-use Rattle.tables.specs.Refusals.{none}
-use Rattle.tables.proofs.Exactly as tables
 use Rattle.wire.specs.declared.Flow.{Flow}
-use Rattle.responses.specs.Type13.{responseSize}
-use Rattle.contexts.specs.State.{Setup, State, fresh, streamContexts}
-use Rattle.contexts.specs.Words.{stateOf, wordsOf}
-use Rattle.contexts.proofs.Words.{state-of}
-use Rattle.reading.specs.Desk.{Desk, desk, stateOn}
-use Rattle.reading.specs.Table.{Lent, isState, wrongSizes, lentRows}
+use Rattle.reading.specs.Desk.{Desk, stateOn}
+use Rattle.reading.specs.Table.{Lent}
 use Rattle.reading.specs.Read.{reading}
 use Rattle.reading.proofs.Kept.{room-kept}
-use Rattle.reading.proofs.Laws.{sizes-fit}
 use Rattle.reading.proofs.Spoken.{answered-by, promised}
-use Rattle.endpoint.specs.Calls.{SetupPromise}
 use Rattle.c_reports.specs.declared.Report.{Report}
 use Rattle.c_reports.specs.Reports.{reportOf, reportWords, reportIn}
 use Rattle.flows.specs.Deliveries.{Delivery, deliveredOn, inRoom}
-use Rattle.flows.specs.Fresh.{Lends, zeroDesk}
 use Rattle.sending.specs.Sending.{packets}
 use Rattle.sending.proofs.Measured.{length-is-measured}
 use Rattle.c_bursts.specs.Bursts.{Run, run, slot, lentIn, readIn, behind, Finished, answering, atEnd}
 use Rattle.c_bursts.specs.Inside.{Room}
 use Rattle.c_bursts.proofs.Tests.{has-room}
 use Rattle.demands.specs.Calls.{Fetches, none-held, none-message, none-refused, Reads, stop, call}
-use Rattle.demands.specs.OfCalls.{SetUp}
 use Rattle.demands.proofs.Calls.{fetched-is-delivered}
-use Rattle.demands.proofs.OfCalls.{set-up-is-fresh, demand3-of-calls}
+use Rattle.demands.proofs.OfCalls.{demand3-of-calls}
 use Rattle.c_promises.specs.OfCalls.{allRead, Name, nameOf, namesIn, reportsIn, BurstReads, BurstIsReads, Demand3OfBursts}
 use Rattle.c_promises.proofs.Whole.{burst-is-calls}
-use Rattle.c_promises.proofs.FromC.{room-made, other-buffer, after-answer}
+use Rattle.c_promises.proofs.FromC.{room-made, other-buffer, after-answer, set-up}
 use Rattle.c_promises.proofs.Behind.{fewer, slot-length, same-reports, report-placed, earlier-kept, more-room}
 
 -- ---- the name in a report
@@ -151,23 +139,8 @@ burst-is-reads d reports burst packets answer after reports′ w promise =
       },
     )
 
--- rows 19 and 12 passed: the memories have the sizes that 12 wants
-lends : (setup : Setup) (d : Desk) → stateOn d .setup ≡ setup → none (lentRows d) → Lends setup d
-unfolding lentRows none
-lends setup d e n =
-    let s = sizes-fit d (neither (not (isState d)) (wrongSizes d) (n .1 .0) .1) in
-    record { rooms = s .0 ∙ ap (λ (f : Setup). streamContexts * f .room) e; boxes = s .1; reply = s .2 }
-
--- what setup leaves in the words: shown at a desk of zeros
-made : (setup : Setup) (words before : List ℕ) → setup .device < 65536 → SetupPromise before (setup .device) (setup .mtu) (setup .room) Ready words → words ≡ wordsOf (fresh setup)
-made setup words before small set =
-    let d : Desk = desk words (zeroDesk setup .streamMemory) (zeroDesk setup .messageMemory) (zeroDesk setup .response) in
-    let sizes : Lends setup d = record { rooms = length-replicate {A = ℕ} _ 0; boxes = length-replicate {A = ℕ} _ 0; reply = omega (arith, length-replicate {A = ℕ} responseSize 0) } in
-    set-up-is-fresh setup d (record { device-ID = small; before = before; ready = set; lends = sizes }) .words
-
 pub demand3-of-bursts : Demand3OfBursts
-demand3-of-bursts setup s words d reports burst answer after reports′ small set fair w promise =
-    let own : stateOn d .setup ≡ setup = ap (λ (l : List ℕ). stateOf l .setup) (made setup (d .words) words small set) ∙ ap (λ (t : State). t .setup) (state-of (fresh setup) refl refl) in
-    let up : SetUp setup d = record { device-ID = small; before = words; ready = set; lends = lends setup d own (tables.none-held (lentRows d) (w .passed)) } in
+demand3-of-bursts setup d s reports burst answer after reports′ up fair w promise =
     let c = burst-is-reads d reports burst (packets setup s) answer after reports′ w promise in
-    subst (BurstReads d burst (packets setup s) answer reports′) (demand3-of-calls setup d s (c .0) up (fair .sent-fairly) (fair .one-loss) (fair .neighbours) (c .1 .reads)) (c .1)
+    subst (BurstReads d burst (packets setup s) answer reports′)
+    (demand3-of-calls setup d s (c .0) (set-up up) (fair .sent-fairly) (fair .one-loss) (fair .neighbours) (c .1 .reads)) (c .1)

@@ -1,16 +1,90 @@
--- The premises of a burst can be met, by computation.
-use Prim.Native.Nat.{_≤_}
+-- The premises can be met: calls from C can be made; and those of a burst, by computation.
+use Prim.Native.Nat.{ℕ, zero, suc, _+_, _≤_}
 use mathlib.Core.Path.{_≡_, refl, ap, sym, subst}
+use mathlib.Core.List.{List, [], _∷_}
+use mathlib.Core.Bool.{Bool, true, false}
 use native.Mathlib.Omega.{arith}
-use lib.ListN.{length}
+use lib.Dec.{eqb}
+use lib.ListN.{length, replicate}
+use borrow.Author.Tests.{eqb-true, eqb-false}
+use Rattle.wire.specs.declared.Flow.{Flow}
+use Rattle.responses.specs.Type13.{responseSize}
+use Rattle.contexts.specs.State.{Setup}
+use Rattle.reading.specs.Desk.{Desk, withResponse}
+use Rattle.reading.specs.Table.{Lent, lent}
+use Rattle.reading.specs.Read.{reading}
+use Rattle.answers.specs.Answers.{SetupSaid}
+use Rattle.endpoint.specs.Calls.{Stands}
+use Rattle.segments.specs.Writer.{Wrote}
+use Rattle.flows.specs.Deliveries.{Delivery}
+use Rattle.flows.specs.Fresh.{Allowed, zeroDesk}
+use Rattle.c_reports.specs.declared.Report.{Report}
+use Rattle.c_reports.specs.Reports.{numbers, numbersOfSetup, numbersOfWriter}
 use Rattle.log_records.specs.Written.{AllShort}
 use Rattle.log_records.proofs.Back.{log-reads-back}
-use Rattle.sending.specs.Sending.{packets}
+use Rattle.sending.specs.Sending.{Sent, packetCount, packets, FairPDU}
+use Rattle.sending.specs.OfSendings.{packetAt}
 use Rattle.sending.specs.Mixture.{smallSetup, mixture}
 use Rattle.sending.proofs.Mixture.{mixture-is-fair}
 use Rattle.paper_examples.proofs.Computing.{computing}
-use Rattle.c_bursts.specs.Bursts.{roomFor}
-use Rattle.c_promises.specs.OfCalls.{BurstNotEmpty}
+use Rattle.demands.proofs.Writing.{counted, written-well}
+use Rattle.demands.proofs.Witnesses.{calls-not-empty}
+use Rattle.c_bursts.specs.Bursts.{roomFor, reportFor}
+use Rattle.c_promises.specs.OfCalls.{deliveredKind, readyKind, writtenKind, FetchesFromC, at-place, nothing, ReadsFromC, no-more, one-more, SetUpFromC, WritesFromC, no-segment, one-segment, CallsFromCNotEmpty, BurstNotEmpty}
+
+-- ---- Calls
+
+-- a setup that says ready, with its answer as numbers
+sets-up : (s : Setup) → Allowed s → SetUpFromC s (zeroDesk s)
+sets-up s allowed =
+    let up = calls-not-empty .sets-up s allowed in
+    record {
+      device-ID = up .device-ID;
+      before = up .before;
+      answer = numbers readyKind 0;
+      promised = record { answer = ap (λ (x : Stands SetupSaid). numbersOfSetup (x .says)) (up .ready); state = ap (λ (x : Stands SetupSaid). x .words) (up .ready) };
+      ready = refl;
+      lends = up .lends;
+    }
+
+-- after any report a caller can fetch
+fetch-made : (d : Desk) (r : Report) → (fetched : List Delivery) × FetchesFromC d r fetched
+fetch-made d r = go (eqb (r .kind) deliveredKind) refl
+  where
+    go : (b : Bool) → eqb (r .kind) deliveredKind ≡ b → (fetched : List Delivery) × FetchesFromC d r fetched
+    go true e = (_, at-place _ (eqb-true (r .kind) deliveredKind e) refl)
+    go false e = (_, nothing (eqb-false (r .kind) deliveredKind e))
+
+-- a call for each packet, with a response buffer of 7
+reads-made : (ps : List (List ℕ)) (d : Desk) → (ds : List Delivery) × ReadsFromC d ps ds
+reads-made [] d = ([], no-more)
+reads-made (p ∷ ps) d =
+    let x : Lent = lent (withResponse d (replicate responseSize 0)) p in
+    let fetch = fetch-made (reading x .desk) (reportFor (reading x)) in
+    let rest = reads-made ps (reading x .desk) in
+    (_, one-more (reportFor (reading x)) (replicate responseSize 0) (omega arith) (record { report = refl; desk = refl }) (fetch .1) (rest .1))
+
+-- the writer, with a buffer as long as the packet
+module _ (s : Setup) (flow : Flow) (x : Sent) (allowed : Allowed s) (fair : FairPDU (s .room) x) where
+  writes-made : (n k : ℕ) → k + n ≡ packetCount (s .mtu) x → (ps : List (List ℕ)) × WritesFromC s flow x k n ps
+  writes-made zero k e = (_, no-segment)
+  writes-made (suc n) k e =
+      let packet : List ℕ = packetAt s flow x k in
+      let well = written-well s flow x allowed fair packet k (omega arith) (omega arith) in (
+        _,
+        one-segment packet _ (numbers writtenKind (length packet))
+            (record { answer = ap (λ (w : Wrote). numbersOfWriter (w .says)) well; packet = ap (λ (w : Wrote). w .out) well }) refl
+            (writes-made n (suc k) (omega arith) .1),
+      )
+
+pub calls-from-c-not-empty : CallsFromCNotEmpty
+calls-from-c-not-empty = record {
+  sets-up = sets-up;
+  reads = λ d ps. reads-made ps d;
+  writes = λ s flow x count allowed fair says. writes-made s flow x allowed fair count 0 (omega (arith, says, counted s flow x allowed fair));
+}
+
+-- ---- A burst
 
 -- seven packets, all of them short
 all-short : AllShort (packets smallSetup mixture)

@@ -29,7 +29,7 @@ use Rattle.demands.specs.Calls.{Fetches, none-held, none-message, none-refused,
 use Rattle.demands.proofs.OfCalls.{demand3-of-calls}
 use Rattle.c_promises.specs.OfCalls as stated
 use Rattle.c_promises.specs.OfCalls.{reportAt, lastReport, FetchesFromC, PausedCall, Bursts, PausedBurstsAreReads, Demand3OfPausedBursts}
-use Rattle.c_promises.proofs.FromC.{other-buffer, fetched-from-c}
+use Rattle.c_promises.proofs.FromC.{other-buffer, fetched-from-c, set-up}
 use Rattle.c_promises.proofs.Behind.{fewer, report-placed, more-room}
 use Rattle.c_promises.proofs.InBursts.{call-made}
 
@@ -230,4 +230,4 @@ paused-bursts-are-reads d packets ds short bursts = are-reads bursts packets ref
 
 pub demand3-of-paused-bursts : Demand3OfPausedBursts
 demand3-of-paused-bursts setup d s ds up fair short bursts =
-    demand3-of-calls setup d s ds up (fair .sent-fairly) (fair .one-loss) (fair .neighbours) (are-reads bursts _ refl short)
+    demand3-of-calls setup d s ds (set-up up) (fair .sent-fairly) (fair .one-loss) (fair .neighbours) (are-reads bursts _ refl short)

@@ -1,5 +1,5 @@
 -- What holds of the functions that C calls, as statements. Each is proved in proofs/.
-use Prim.Native.Nat.{ℕ, _-_, _*_, _≤_, _<_}
+use Prim.Native.Nat.{ℕ, zero, suc, _+_, _-_, _*_, _≤_, _<_}
 use mathlib.Core.Path.{_≡_}
 use mathlib.Core.List.{List, [], _∷_, _++_, map}
 use mathlib.Core.Bool.{true, cond}
@@ -8,24 +8,23 @@ use lib.Dec.{eqb}
 use Rattle.lists.specs.Bytes.{AreBytes}
 use Rattle.lists.specs.Rows.{rows}
 use Rattle.tables.specs.Refusals.{accept}
-use Rattle.answers.specs.declared.Begun.the-variants.{Ready}
 use Rattle.answers.specs.Once.{Outcome, OneOutcome, Once}
 use Rattle.wire.specs.declared.Flow.{Flow}
 use Rattle.responses.specs.Type13.{responseSize, answered}
-use Rattle.contexts.specs.State.{Setup}
+use Rattle.contexts.specs.State.{Setup, streamContexts, messageContexts}
 use Rattle.message_rooms.specs.Placing.{messageRoomBytes}
 use Rattle.reading.specs.Desk.{Desk, stateOn, withResponse}
 use Rattle.reading.specs.Table.{Lent, lent}
 use Rattle.reading.specs.Read.{reading}
-use Rattle.endpoint.specs.Calls.{part, SetupPromise}
+use Rattle.endpoint.specs.Calls.{part}
 use Rattle.cutting.specs.declared.Heading.{Heading}
+use Rattle.segments.specs.Writer.{CountPromise}
 use Rattle.flows.specs.OneFlow.{pdu}
 use Rattle.flows.specs.Deliveries.{Delivery, delivery}
-use Rattle.flows.specs.Fresh.{Lends, zeroDesk}
-use Rattle.sending.specs.Sending.{Sending, packets, whole, Fair}
+use Rattle.flows.specs.Fresh.{Allowed, Lends, zeroDesk}
+use Rattle.sending.specs.Sending.{Sent, headingFor, Sending, packets, whole, FairPDU, Fair}
 use Rattle.sending.specs.Mixture.{smallSetup, mixture}
-use Rattle.demands.specs.Calls.{Reads}
-use Rattle.demands.specs.OfCalls.{SetUp}
+use Rattle.demands.specs.Calls.{Reads, Writes}
 use Rattle.log_records.specs.Records.{records, recordsOf}
 use Rattle.log_records.specs.Written.{writtenLog, AllShort}
 use Rattle.c_reports.specs.declared.Numbers.{Numbers}
@@ -36,6 +35,21 @@ use Rattle.c_places.specs.Places.{placeOf, StreamPlacePromise, MessagePlaceProm
 use Rattle.c_bursts.specs.declared.Burst.{Burst}
 use Rattle.c_bursts.specs.Bursts.{slotBytes, Run, run, reportFor, behind, stepLeft, atEnd, isFull, atDelivery, answering, stopped, Finished, roomFor, burstVerdict, readBurst, BurstPromise}
 use Rattle.kaiverohm.specs.Exports.{SetupFromCPromise, ReadFromCPromise, AbandonStreamFromCPromise, AbandonMessageFromCPromise, WriteFromCPromise}
+
+-- ---- The kinds of an answer that these statements name (c_reports/specs/Reports.antt has all): a PDU is delivered, a message is, a state is made, a segment
+-- is written.
+
+abbrev pub deliveredKind : ℕ
+deliveredKind = 2
+
+abbrev pub messageKind : ℕ
+messageKind = 3
+
+abbrev pub readyKind : ℕ
+readyKind = 4
+
+abbrev pub writtenKind : ℕ
+writtenKind = 7
 
 -- ---- What a report says of the response is what reading wrote there.
 
@@ -78,18 +92,32 @@ pub record BurstNotEmpty : Type 0 where
   pub short : AllShort (packets smallSetup mixture)
   pub whole-burst : WholeBurst deskForSeven sevenReports (writtenLog (packets smallSetup mixture)) (packets smallSetup mixture)
 
+-- ---- A place lies inside the caller's memory: whatever stands in the words, and whatever size, number and length are asked for.
+
+pub record PlacesInside : Type 0 where
+  pub stream : (words : List ℕ) (size n l : ℕ) (place : Place) → StreamPlacePromise words size n l place → place .offset + place .length ≤ size
+  pub message : (words : List ℕ) (size n l : ℕ) (place : Place) → MessagePlacePromise words size n l place → place .offset + place .length ≤ size
+
 -- ---- The room of what is delivered, from C: after a delivery the room call with the report's context and length answers the whole place, no
--- empty one: the part that Rattle's call hands back. Of PDUs (kind 2) and of messages (kind 3).
+-- empty one: the part that Rattle's call hands back. Of PDUs and of messages.
+
+-- there are so many rooms of so many bytes in that memory
+pub record PlaceOfDelivered (rooms room context size : ℕ) (place : Place) : Type 0 where
+  -- the context is one of them, and the length stays within its room
+  pub below : context < rooms
+  pub within : size ≤ room
+  -- the place is that of the room's first bytes, so many
+  pub whole-place : place ≡ placeOf (part (context * room) size)
 
 pub record RoomOfDeliveredFromC : Type 0 where
-  pub of-PDU : (x : Lent) (place : Place) → reportFor (reading x) .kind ≡ 2
+  pub of-PDU : (x : Lent) (place : Place) → reportFor (reading x) .kind ≡ deliveredKind
       → StreamPlacePromise (reading x .desk .words) (length (reading x .desk .streamMemory)) (reportFor (reading x) .context) (reportFor (reading x) .length) place
-      → place ≡ placeOf (part (reportFor (reading x) .context * stateOn (reading x .desk) .setup .room) (reportFor (reading x) .length))
-  pub of-message : (x : Lent) (place : Place) → AreBytes (x .packet) → reportFor (reading x) .kind ≡ 3
+      → PlaceOfDelivered streamContexts (stateOn (reading x .desk) .setup .room) (reportFor (reading x) .context) (reportFor (reading x) .length) place
+  pub of-message : (x : Lent) (place : Place) → AreBytes (x .packet) → reportFor (reading x) .kind ≡ messageKind
       → MessagePlacePromise (reading x .desk .words) (length (reading x .desk .messageMemory)) (reportFor (reading x) .context) (reportFor (reading x) .length) place
-      → place ≡ placeOf (part (reportFor (reading x) .context * messageRoomBytes) (reportFor (reading x) .length))
+      → PlaceOfDelivered messageContexts messageRoomBytes (reportFor (reading x) .context) (reportFor (reading x) .length) place
 
--- ---- Demand 3 from C: what a caller makes of the reports is exactly what is whole.
+-- ---- Demands 2 and 3 from C: what a caller makes of the reports is exactly what is whole.
 
 -- the bytes at a place of a memory
 abbrev pub bytesAt : List ℕ → Place → List ℕ
@@ -99,13 +127,13 @@ bytesAt memory place = take (place .length) (drop (place .offset) memory)
 abbrev pub flowIn : Report → Flow
 flowIn r = record { source = r .source; cos = r .«cos_or_letter» }
 
--- What a caller in C fetches after a report. A PDU is delivered (kind 2): one call of `kaiverohm_stream_room` with the report's context and length,
+-- What a caller in C fetches after a report. A PDU is delivered: one call of `kaiverohm_stream_room` with the report's context and length,
 -- for the stream memory as it was left; its bytes are those at the place that the call answers. After any other report nothing is fetched
 pub data FetchesFromC (d : Desk) (r : Report) : List Delivery → Type 0 where
-  at-place : (place : Place) → r .kind ≡ 2
+  at-place : (place : Place) → r .kind ≡ deliveredKind
       → StreamPlacePromise (d .words) (length (d .streamMemory)) (r .context) (r .length) place
       → FetchesFromC d r (delivery (flowIn r) (pdu (r .«stream_or_mailbox») (bytesAt (d .streamMemory) place)) ∷ [])
-  nothing : (r .kind ≡ 2 → ⊥) → FetchesFromC d r []
+  nothing : (r .kind ≡ deliveredKind → ⊥) → FetchesFromC d r []
 
 -- calls of `kaiverohm_read`, one for each packet, as `Reads` (demands/specs/Calls.antt); and what is fetched after their reports
 pub data ReadsFromC : Desk → List (List ℕ) → List Delivery → Type 0 where
@@ -120,22 +148,54 @@ pub data ReadsFromC : Desk → List (List ℕ) → List Delivery → Type 0 wher
 abbrev pub CallsFromCAreReads : Type 0
 CallsFromCAreReads = (d : Desk) (ps : List (List ℕ)) (ds : List Delivery) → ReadsFromC d ps ds → Reads d ps ds
 
--- from fresh: a setup from C said ready (kind 4), and memories that 12 allows are lent
+-- from fresh: a setup from C said ready, and memories that 12 allows are lent
 pub record SetUpFromC (setup : Setup) (d : Desk) : Type 0 where
   pub device-ID : setup .device < 65536
   pub before : List ℕ
   pub answer : Numbers
   pub promised : SetupFromCPromise before (setup .device) (setup .mtu) (setup .room) answer (d .words)
-  pub ready : answer .kind ≡ 4
+  pub ready : answer .kind ≡ readyKind
   pub lends : Lends setup d
 
--- and then a call for each packet
+-- `kaiverohm_write_segment` for n segments of a PDU from number k on, as `Writes`: each with any output buffer, each answer a length
+pub data WritesFromC (setup : Setup) (flow : Flow) (s : Sent) : (k n : ℕ) → List (List ℕ) → Type 0 where
+  no-segment : {k : ℕ} → WritesFromC setup flow s k zero []
+  one-segment : {k n : ℕ} {ps : List (List ℕ)} (out left : List ℕ) (answer : Numbers)
+      → WriteFromCPromise out (headingFor (setup .device) flow s k) (setup .mtu) (s .pdu .bytes) k answer left
+      → answer .kind ≡ writtenKind
+      → WritesFromC setup flow s (suc k) n ps
+      → WritesFromC setup flow s k (suc n) (take (answer .number) left ∷ ps)
+
+abbrev pub WritesFromCAreWrites : Type 0
+WritesFromCAreWrites = (setup : Setup) (flow : Flow) (s : Sent) (k n : ℕ) (ps : List (List ℕ)) → WritesFromC setup flow s k n ps → Writes setup flow s k n ps
+
+-- DEMAND 2 from C, as `Demand2OfCalls` (demands/specs/OfCalls.antt): setup, as many calls of the writer as `kaiverohm_segment_count` says, and a call
+-- for each packet
+abbrev pub Demand2FromC : Type 0
+Demand2FromC =
+    (setup : Setup) (d : Desk) (flow : Flow) (s : Sent) (count : ℕ) (ps : List (List ℕ)) (ds : List Delivery)
+    → SetUpFromC setup d
+    → flow .source < 65536 → flow .cos < 256 → FairPDU (setup .room) s
+    → CountPromise (setup .mtu) (length (s .pdu .bytes)) count → WritesFromC setup flow s 0 count ps
+    → ReadsFromC d ps ds
+    → ds ≡ delivery flow (s .pdu) ∷ []
+
+-- DEMAND 3 from C: setup, and then a call for each packet
 abbrev pub Demand3FromC : Type 0
 Demand3FromC =
     (setup : Setup) (d : Desk) (s : Sending) (ds : List Delivery)
     → SetUpFromC setup d → Fair setup s
     → ReadsFromC d (packets setup s) ds
     → ds ≡ whole setup s
+
+-- the calls can be made: setup says ready at a desk whose memories are zeros; at any desk there are calls for any packets; and every PDU that a room
+-- holds can be written
+pub record CallsFromCNotEmpty : Type 0 where
+  pub sets-up : (setup : Setup) → Allowed setup → SetUpFromC setup (zeroDesk setup)
+  pub reads : (d : Desk) (ps : List (List ℕ)) → (ds : List Delivery) × ReadsFromC d ps ds
+  pub writes : (setup : Setup) (flow : Flow) (s : Sent) (count : ℕ) → Allowed setup → FairPDU (setup .room) s
+      → CountPromise (setup .mtu) (length (s .pdu .bytes)) count
+      → (ps : List (List ℕ)) × WritesFromC setup flow s 0 count ps
 
 -- A burst is such calls, each with a slot of its own as its response buffer.
 
@@ -159,7 +219,7 @@ reportAt reports k = reportIn (take reportWords (drop (reportWords * k) reports)
 abbrev pub namesIn : List Report → List Name
 namesIn [] = []
 namesIn (r ∷ rs) =
-    cond (eqb (r .kind) 2) (record { flow = flowIn r; stream = r .«stream_or_mailbox»; size = r .length } ∷ namesIn rs) (namesIn rs)
+    cond (eqb (r .kind) deliveredKind) (record { flow = flowIn r; stream = r .«stream_or_mailbox»; size = r .length } ∷ namesIn rs) (namesIn rs)
 
 -- Without a pause: all packets are read, by calls that deliver `ds`, and the reports name these. A delivered PDU's bytes are those in its room when
 -- its packet was read; a later packet of the burst may take the room and write over them before the call returns.
@@ -176,8 +236,8 @@ BurstIsReads =
 
 abbrev pub Demand3OfBursts : Type 0
 Demand3OfBursts =
-    (setup : Setup) (s : Sending) (words : List ℕ) (d : Desk) (reports burst : List ℕ) (answer : Burst) (after : Desk) (reports′ : List ℕ)
-    → setup .device < 65536 → SetupPromise words (setup .device) (setup .mtu) (setup .room) Ready (d .words) → Fair setup s
+    (setup : Setup) (d : Desk) (s : Sending) (reports burst : List ℕ) (answer : Burst) (after : Desk) (reports′ : List ℕ)
+    → SetUpFromC setup d → Fair setup s
     → WholeBurst d reports burst (packets setup s) → BurstPromise 0 d reports burst answer after reports′
     → BurstReads d burst (packets setup s) answer reports′ (whole setup s)
 
@@ -216,7 +276,7 @@ PausedBurstsAreReads = (d : Desk) (packets : List (List ℕ)) (ds : List Deliver
 abbrev pub Demand3OfPausedBursts : Type 0
 Demand3OfPausedBursts =
     (setup : Setup) (d : Desk) (s : Sending) (ds : List Delivery)
-    → SetUp setup d → Fair setup s
+    → SetUpFromC setup d → Fair setup s
     → AllShort (packets setup s) → Bursts d (writtenLog (packets setup s)) ds
     → ds ≡ whole setup s
 
