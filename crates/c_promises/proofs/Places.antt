@@ -63,7 +63,7 @@ module _ (x : Lent) where
   unfolding reportOf
   of-PDU (delivered context flow stream size) e place two answers =
       let there = room-of-delivered .of-PDU (x .desk) (x .packet) context flow stream size e in
-      record { below = there .below; within = there .within; whole-place = answers ∙ ap placeOf (there .handed) }
+      record { below = there .below; some-byte = there .some-byte; within = there .within; whole-place = answers ∙ ap placeOf (there .handed) }
   of-PDU held e place two answers = absurd (omega (arith, two))
   of-PDU (message context source letter mailbox size) e place two answers = absurd (omega (arith, two))
   of-PDU (refused number) e place two answers = absurd (omega (arith, two))
@@ -74,7 +74,7 @@ module _ (x : Lent) where
   unfolding reportOf
   of-message bytes (message context source letter mailbox size) e place three answers =
       let there = room-of-delivered .of-message (x .desk) (x .packet) context source letter mailbox size bytes e in
-      record { below = there .below; within = there .within; whole-place = answers ∙ ap placeOf (there .handed) }
+      record { below = there .below; some-byte = there .some-byte; within = there .within; whole-place = answers ∙ ap placeOf (there .handed) }
   of-message bytes held e place three answers = absurd (omega (arith, three))
   of-message bytes (delivered context flow stream size) e place three answers = absurd (omega (arith, three))
   of-message bytes (refused number) e place three answers = absurd (omega (arith, three))

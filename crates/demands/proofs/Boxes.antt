@@ -1,11 +1,14 @@
--- What the delivery of a message leaves: row 25 leaves a context below 8, and row 21 with 19 a length of at most 16 segments of 256 bytes.
+-- What the delivery of a message leaves: row 25 leaves a context below 8, row 21 with 19 a length of at most 16 segments of 256 bytes, and row 20 with
+-- 21 one byte at least.
 use Prim.Native.Nat.{ℕ, _+_, _*_, _≤_, _<_}
 use mathlib.Core.Path.{_≡_, refl, ap, sym, _∙_}
 use mathlib.Core.List.{List}
-use mathlib.Core.Bool.{Bool, true, false, cond}
+use mathlib.Core.Bool.{Bool, true, false, cond, not}
 use native.Mathlib.Omega.{arith}
+use native.Mathlib.Nat.{mul-le-mul-right}
 use lib.ListN.{length, getD, length-drop}
-use borrow.Author.Tests.{ltb-true}
+use lib.Dec.{eqb, leb}
+use borrow.Author.Tests.{eqb-true, eqb-false, leb-true, ltb-true, not-false}
 use Rattle.lists.proofs.Written.{length-written}
 use Rattle.answers.specs.Answers as answers
 use Rattle.tables.specs.Refusals.{Leaves, all, flowClosed, allERROR, allRETRY, Verdict, refuse, accept, verdict, none, given}
@@ -14,10 +17,10 @@ use Rattle.wire.specs.declared.Flow.{Flow}
 use Rattle.wire.specs.Packet.{header}
 use Rattle.wire.specs.Head.{is9, is11, headRows}
 use Rattle.wire.specs.declared.MessageSegment.{MessageSegment}
-use Rattle.wire.specs.Type11.{messageOf, isSingle, mailbox}
-use Rattle.sizes.specs.Sizes.{bytesOf}
+use Rattle.wire.specs.Type11.{messageOf, isSingle, isLast, mailbox}
+use Rattle.sizes.specs.Sizes.{bytesOf, inEights}
 use Rattle.sizes.proofs.Laws.{bytes-le}
-use Rattle.rules.specs.Messages.{formRows, lastWith}
+use Rattle.rules.specs.Messages.{reservedSize, badLength, formRows, lastWith}
 use Rattle.rules.proofs.Laws.{raw-le, last-with-le}
 use Rattle.contexts.specs.State.{Setup, State, freeMessage, messageIn, messageContext}
 use Rattle.contexts.proofs.Words.{eight}
@@ -33,7 +36,7 @@ use Rattle.streams.specs.Rows.{streamRows}
 use Rattle.reading.specs.Table.{Lent, stateIn, segmentIn, messageSegmentIn, lentRows, table}
 use Rattle.reading.specs.Read.{Settled, ofStream, ofMessage, refusing, accepting, outcome, reading}
 use Rattle.reading.specs.Good.{StillGood}
-use Rattle.lists.proofs.Tests.{by-test}
+use Rattle.lists.proofs.Tests.{by-test, both}
 use Rattle.reading.proofs.Kept.{stays-good, other-type}
 use Rattle.flows.proofs.Quiet.{free-there, single-shut}
 use Rattle.sending.proofs.Measured.{Delivers, row-passed, of-type, was-ready}
@@ -65,10 +68,22 @@ stream-none : (x : Lent) → NoMessage (stream.accepted (stateIn x) (x .desk .st
 unfolding stream.accepted placing.placed
 stream-none x = answer-none (segmentIn x .ends) _ _ _ _
 
--- what a message leaves: a memory of its size, and where it delivers, a context below 8 and a length of at most 4,096
+-- a segment that rows 20 and 21 pass has a byte
+raw-some : (m : MessageSegment) → reservedSize m ≡ false → badLength m ≡ false → 1 ≤ m .raw
+unfolding reservedSize badLength inEights
+raw-some m r b = go (isLast m) b
+  where
+    go : (t : Bool) → cond t (not (inEights (m .raw) (bytesOf (m .ssize)))) (not (eqb (m .raw) (bytesOf (m .ssize)))) ≡ false → 1 ≤ m .raw
+    go true e = let eight = leb-true 8 (m .raw) (both (leb 8 (m .raw)) _ (not-false _ e) .0) in omega arith
+    go false e =
+        let same = eqb-true (m .raw) (bytesOf (m .ssize)) (not-false _ e) in
+        let some = eqb-false (bytesOf (m .ssize)) 0 r in
+        omega (arith, same, some)
+
+-- what a message leaves: a memory of its size, and where it delivers, a context below 8 and a length of 1 to 4,096
 record InBox (j : boxes.MessageJoined) : Type 0 where
   size-kept : length (j .memory) ≡ 32768
-  delivers : (context source letter box size : ℕ) → j .says ≡ answers.message context source letter box size → (context < 8) × (size ≤ 4096)
+  delivers : (context source letter box size : ℕ) → j .says ≡ answers.message context source letter box size → (context < 8) × (1 ≤ size) × (size ≤ 4096)
 
 module _ (x : Lent) (passed : none (table x)) (eleven : is11 (x .packet) ≡ true) (small : getD (x .packet) header 0 < 256) where
   abbrev s : State
@@ -92,9 +107,19 @@ module _ (x : Lent) (passed : none (table x)) (eleven : is11 (x .packet) ≡ tru
   unfolding messageOf
   data-length = length-drop 7 (x .packet)
 
-  row-21 : m .raw ≤ bytesOf (m .ssize)
+  row-20 : reservedSize m ≡ false
   unfolding table lentRows headRows given streamRows messageRows formRows
-  row-21 = raw-le m (of-type (is11 (x .packet)) _ eleven (row-passed 21 (table x) passed))
+  row-20 = of-type (is11 (x .packet)) _ eleven (row-passed 20 (table x) passed)
+
+  good-length : badLength m ≡ false
+  unfolding table lentRows headRows given streamRows messageRows formRows
+  good-length = of-type (is11 (x .packet)) _ eleven (row-passed 21 (table x) passed)
+
+  row-21 : m .raw ≤ bytesOf (m .ssize)
+  row-21 = raw-le m good-length
+
+  some-raw : 1 ≤ m .raw
+  some-raw = raw-some m row-20 good-length
 
   row-25 : neededNoneFree s m ≡ false
   unfolding table lentRows headRows given streamRows messageRows formRows
@@ -107,12 +132,12 @@ module _ (x : Lent) (passed : none (table x)) (eleven : is11 (x .packet) ≡ tru
     delivers = λ context source letter box size e.
         let same-context : n ≡ context = cc in
         let same-size : m .raw ≡ size = cc in
-        (omega arith, omega (arith, row-21, bytes-le (m .ssize)));
+        (omega arith, omega (arith, some-raw), omega (arith, row-21, bytes-le (m .ssize)));
   }
 
-  placed-in : (n marks last : ℕ) → n < 8 → last ≤ 256 → InBox (boxes.messagePlaced s memory (x .desk .response) (x .packet) m n marks last)
+  placed-in : (n marks last : ℕ) → isSingle m ≡ false → n < 8 → last ≤ 256 → InBox (boxes.messagePlaced s memory (x .desk .response) (x .packet) m n marks last)
   unfolding boxes.messagePlaced
-  placed-in n marks last below short = record {
+  placed-in n marks last several below short = record {
     size-kept =
         length-written memory (boxes.messageData (x .packet)) (n * 4096 + m .msgseg * bytesOf (m .ssize))
         (omega (arith, data-length, size-is, segment-ends n (m .msgseg) (bytesOf (m .ssize)) (m .raw) below (few .1) (bytes-le (m .ssize)) row-21)) ∙ size-is;
@@ -125,12 +150,20 @@ module _ (x : Lent) (passed : none (table x)) (eleven : is11 (x .packet) ≡ tru
       total-le : total ≤ 4096
       total-le = omega (arith, product-le (m .msglen) (bytesOf (m .ssize)) (few .0) (bytes-le (m .ssize)), last-with-le m last short (omega (arith, row-21, bytes-le (m .ssize))))
 
+      -- segment 0 is a full one
+      total-some : 1 ≤ total
+      total-some =
+          let none = eqb-false (m .msglen) 0 several in
+          let more : 1 ≤ m .msglen = omega (arith, none) in
+          let full = mul-le-mul-right (bytesOf (m .ssize)) more in
+          omega (arith, full, some-raw, row-21)
+
       go : (t : Bool) (context source letter box size : ℕ) → cond t (answers.message n (m .source) (m .letter) (mailbox m) total) answers.held ≡ answers.message context source letter box size
-          → (context < 8) × (size ≤ 4096)
+          → (context < 8) × (1 ≤ size) × (size ≤ 4096)
       go true context source letter box size e =
           let same-context : n ≡ context = cc in
           let same-size : total ≡ size = cc in
-          (omega arith, omega (arith, total-le))
+          (omega arith, omega (arith, total-some), omega (arith, total-le))
       go false context source letter box size e = absurd (held-none context source letter box size e)
 
   -- what the open message has kept
@@ -147,8 +180,8 @@ module _ (x : Lent) (passed : none (table x)) (eleven : is11 (x .packet) ≡ tru
   accepted-in =
       by-test (isSingle m) (λ t. rw t (alone-in (freeMessage s) (free-there s m row-25 (single-shut s m t))))
       (λ t. by-test (messageOpen s m)
-      (λ o. rw (t, o) (placed-in (messageFound s m) _ _ (ltb-true (messageFound s m) 8 o) (found-last t o)))
-      (λ o. rw (t, o) (placed-in (freeMessage s) 0 0 (free-there s m row-25 o) (omega arith))))
+      (λ o. rw (t, o) (placed-in (messageFound s m) _ _ t (ltb-true (messageFound s m) 8 o) (found-last t o)))
+      (λ o. rw (t, o) (placed-in (freeMessage s) 0 0 t (free-there s m row-25 o) (omega arith))))
 
   -- everything lent fits again
   message-delivers : StillGood s (ofMessage x (message.messageAccepted s memory (x .desk .response) (x .packet) m) .desk .words)
@@ -164,7 +197,8 @@ module _ (x : Lent) (passed : none (table x)) (eleven : is11 (x .packet) ≡ tru
           boxes = accepted-in .size-kept;
         };
         below = ends .0;
-        within = ends .1;
+        some-byte = ends .1;
+        within = ends .2;
       }
 
 pub delivers-message : (x : Lent) (context source letter box size : ℕ) → getD (x .packet) header 0 < 256 → reading x .says ≡ answers.message context source letter box size

@@ -1,5 +1,5 @@
 -- THE ROOM OF WHAT IS DELIVERED: after a delivery, the public room call with the answer's context and length hands back the delivered bytes,
--- of PDUs and of messages; and no delivered length reaches past its own room.
+-- of PDUs and of messages; and no delivered length is 0, or reaches past its own room.
 use Prim.Native.Nat.{ℕ, _*_, _≤_, _<_}
 use mathlib.Core.Path.{_≡_}
 use mathlib.Core.List.{List}
@@ -15,14 +15,17 @@ use Rattle.flows.specs.Deliveries.{read, after, inRoom}
 -- What a room call does with an answer's context and length: there are so many rooms of so many bytes in that memory, and `asked` says which
 -- part of a memory of some length the call hands back
 pub record RoomHandedBack (rooms room : ℕ) (memory : List ℕ) (asked : ℕ → ℕ → ℕ → Part) (context size : ℕ) : Type 0 where
-  -- the context is one of them, and the length stays within its room
+  -- the context is one of them, and the length is no 0, and stays within its room
   pub below : context < rooms
+  pub some-byte : 1 ≤ size
   pub within : size ≤ room
-  -- it hands back the part from the room's beginning, of that length: no empty one
+  -- it hands back the part from the room's beginning, of that length
   pub handed : asked (length memory) context size ≡ part (context * room) size
   -- so whatever call keeps its promise over that memory gives exactly the bytes that are delivered
   pub bytes : (lends gets : RefT (List ℕ)) → now lends ≡ memory → IsPart lends (asked (length (now lends)) context size) gets
       → now gets ≡ inRoom room memory context size
+  -- and these are as many as the answer says
+  pub measured : length (inRoom room memory context size) ≡ size
 
 -- at every desk, whatever its words and memories
 pub record RoomOfDelivered : Type 0 where

@@ -51,7 +51,7 @@ pub record Promises : Type 0 where
   pub mail-segments : MailSegmentsReadBack
   -- when a response is written, with which status, how many bytes, from whom, field by field
   pub responses : ResponsesExactly
-  -- the room call with a delivery's context and length hands back exactly the delivered bytes, and no length reaches past its room
+  -- the room call with a delivery's context and length hands back exactly the delivered bytes, as many as it says; no length is 0 or reaches past its room
   pub room : RoomOfDelivered
   -- DEMAND 2, of the calls: setup, the writer's calls, read for each packet and the room call deliver exactly the PDU
   pub demand2 : Demand2OfCalls

@@ -1,5 +1,5 @@
 -- What a delivery leaves: rows 19 and 12 leave a good state and memories of their sizes, rows 8 and 10 a context below 16, row 9 a total of at
--- most R. So no room reaches past the memory, and the length in an answer is that of the bytes that lie in its room, whatever the desk.
+-- most R; and row 6 one byte at least. So no room reaches past the memory, and the length in an answer is that of the bytes that lie in its room, whatever the desk.
 use Prim.Native.Nat.{ℕ, _+_, _*_, _≤_, _<_}
 use mathlib.Core.Path.{_≡_, refl, ap, sym, _∙_}
 use mathlib.Core.List.{List, [], _∷_}
@@ -18,6 +18,7 @@ use Rattle.wire.specs.declared.MessageSegment.{MessageSegment}
 use Rattle.wire.specs.Type11.{isSingle, mailbox}
 use Rattle.wire.specs.Head.{is9, headRows}
 use Rattle.sizes.specs.Sizes.{bytesOf, dataLength}
+use Rattle.rules.specs.Segments.{malformed}
 use Rattle.rules.specs.Messages.{lastWith, formRows}
 use Rattle.messages.specs.Rows.{messageFound as found, messageOpen, messageRows}
 use Rattle.contexts.specs.State.{Setup, State, freeStream, freeMessage, messageIn}
@@ -80,10 +81,11 @@ messages-none s memory response p m = go (isSingle m) (messageOpen s m)
 
 -- ---- What a delivery leaves
 
--- everything lent fits again; the context is one of so many, and the length no longer than its room
+-- everything lent fits again; the context is one of so many, and the length 1 or more, and no longer than its room
 pub record Delivers (rooms room : ℕ) (y : Settled) (context size : ℕ) : Type 0 where
   pub fit : Fit (y .desk)
   pub below : context < rooms
+  pub some-byte : 1 ≤ size
   pub within : size ≤ room
 
 -- the test of the first row with that number: it failed, where all did
@@ -146,6 +148,10 @@ module _ (x : Lent) (passed : none (table x)) where
     unfolding table lentRows headRows given streamRows messageRows formRows
     context-below = below-16 (stateIn x) g (of-type (is9 (x .packet)) _ nine (row-passed 8 (table x) passed)) (of-type (is9 (x .packet)) _ nine (row-passed 10 (table x) passed))
 
+    row-6 : malformed g ≡ false
+    unfolding table lentRows headRows given streamRows messageRows formRows
+    row-6 = of-type (is9 (x .packet)) _ nine (row-passed 6 (table x) passed)
+
     row-9 : passesRoom (stateIn x) g ≡ false
     unfolding table lentRows headRows given streamRows messageRows formRows
     row-9 = of-type (is9 (x .packet)) _ nine (row-passed 9 (table x) passed)
@@ -155,8 +161,7 @@ module _ (x : Lent) (passed : none (table x)) where
     fits = ltb-false (stateIn x .setup .room) (total (stateIn x) g) row-9
 
     good-after : namedBy19 (joined .state) ≡ false
-    unfolding table lentRows headRows given streamRows messageRows formRows
-    good-after = streams.accepted-kept (stateIn x) (x .desk .streamMemory) (x .packet) g (was-ready .fit .good) (of-type (is9 (x .packet)) _ nine (row-passed 6 (table x) passed)) row-9
+    good-after = streams.accepted-kept (stateIn x) (x .desk .streamMemory) (x .packet) g (was-ready .fit .good) row-6 row-9
 
     stream-fit : Fit (ofStream x joined .desk)
     unfolding stream.accepted placing.placed
@@ -183,7 +188,7 @@ module _ (x : Lent) (passed : none (table x)) where
         go true e =
             let same-context : n ≡ context = cc in
             let same-size : total (stateIn x) g ≡ size = cc in
-            record { fit = stream-fit; below = omega (arith, context-below); within = omega (arith, fits) }
+            record { fit = stream-fit; below = omega (arith, context-below); some-byte = omega (arith, streams.data-there g row-6); within = omega (arith, fits) }
         go false e = absurd (held-none context flow st size e)
 
 pub delivers : (x : Lent) (context : ℕ) (flow : Flow) (st size : ℕ) → reading x .says ≡ answers.delivered context flow st size → Delivers 16 (stateIn x .setup .room) (reading x) context size
