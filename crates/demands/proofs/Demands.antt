@@ -23,7 +23,7 @@ use Rattle.sending.proofs.ReadBack.{read-back}
 use Rattle.sending.proofs.Merge.{delivered-is-whole, delivered-at-every-turn}
 use Rattle.sending.proofs.Joint.{joint-delivered}
 use Rattle.sending.proofs.Untold.{packetsFrom}
-use Rattle.demands.specs.Demands.{OursMeets, OurWriterMeets, Demand3AnyLoss}
+use Rattle.demands.specs.Demands.{OursMeets, OurWriterMeets, FreshDeliversWhole}
 use Rattle.demands.specs.OfCalls.{Corollary3}
 use Rattle.demands.proofs.Writing.{ours-writes}
 use Rattle.demands.proofs.Wider.{widest, same-packets, same-whole, wider}
@@ -68,8 +68,8 @@ our-writer-meets setup flow s d outs f ranges fair long =
 
 -- ---- Demand 3, stronger, and its corollary
 
-pub demand3-any-loss : Demand3AnyLoss
-demand3-any-loss setup d s f fair = delivered-at-every-turn setup s d (f .allowed) fair (sending-begins setup s d (fair .sent-fairly) f)
+pub fresh-delivers-whole : FreshDeliversWhole
+fresh-delivers-whole setup d s f fair = delivered-at-every-turn setup s d (f .allowed) fair (sending-begins setup s d (fair .sent-fairly) f)
 
 -- a desk of zeros is fresh
 pub zeros-fresh : (setup : Setup) → Allowed setup → Fresh setup (zeroDesk setup)

@@ -12,10 +12,10 @@ use Rattle.flows.specs.Deliveries.{deliveries}
 use Rattle.flows.specs.Fresh.{Fresh}
 use Rattle.sending.specs.Sending.{packetCount}
 use Rattle.sending.proofs.Untold.{packetsFrom}
-use Rattle.demands.specs.OfCalls.{SetUpIsFresh, Demand2OfCalls, Demand3OfCalls}
+use Rattle.demands.specs.OfCalls.{SetUpIsFresh, Demand2OfCalls, Demand3OfCalls, Demand3AnyLoss}
 use Rattle.demands.proofs.Calls.{calls-deliver}
 use Rattle.demands.proofs.Writing.{calls-write, counted}
-use Rattle.demands.proofs.Demands.{ours-meets, one-PDU}
+use Rattle.demands.proofs.Demands.{ours-meets, one-PDU, fresh-delivers-whole}
 
 -- ---- Setting up
 
@@ -43,6 +43,11 @@ pub demand3-of-calls : Demand3OfCalls
 demand3-of-calls s d sending ds up sent-fairly one-loss neighbours reads =
     calls-deliver d _ ds (up .lends .reply) reads
     ∙ ours-meets .demand3 s d sending (set-up-is-fresh s d up) (record { sent-fairly = sent-fairly; one-loss = one-loss; neighbours = neighbours })
+
+pub demand3-any-loss : Demand3AnyLoss
+demand3-any-loss s d sending n ds up sent-fairly neighbours reads =
+    calls-deliver d _ ds (up .lends .reply) reads
+    ∙ fresh-delivers-whole s d sending (set-up-is-fresh s d up) (record { sent-fairly = sent-fairly; neighbours = neighbours }) n
 
 -- ---- Demand 2
 

@@ -68,8 +68,8 @@ OursMeets = Meets read
 abbrev pub OurWriterMeets : Type 0
 OurWriterMeets = Demand2OfWriter writing
 
--- stronger: however many packets of a PDU are lost; and at every moment, after any number of turns
-abbrev pub Demand3AnyLoss : Type 0
-Demand3AnyLoss =
+-- stronger: however many packets of a PDU are lost; and at every moment, after any number of turns. Of the calls: Demand3AnyLoss (OfCalls.antt)
+abbrev pub FreshDeliversWhole : Type 0
+FreshDeliversWhole =
     (setup : Setup) (d : Desk) (s : Sending) → Fresh setup d → FairAnyLoss setup s
     → (n : ℕ) → deliveries d (packets setup (firstTurns n s)) ≡ whole setup (firstTurns n s)

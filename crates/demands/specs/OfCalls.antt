@@ -14,6 +14,7 @@ use Rattle.segments.specs.Writer.{CountPromise}
 use Rattle.flows.specs.Deliveries.{Delivery, delivery}
 use Rattle.flows.specs.Fresh.{Lends, Fresh}
 use Rattle.sending.specs.Sending.{Sent, Sending, packets, whole, FairPDU, FairlySent, OneLossEach, NoNeighboursLose, Fair}
+use Rattle.sending.specs.OfSendings.{firstTurns}
 use Rattle.demands.specs.Calls.{Reads, Writes}
 
 -- From fresh: `setup` said ready, for a device ID of 16 bits, and left the desk's words; and memories that 12 allows are lent, whatever is in them
@@ -59,6 +60,14 @@ Demand3OfCalls =
     → Reads d (packets setup s) ds
     -- Then the PDUs delivered are exactly those that lost nothing, with flow, stream and bytes, in the order of their last packets
     → ds ≡ whole setup s
+
+-- stronger: however many packets of a PDU are lost; and at every moment, after n turns
+abbrev pub Demand3AnyLoss : Type 0
+Demand3AnyLoss =
+    (setup : Setup) (d : Desk) (s : Sending) (n : ℕ) (ds : List Delivery)
+    → SetUp setup d → FairlySent setup s → NoNeighboursLose setup s
+    → Reads d (packets setup (firstTurns n s)) ds
+    → ds ≡ whole setup (firstTurns n s)
 
 -- so two sendings that leave the same packets agree on every whole PDU
 abbrev pub Corollary3 : Type 0

@@ -12,8 +12,8 @@ use Rattle.mailing.proofs.Runs.{message-read-back-of-calls}
 use Rattle.mailing.proofs.Eleven.{mail-runs-not-empty}
 use Rattle.paper_examples.proofs.Table.{examples-hold}
 use Rattle.demands.proofs.Rooms.{room-of-delivered}
-use Rattle.demands.proofs.Demands.{ours-meets, our-writer-meets, demand3-any-loss, corollary3}
-use Rattle.demands.proofs.OfCalls.{demand2-of-calls, demand3-of-calls}
+use Rattle.demands.proofs.Demands.{ours-meets, our-writer-meets, corollary3}
+use Rattle.demands.proofs.OfCalls.{demand2-of-calls, demand3-of-calls, demand3-any-loss}
 use Rattle.demands.proofs.Impostors.{impostors-break}
 use Rattle.demands.proofs.Witnesses.{calls-not-empty, allowed-not-empty, flows-not-empty, joint-not-empty}
 use Rattle.demands.proofs.Sixteen.{sixteen-at-once, sixteen-delivered}

@@ -15,8 +15,8 @@ use Rattle.mailing.specs.ReadBack.{OthersLeaveMail}
 use Rattle.mailing.specs.OfCalls.{MessageReadBackOfCalls}
 use Rattle.paper_examples.specs.Table.{ExamplesHold}
 use Rattle.demands.specs.Rooms.{RoomOfDelivered}
-use Rattle.demands.specs.Demands.{OursMeets, OurWriterMeets, Demand3AnyLoss}
-use Rattle.demands.specs.OfCalls.{Demand2OfCalls, Demand3OfCalls, Corollary3}
+use Rattle.demands.specs.Demands.{OursMeets, OurWriterMeets}
+use Rattle.demands.specs.OfCalls.{Demand2OfCalls, Demand3OfCalls, Demand3AnyLoss, Corollary3}
 use Rattle.demands.specs.Impostors.{ImpostorsBreak}
 use Rattle.promises.specs.ByTable.{ReadingByTable, HeadByTable, SetupByTable, AbandonStreamByTable, AbandonMessageByTable, WriterByTable}
 use Rattle.promises.specs.Responses.{ResponsesExactly}
@@ -64,7 +64,7 @@ pub record Promises : Type 0 where
   -- DEMAND 3, of the calls, and the corollary
   pub demand3 : Demand3OfCalls
   pub corollary3 : Corollary3
-  -- stronger: however many packets of a PDU are lost, and at every moment
+  -- stronger, of the calls too: however many packets of a PDU are lost, and at every moment
   pub any-loss : Demand3AnyLoss
   -- what its words mean: a flow's packets stand in its order; `whole` is exactly what lost nothing
   pub in-order : InOrder
