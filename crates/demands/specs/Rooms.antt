@@ -8,7 +8,9 @@ use denote.Ref.{RefT, now}
 use Rattle.lists.specs.Bytes.{AreBytes}
 use Rattle.answers.specs.Answers.{delivered, message}
 use Rattle.wire.specs.declared.Flow.{Flow}
-use Rattle.reading.specs.Desk.{stateOn, Desk}
+use Rattle.contexts.specs.State.{streamContexts, messageContexts}
+use Rattle.message_rooms.specs.Placing.{messageRoomBytes}
+use Rattle.reading.specs.Desk.{Desk, stateOn}
 use Rattle.endpoint.specs.Calls.{Part, part, streamRoom, messageRoom, IsPart}
 use Rattle.flows.specs.Deliveries.{read, after, inRoom}
 
@@ -31,7 +33,7 @@ pub record RoomHandedBack (rooms room : ℕ) (memory : List ℕ) (asked : ℕ �
 pub record RoomOfDelivered : Type 0 where
   -- a PDU, and `stream_room`
   pub of-PDU : (d : Desk) (p : List ℕ) (context : ℕ) (flow : Flow) (stream size : ℕ) → read d p .says ≡ delivered context flow stream size
-      → RoomHandedBack 16 (stateOn (after d p) .setup .room) (after d p .streamMemory) (streamRoom (after d p .words)) context size
+      → RoomHandedBack streamContexts (stateOn (after d p) .setup .room) (after d p .streamMemory) (streamRoom (after d p .words)) context size
   -- a message, and `message_room`
   pub of-message : (d : Desk) (p : List ℕ) (context source letter mailbox size : ℕ) → AreBytes p → read d p .says ≡ message context source letter mailbox size
-      → RoomHandedBack 8 4096 (after d p .messageMemory) (messageRoom (after d p .words)) context size
+      → RoomHandedBack messageContexts messageRoomBytes (after d p .messageMemory) (messageRoom (after d p .words)) context size

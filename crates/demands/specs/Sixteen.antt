@@ -4,7 +4,7 @@ use Prim.Native.Nat.{ℕ}
 use mathlib.Core.Path.{_≡_}
 use mathlib.Core.List.{List, [], _∷_, _++_, map}
 use lib.ListN.{replicate}
-use Rattle.contexts.specs.State.{Setup, fixed, freeStream}
+use Rattle.contexts.specs.State.{Setup, fixed, freeStream, streamContexts}
 use Rattle.reading.specs.Desk.{Desk, stateOn}
 use Rattle.flows.specs.OneFlow.{pdu}
 use Rattle.flows.specs.Deliveries.{delivery, after, deliveries}
@@ -72,10 +72,10 @@ deskAfter d (p ∷ ps) = deskAfter (after d p) ps
 
 pub record SixteenAtOnce : Type 0 where
   pub fair : Fair sixteenSetup sixteenOpen
-  pub start-lost : losses 32 startless ≡ 1
-  pub middle-lost : losses 32 middleless ≡ 1
+  pub start-lost : losses (sixteenSetup .mtu) startless ≡ 1
+  pub middle-lost : losses (sixteenSetup .mtu) middleless ≡ 1
   -- after the starts no stream context is free: sixteen PDUs are open
-  pub all-open : freeStream (stateOn (deskAfter (zeroDesk sixteenSetup) (packets sixteenSetup (firstTurns 18 sixteenOpen)))) ≡ 16
+  pub all-open : freeStream (stateOn (deskAfter (zeroDesk sixteenSetup) (packets sixteenSetup (firstTurns 18 sixteenOpen)))) ≡ streamContexts
   -- and these are whole, in the order of their last packets: all but the two that lost something
   pub complete : whole sixteenSetup sixteenOpen
       ≡ map (λ (n : ℕ). delivery (sourceOf n) (pdu n (replicate 40 n))) (16 ∷ 15 ∷ 14 ∷ 13 ∷ 12 ∷ 11 ∷ 10 ∷ 9 ∷ 8 ∷ 7 ∷ 6 ∷ 5 ∷ 4 ∷ 3 ∷ 1 ∷ [])

@@ -49,4 +49,4 @@ startLost = record { pdu = pdu 8 secondPDU; lost = 0 ∷ []; priorities = [] }
 -- they are such a pair, and a joint
 pub record JointNotEmpty : Type 0 where
   pub pair : Pair paperSetup (sourceOf 2) endLost startLost
-  pub joint : isJoint 32 endLost startLost ≡ true
+  pub joint : isJoint (paperSetup .mtu) endLost startLost ≡ true

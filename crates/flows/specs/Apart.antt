@@ -13,7 +13,7 @@ use Rattle.wire.specs.declared.Parsed.{Parsed}
 use Rattle.wire.specs.declared.Parsed.the-variants.{Refused, Stream, Message}
 use Rattle.wire.specs.Type9.{sameFlow, segmentOf}
 use Rattle.wire.specs.Parsed.{parsed}
-use Rattle.contexts.specs.State.{Setup}
+use Rattle.contexts.specs.State.{Setup, streamContexts}
 use Rattle.reading.specs.Desk.{Desk}
 use Rattle.stream_rooms.specs.Placing.{dataOf}
 use Rattle.flows.specs.OneFlow.{PDU, pdu, Told, held, delivered, refused, flowStep}
@@ -93,7 +93,7 @@ AmongFlows device flows = Each (λ (p : List ℕ). flowAmong flows (parsed devic
 -- a fresh desk, and any packets at all of which those of type 9 have at most sixteen flows
 pub record AtMostSixteenFlows (setup : Setup) (d : Desk) (flows : List Flow) (packets : List (List ℕ)) : Type 0 where
   pub fresh : Fresh setup d
-  pub few : length flows ≤ 16
+  pub few : length flows ≤ streamContexts
   pub bytes : Each AreBytes packets
   pub occur : AmongFlows (setup .device) flows packets
 

@@ -7,7 +7,7 @@ use lib.ListN.{take, drop}
 use lib.Dec.{ltb}
 use Rattle.answers.specs.Answers as answers
 use Rattle.wire.specs.declared.Flow.{Flow}
-use Rattle.contexts.specs.State.{State, streamIn, flowContext}
+use Rattle.contexts.specs.State.{State, streamIn, flowContext, streamContexts}
 use Rattle.reading.specs.Desk.{Desk, stateOn}
 use Rattle.reading.specs.Table.{lent}
 use Rattle.reading.specs.Read.{Settled, reading}
@@ -61,7 +61,7 @@ deliveries d ps = deliveriesBy read d ps
 -- what a flow has on the desk: closed (none), or the streamID and the bytes so far
 abbrev pub viewOf : State → List ℕ → Flow → Option PDU
 viewOf s memory flow =
-    cond (ltb (flowContext s flow) 16)
+    cond (ltb (flowContext s flow) streamContexts)
     (some (pdu (streamIn s (flowContext s flow) .stream) (inRoom (s .setup .room) memory (flowContext s flow) (streamIn s (flowContext s flow) .held))))
     none
 

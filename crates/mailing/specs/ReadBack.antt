@@ -9,7 +9,8 @@ use Rattle.lists.specs.Bytes.{AreBytes}
 use Rattle.lists.specs.Each.{Each}
 use Rattle.answers.specs.Answers.{held}
 use Rattle.wire.specs.Parsed.{parsed}
-use Rattle.contexts.specs.State.{messageIn, messageContext}
+use Rattle.contexts.specs.State.{messageIn, messageContext, messageContexts}
+use Rattle.message_rooms.specs.Placing.{messageRoomBytes}
 use Rattle.reading.specs.Good.{GoodWords}
 use Rattle.reading.specs.Desk.{Desk, stateOn}
 use Rattle.flows.specs.Deliveries.{after, inRoom}
@@ -25,7 +26,7 @@ pub record GoodDesk (d : Desk) : Type 0 where
 abbrev pub deviceOf : Desk → ℕ
 deviceOf d = stateOn d .setup .device
 
--- the open context of a message's source, letter and mbox; 8: none
+-- the open context of a message's source, letter and mbox; messageContexts: none
 abbrev pub contextOf : Posted → Desk → ℕ
 contextOf x d = messageContext (stateOn d) (x .mail .source) (x .mail .letter) (mboxOf x)
 
@@ -42,9 +43,9 @@ pub record MailRun (d : Desk) (x : Posted) (turns : List MailTurn) (calls : List
   -- and any other packets, but none of its source, letter and mbox
   pub others : Each (FairMailTurn (deviceOf d) x) turns
   -- none is open for it. (A message of one segment is never compared with open ones.)
-  pub none-open : 0 < msglenOf x → contextOf x d ≡ 8
+  pub none-open : 0 < msglenOf x → contextOf x d ≡ messageContexts
   -- a context is left for it
-  pub one-free : contextAtFirst (ofSegments turns calls) < 8
+  pub one-free : contextAtFirst (ofSegments turns calls) < messageContexts
 
 -- ---- What holds then
 
@@ -70,10 +71,10 @@ MessageReadBack = (d : Desk) (x : Posted) (turns : List MailTurn) → MailRun d 
 pub record MailStays (x : Posted) (n : ℕ) (d d′ : Desk) : Type 0 where
   pub found : contextOf x d′ ≡ n
   pub context : messageIn (stateOn d′) n ≡ messageIn (stateOn d) n
-  pub bytes : inRoom 4096 (d′ .messageMemory) n 4096 ≡ inRoom 4096 (d .messageMemory) n 4096
+  pub bytes : inRoom messageRoomBytes (d′ .messageMemory) n messageRoomBytes ≡ inRoom messageRoomBytes (d .messageMemory) n messageRoomBytes
 
 -- a packet that is not of its source, letter and mbox leaves it so
 abbrev pub OthersLeaveMail : Type 0
 OthersLeaveMail =
-    (d : Desk) (x : Posted) (p : List ℕ) (n : ℕ) → GoodDesk d → contextOf x d ≡ n → n < 8 → AreBytes p → isOfMail x (parsed (deviceOf d) p) ≡ false
+    (d : Desk) (x : Posted) (p : List ℕ) (n : ℕ) → GoodDesk d → contextOf x d ≡ n → n < messageContexts → AreBytes p → isOfMail x (parsed (deviceOf d) p) ≡ false
     → MailStays x n d (after d p)

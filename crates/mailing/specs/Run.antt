@@ -10,7 +10,8 @@ use Rattle.wire.specs.declared.Parsed.{Parsed}
 use Rattle.wire.specs.declared.Parsed.the-variants.{Refused, Stream, Message}
 use Rattle.wire.specs.Parsed.{parsed}
 use Rattle.responses.specs.Type13.{DONE, answered}
-use Rattle.contexts.specs.State.{freeMessage}
+use Rattle.contexts.specs.State.{freeMessage, messageContexts}
+use Rattle.message_rooms.specs.Placing.{messageRoomBytes}
 use Rattle.reading.specs.Desk.{Desk, stateOn}
 use Rattle.flows.specs.Deliveries.{read, after, inRoom}
 use Rattle.mailing.specs.Mail.{Mail, Posted, mboxOf, mailPacket}
@@ -73,9 +74,9 @@ ofSegments (t ∷ ts) [] = []
 ofSegments (segment k ∷ ts) (c ∷ cs) = c ∷ ofSegments ts cs
 ofSegments (other p ∷ ts) (c ∷ cs) = ofSegments ts cs
 
--- the lowest context that is free when the first of them is made; 8: none
+-- the lowest context that is free when the first of them is made; messageContexts: none
 abbrev pub contextAtFirst : List MailCall → ℕ
-contextAtFirst [] = 8
+contextAtFirst [] = messageContexts
 contextAtFirst (c ∷ cs) = freeMessage (stateOn (c .lent))
 
 abbrev pub saidAt : MailCall → Said
@@ -100,7 +101,7 @@ ofName x (y ∷ ys) = cond (isName x (y .source) (y .letter) (y .mailbox % 4)) (
 -- the message that an answer delivers, if one: its bytes are those that its room holds at that moment
 abbrev pub mailBy : List ℕ → Said → List Mail
 mailBy memory (message context source letter mailbox size) =
-    record { source = source; letter = letter; mailbox = mailbox; bytes = inRoom 4096 memory context size } ∷ []
+    record { source = source; letter = letter; mailbox = mailbox; bytes = inRoom messageRoomBytes memory context size } ∷ []
 mailBy memory held = []
 mailBy memory (delivered context flow stream size) = []
 mailBy memory (refused number) = []

@@ -8,6 +8,7 @@ use lib.Dec.{eqb}
 use Rattle.lists.specs.Bytes.{byte, word}
 use Rattle.answers.specs.Answers.{Said, held, delivered, message, refused}
 use Rattle.wire.specs.Packet.{header}
+use Rattle.message_rooms.specs.Placing.{messageRoomBytes}
 use Rattle.cutting.specs.declared.Heading.{Heading}
 use Rattle.cutting.specs.Cutting.{segmentCount, packetOf}
 use Rattle.reading.specs.Desk.{Desk, stateOn}
@@ -72,7 +73,7 @@ example number sent lines = record { number = number; sent = sent; lines = lines
 -- the bytes that an answer delivers: those that its room holds at that moment
 abbrev pub deliveredBytes : Desk → Said → List ℕ
 deliveredBytes d (delivered context flow stream size) = inRoom (stateOn d .setup .room) (d .streamMemory) context size
-deliveredBytes d (message context source letter mailbox size) = inRoom 4096 (d .messageMemory) context size
+deliveredBytes d (message context source letter mailbox size) = inRoom messageRoomBytes (d .messageMemory) context size
 deliveredBytes d held = []
 deliveredBytes d (refused number) = []
 

@@ -6,7 +6,8 @@ use mathlib.Core.Bool.{Bool, false, _||_, _&&_}
 use lib.ListN.{length}
 use lib.Dec.{eqb, ltb}
 use Rattle.lists.specs.Bytes.{byte}
-use Rattle.wire.specs.Packet.{packetType, header}
+use Rattle.wire.specs.Packet.{header}
+use Rattle.wire.specs.Head.{is9}
 use Rattle.wire.specs.Type9.{flags, isP, segmentOf}
 use Rattle.reading.specs.Desk.{Desk}
 use Rattle.reading.specs.Table.{lent}
@@ -16,9 +17,9 @@ use Rattle.reading.specs.Read.{reading}
 unfoldable pub isPad : List ℕ → ℕ → Bool
 isPad p i = isP p && (ltb (segmentOf p .from) (length p) && eqb (i + 1) (length p))
 
--- byte i of a packet of any type is not read, or not all of it: the byte with the three reserved bits, or the pad
+-- byte i of a type 9 packet is not read, or not all of it: the byte with the three reserved bits, or the pad
 unfoldable pub hasIgnored : List ℕ → ℕ → Bool
-hasIgnored p i = eqb (packetType p) 9 && (eqb i (header + 1) || isPad p i)
+hasIgnored p i = is9 p && (eqb i (header + 1) || isPad p i)
 
 -- two packets that differ only in reserved bits and the pad
 pub record DifferInIgnored (p q : List ℕ) : Type 0 where

@@ -49,7 +49,7 @@ mixture = record {
 -- it is fair; a packet of it is lost; these are left, to the byte; and these are whole, in the order of their last packets
 pub record MixtureIsFair : Type 0 where
   pub fair : Fair smallSetup mixture
-  pub loses : losses 32 lossy ≡ 1
+  pub loses : losses (smallSetup .mtu) lossy ≡ 1
   pub left : packets smallSetup mixture
       ≡ (0xD9 ∷ 0x00 ∷ 0x01 ∷ 0x00 ∷ 0x05 ∷ 0x01 ∷ 0x80 ∷ 0x00 ∷ 0x01 ∷ replicate 32 7)
       ∷ (0x59 ∷ 0x00 ∷ 0x01 ∷ 0x00 ∷ 0x06 ∷ 0x02 ∷ 0x80 ∷ 0x00 ∷ 0x03 ∷ replicate 32 3)

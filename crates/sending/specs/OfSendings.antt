@@ -8,7 +8,7 @@ use Rattle.wire.specs.declared.Flow.{Flow}
 use Rattle.answers.specs.Answers.{Said, held, delivered}
 use Rattle.cutting.specs.Cutting.{packetOf}
 use Rattle.flows.specs.OneFlow.{PDU}
-use Rattle.contexts.specs.State.{Setup}
+use Rattle.contexts.specs.State.{Setup, streamContexts}
 use Rattle.reading.specs.Desk.{Desk, stateOn}
 use Rattle.flows.specs.Deliveries.{Endpoint, read, after, deliveries, inRoom, view}
 use Rattle.flows.specs.Fresh.{Allowed, Fresh}
@@ -25,7 +25,7 @@ pub record Begins (setup : Setup) (flows : List Flow) (b : Desk) : Type 1 where
 
 -- a desk that was just set up begins, for at most sixteen flows; so for those of a sending
 abbrev pub FreshBegins : Type 1
-FreshBegins = (setup : Setup) (flows : List Flow) (b : Desk) → length flows ≤ 16 → Fresh setup b → Begins setup flows b
+FreshBegins = (setup : Setup) (flows : List Flow) (b : Desk) → length flows ≤ streamContexts → Fresh setup b → Begins setup flows b
 
 abbrev pub SendingBegins : Type 1
 SendingBegins = (setup : Setup) (s : Sending) (b : Desk) → FairlySent setup s → Fresh setup b → Begins setup (flowsOf s) b

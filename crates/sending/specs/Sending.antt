@@ -13,7 +13,7 @@ use Rattle.wire.specs.declared.Segment.{Segment}
 use Rattle.wire.specs.declared.Parsed.the-variants.{Stream}
 use Rattle.wire.specs.Type9.{sameFlow}
 use Rattle.wire.specs.Parsed.{parsed}
-use Rattle.contexts.specs.State.{Setup}
+use Rattle.contexts.specs.State.{Setup, streamContexts}
 use Rattle.cutting.specs.declared.Heading.{Heading}
 use Rattle.cutting.specs.Cutting.{segmentCount, isFinal, packetOf}
 use Rattle.flows.specs.OneFlow.{PDU}
@@ -186,7 +186,7 @@ FairTurn setup (between p) = ((g : Segment) → parsed (setup .device) p ≡ Str
 -- what is sent. That a flow sends one PDU at a time and in order, cut by the rules and addressed to the endpoint, is how `packets` is made
 pub record FairlySent (setup : Setup) (s : Sending) : Type 0 where
   -- on at most sixteen flows
-  pub sixteen : length (s .flows) ≤ 16
+  pub sixteen : length (s .flows) ≤ streamContexts
   -- whole PDUs, each no longer than a room
   pub flows : Each (FairFlow setup) (s .flows)
   -- flows mixed at will, message packets between, and any others that are no segment for us
