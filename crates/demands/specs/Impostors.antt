@@ -1,5 +1,6 @@
 -- THE IMPOSTORS of document 01 ('How far a promise reaches'): endpoints that keep many a rule and cheat. Each breaks the demand itself that the paper
--- names. Where it can, the statement is of every endpoint of that kind.
+-- names; the one that keeps the context after 11 is from 'Easy ways to be wrong', and breaks the joint's statement. Where it can, the statement is of
+-- every endpoint of that kind.
 use Prim.Native.Nat.{ℕ, suc}
 use mathlib.Core.Path.{_≡_}
 use mathlib.Core.List.{List}

@@ -25,7 +25,7 @@ WritesNotEmpty =
     (setup : Setup) (flow : Flow) (s : Sent) (count : ℕ) → Allowed setup → FairPDU (setup .room) s → CountPromise (setup .mtu) (length (s .pdu .bytes)) count
     → (ps : List (List ℕ)) × Writes setup flow s 0 count ps
 
--- the calls can be made: setup says ready at a desk of zeros; at any desk there are calls for any packets; and the writer's
+-- the calls can be made: setup says ready at a desk whose memories are zeros; at any desk there are calls for any packets; and the writer's
 pub record CallsNotEmpty : Type 0 where
   pub sets-up : (setup : Setup) → Allowed setup → SetUp setup (zeroDesk setup)
   pub reads : (d : Desk) (ps : List (List ℕ)) → (ds : List Delivery) × Reads d ps ds

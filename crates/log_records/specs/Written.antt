@@ -5,7 +5,7 @@ use mathlib.Core.List.{List, [], _∷_, _++_}
 use mathlib.Core.Bool.{true, cond}
 use lib.ListN.{length}
 use lib.Dec.{ltb}
-use Rattle.lists.specs.Bytes.{byte}
+use Rattle.lists.specs.Bytes.{AreBytes}
 use Rattle.lists.specs.Each.{Each}
 use Rattle.log_records.specs.Records.{records, recordsOf}
 
@@ -31,5 +31,5 @@ LogReadsBack = (packets : List (List ℕ)) → AllShort packets → recordsOf (w
 -- and there is no other: a log, bytes all, that reads cleanly is the written log of its records, which are short
 abbrev pub LogIsWritten : Type 0
 LogIsWritten =
-    (log : List ℕ) → ((i : ℕ) → byte log i < 256) → recordsOf log .clean ≡ true
+    (log : List ℕ) → AreBytes log → recordsOf log .clean ≡ true
     → (writtenLog (recordsOf log .packets) ≡ log) × AllShort (recordsOf log .packets)

@@ -1,5 +1,7 @@
--- THE PAGE OF PROMISES. What the association asked to have shown, in one record: a line for each promise, with the file that says it. That they hold is
--- one theorem, whose fields are citations (proofs/Promises.antt). The promises of the C library are a page of their own: c_promises/specs/OfCalls.antt.
+-- THE PAGE OF PROMISES. What the association asked to have shown, in one record: a line for each promise; the `use` lines say in which file it stands.
+-- That they hold is one theorem, whose fields are citations (proofs/Promises.antt). The promises of the C library are a page of their own:
+-- c_promises/specs/OfCalls.antt. Those of the log program stand in log_run/specs/{Printing,Running,Once}.antt, log_reader/specs/Once.antt and
+-- log_records/specs/Written.antt.
 --
 -- How to read what these files say. `A → B`: if A, then B; `(x : A) → B`: B for every x. `a ≡ b`: a and b are the same, in every part.
 -- `A × B`: both; `(x : A) × B`: there is an x of which B holds. `A ↔ B`: exactly if. `A → ⊥`: not A.
@@ -28,7 +30,8 @@ use Rattle.promises.specs.Witnesses.{PremisesCanBeMet}
 pub record Promises : Type 0 where
   -- ==== 1. 'Any bytes and any buffers may be handed to any public call. It ends, touches nothing outside its buffers, and answers or refuses by
   -- document 01's table, which fixes what is left in state and memory.' That it ends and touches nothing else is part of every proof; no public
-  -- call has a `requires`, and its `ensures` is one equation for the answer, the state and every lent byte (endpoint/src, segments/src).
+  -- call has a `requires`, and its `ensures` is one equation (of a room: its place and its bytes) for the answer, the state and every lent byte (endpoint/src,
+  -- segments/src).
 
   -- each call is refused exactly by the rows of its table; what each row leaves, and what is left where none holds
   pub reading : ReadingByTable
@@ -57,9 +60,11 @@ pub record Promises : Type 0 where
   pub demand2 : Demand2OfCalls
   -- and a message of any size, its segments in any order with others between: held, DONE, and at the last delivered, once, with its bytes
   pub messages : MessageReadBackOfCalls
+  -- why: any other packet leaves an open message its context, with all fields, and all bytes of its room
   pub mail-stays : OthersLeaveMail
   -- ==== 3. 'From fresh: whole PDUs .. Then the PDUs delivered are exactly those that lost nothing, with flow, stream and bytes, in the order of their
-  -- last packets; so two sendings that leave the same packets agree on every whole PDU.' (The sentence stands there clause by clause.)
+  -- last packets; so two sendings that leave the same packets agree on every whole PDU.' (In demands/specs/OfCalls.antt the sentence stands clause
+  -- by clause.)
 
   -- DEMAND 3, of the calls, and the corollary
   pub demand3 : Demand3OfCalls

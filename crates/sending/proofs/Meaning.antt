@@ -15,7 +15,7 @@ use Rattle.contexts.specs.State.{Setup}
 use Rattle.flows.specs.OneFlow.{PDU}
 use Rattle.lists.specs.Each.{Each}
 use Rattle.sending.specs.Sending.{Sent, packetCount, isWhole, Put, putOf, putsFrom, flowPuts, FlowSent, Turn, next, between, sentOn}
-use Rattle.sending.specs.Sending.{Event, put, sent, headOf, advance, events, queues, tell, wholes, FairPDU, FairFlow}
+use Rattle.sending.specs.Sending.{Event, put, came, nextEvent, advance, events, queues, tell, wholes, FairPDU, FairFlow}
 use Rattle.sending.specs.OneFlow.{also}
 use Rattle.sending.specs.Meaning.{putBy, toCome, InOrder, intact, fromFlow, WholeIsIntact}
 use Rattle.sending.proofs.Steps.{count-pos}
@@ -37,7 +37,7 @@ in-order-from flow (next other ∷ ts) q = go (q other) refl (sameFlow flow othe
     own l e t = ap q (same-true flow other t) ∙ e
 
     go : (l : List Put) → q other ≡ l → (t : Bool) → sameFlow flow other ≡ t → others ++ rest ≡ cond (sameFlow flow other) (tail (q flow)) (q flow)
-        → putBy flow (headOf other l ++ events (advance q other) ts) ++ rest ≡ q flow
+        → putBy flow (nextEvent other l ++ events (advance q other) ts) ++ rest ≡ q flow
     go [] e true t ih = ih ∙ ap (λ (b : Bool). cond b (tail (q flow)) (q flow)) t ∙ ap tail (own [] e t) ∙ sym (own [] e t)
     go [] e false t ih = ih ∙ ap (λ (b : Bool). cond b (tail (q flow)) (q flow)) t
     go (x ∷ xs) e true t ih =
@@ -54,7 +54,7 @@ in-order setup s flow = in-order-from flow (s .turns) (queues setup s)
 
 completes : (flow : Flow) (es : List Event) → fromFlow flow (wholes es) ≡ completed (putBy flow es)
 completes flow [] = refl
-completes flow (sent p ∷ es) = completes flow es
+completes flow (came p ∷ es) = completes flow es
 completes flow (put other x ∷ es) = go (x .whole) refl (sameFlow flow other) refl (completes flow es)
   where
     go : (w : Option PDU) → x .whole ≡ w → (t : Bool) → sameFlow flow other ≡ t → fromFlow flow (wholes es) ≡ completed (putBy flow es)

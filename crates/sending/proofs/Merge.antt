@@ -19,7 +19,7 @@ use Rattle.flows.specs.Fresh.{Allowed}
 use Rattle.flows.specs.ByFlow.{among, NoFlow, ByFlow}
 use Rattle.lists.specs.Each.{Each}
 use Rattle.lists.specs.First.{any}
-use Rattle.sending.specs.Sending.{Put, flowPuts, FlowSent, Turn, next, between, sentOn, flowsOf, Event, sent, headOf}
+use Rattle.sending.specs.Sending.{Put, flowPuts, FlowSent, Turn, next, between, sentOn, flowsOf, Event, came, nextEvent}
 use Rattle.sending.specs.Sending.{advance, events, queues, packetsLeft, tell, wholes, whole, FairFlow, FairTurn, OneOfTwoWhole}
 use Rattle.sending.specs.OneFlow.{packetStep, deliveredPDU}
 use Rattle.flows.proofs.Flows.{same-true}
@@ -70,7 +70,7 @@ module _ (setup : Setup) (flows : List Flow) (Ok : Desk → Type 0) (law : ByFlo
   -- one turn of a flow, and then the rest by `rest`
   turn : (flow : Flow) (q : Flow → List Put) (b : Desk) (es : List Event) → Ok b → AllGood b q → Listed q
       → ((c : Desk) → Ok c → AllGood c (advance q flow) → deliveries c (packetsLeft es) ≡ wholes es)
-      → deliveries b (packetsLeft (headOf flow (q flow) ++ es)) ≡ wholes (headOf flow (q flow) ++ es)
+      → deliveries b (packetsLeft (nextEvent flow (q flow) ++ es)) ≡ wholes (nextEvent flow (q flow) ++ es)
   unfolding AllGood Listed
   turn flow q b es ok good listed rest = go (q flow) refl
     where
@@ -99,7 +99,7 @@ module _ (setup : Setup) (flows : List Flow) (Ok : Desk → Type 0) (law : ByFlo
           ∙ ap (λ (y : Option PDU). tell flow y (wholes es)) w
       at x xs e false lost true known = arrives x xs e lost known
 
-      go : (l : List Put) → q flow ≡ l → deliveries b (packetsLeft (headOf flow l ++ es)) ≡ wholes (headOf flow l ++ es)
+      go : (l : List Put) → q flow ≡ l → deliveries b (packetsLeft (nextEvent flow l ++ es)) ≡ wholes (nextEvent flow l ++ es)
       go [] e = rest b ok (passed b q flow e good)
       go (x ∷ xs) e = at x xs e (x .lost) refl (among flow flows) refl
 

@@ -21,7 +21,7 @@ use Rattle.flows.specs.Deliveries.{Delivery, delivery}
 use Rattle.flows.proofs.Flows.{same-refl}
 use Rattle.lists.specs.Each.{Each}
 use Rattle.sending.specs.Sending.{Sent, isLost, priorityOf, packetCount, lossesFrom, losses, isWhole, Put, headingFor, putOf, putsFrom, flowPuts, next}
-use Rattle.sending.specs.Sending.{headOf, advance, events, queues, packetsLeft, tell, wholes, packets, whole, FairPDU, FairTurn, FairlySent}
+use Rattle.sending.specs.Sending.{nextEvent, advance, events, queues, packetsLeft, tell, wholes, packets, whole, FairPDU, FairTurn, FairlySent}
 use Rattle.sending.specs.Meaning.{intact}
 use Rattle.sending.specs.OneFlow.{also, arriving}
 use Rattle.sending.specs.Joint.{isJoint, jointPDU, pairPackets, Pair, jointSent, inTurn, JointUntold}
@@ -221,7 +221,7 @@ module _ (flow : Flow) where
   turns-leave : (xs : List Put) (queue : Flow → List Put) → queue flow ≡ xs → packetsLeft (events queue (replicate (length xs) (next flow))) ≡ arriving xs
   turns-leave [] queue e = refl
   turns-leave (x ∷ xs) queue e =
-      ap (λ (l : List Put). packetsLeft (headOf flow l ++ events (advance queue flow) (replicate (length xs) (next flow)))) e
+      ap (λ (l : List Put). packetsLeft (nextEvent flow l ++ events (advance queue flow) (replicate (length xs) (next flow)))) e
       ∙ ap (λ (l : List (List ℕ)). cond (x .lost) l (x .packet ∷ l)) (turns-leave xs (advance queue flow) (moved queue x xs e))
 
   -- the PDUs of the flow, as deliveries
@@ -235,7 +235,7 @@ module _ (flow : Flow) where
   turns-whole : (xs : List Put) (queue : Flow → List Put) → queue flow ≡ xs → wholes (events queue (replicate (length xs) (next flow))) ≡ ofFlow (completed xs)
   turns-whole [] queue e = refl
   turns-whole (x ∷ xs) queue e =
-      ap (λ (l : List Put). wholes (headOf flow l ++ events (advance queue flow) (replicate (length xs) (next flow)))) e
+      ap (λ (l : List Put). wholes (nextEvent flow l ++ events (advance queue flow) (replicate (length xs) (next flow)))) e
       ∙ (ap (tell flow (x .whole)) (turns-whole xs (advance queue flow) (moved queue x xs e)) ∙ told (x .whole) (completed xs))
 
   module _ (setup : Setup) (sent : List Sent) where

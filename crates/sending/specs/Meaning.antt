@@ -10,13 +10,13 @@ use Rattle.sizes.specs.Sizes.{badMTU}
 use Rattle.contexts.specs.State.{Setup}
 use Rattle.flows.specs.OneFlow.{PDU}
 use Rattle.flows.specs.Deliveries.{Delivery}
-use Rattle.sending.specs.Sending.{Sent, isWhole, Put, Turn, next, between, Sending, sentOn, Event, put, sent, advance, events, queues, whole, FairlySent}
+use Rattle.sending.specs.Sending.{Sent, isWhole, Put, Turn, next, between, Sending, sentOn, Event, put, came, advance, events, queues, whole, FairlySent}
 
 -- what a flow has put on, in order; and what it still has to put on after those turns
 abbrev pub putBy : Flow → List Event → List Put
 putBy flow [] = []
 putBy flow (put turn x ∷ es) = cond (sameFlow flow turn) (x ∷ putBy flow es) (putBy flow es)
-putBy flow (sent p ∷ es) = putBy flow es
+putBy flow (came p ∷ es) = putBy flow es
 
 abbrev pub toCome : (Flow → List Put) → List Turn → Flow → List Put
 toCome queue [] flow = queue flow

@@ -113,13 +113,14 @@ flowsOf s = map (λ (x : FlowSent). x .flow) (s .flows)
 
 -- ---- What happens on the backplane: an event for each turn, none where a flow has no packet left
 
+-- a flow puts a packet on; or another packet comes
 pub data Event : Type 0 where
   put : Flow → Put → Event
-  sent : List ℕ → Event
+  came : List ℕ → Event
 
-abbrev pub headOf : Flow → List Put → List Event
-headOf flow [] = []
-headOf flow (x ∷ xs) = put flow x ∷ []
+abbrev pub nextEvent : Flow → List Put → List Event
+nextEvent flow [] = []
+nextEvent flow (x ∷ xs) = put flow x ∷ []
 
 -- the queues after a flow's turn
 abbrev pub advance : (Flow → List Put) → Flow → Flow → List Put
@@ -127,8 +128,8 @@ advance queue flow other = cond (sameFlow other flow) (tail (queue other)) (queu
 
 abbrev pub events : (Flow → List Put) → List Turn → List Event
 events queue [] = []
-events queue (next flow ∷ ts) = headOf flow (queue flow) ++ events (advance queue flow) ts
-events queue (between p ∷ ts) = sent p ∷ events queue ts
+events queue (next flow ∷ ts) = nextEvent flow (queue flow) ++ events (advance queue flow) ts
+events queue (between p ∷ ts) = came p ∷ events queue ts
 
 abbrev pub queues : Setup → Sending → Flow → List Put
 queues setup s flow = flowPuts setup flow (sentOn (s .flows) flow)
@@ -138,7 +139,7 @@ queues setup s flow = flowPuts setup flow (sentOn (s .flows) flow)
 abbrev pub packetsLeft : List Event → List (List ℕ)
 packetsLeft [] = []
 packetsLeft (put flow x ∷ es) = cond (x .lost) (packetsLeft es) (x .packet ∷ packetsLeft es)
-packetsLeft (sent p ∷ es) = p ∷ packetsLeft es
+packetsLeft (came p ∷ es) = p ∷ packetsLeft es
 
 abbrev pub tell : Flow → Option PDU → List Delivery → List Delivery
 tell flow none ds = ds
@@ -147,7 +148,7 @@ tell flow (some p) ds = delivery flow p ∷ ds
 abbrev pub wholes : List Event → List Delivery
 wholes [] = []
 wholes (put flow x ∷ es) = tell flow (x .whole) (wholes es)
-wholes (sent p ∷ es) = wholes es
+wholes (came p ∷ es) = wholes es
 
 -- what a sending leaves on the backplane
 abbrev pub packets : Setup → Sending → List (List ℕ)
