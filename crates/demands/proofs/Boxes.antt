@@ -34,7 +34,7 @@ use Rattle.messages.specs.Joining as message
 use Rattle.messages.proofs.Laws.{last-le}
 use Rattle.streams.specs.Rows.{streamRows}
 use Rattle.reading.specs.Table.{Lent, stateIn, segmentIn, messageSegmentIn, lentRows, table}
-use Rattle.reading.specs.Read.{Settled, ofStream, ofMessage, refusing, accepting, outcome, reading}
+use Rattle.reading.specs.Read.{ofStream, ofMessage, refusing, accepting, outcome, reading}
 use Rattle.reading.specs.Good.{StillGood}
 use Rattle.lists.proofs.Tests.{by-test, both}
 use Rattle.reading.proofs.Kept.{stays-good, other-type}

@@ -11,7 +11,6 @@ use Rattle.lists.specs.Each.{Each}
 use Rattle.lists.proofs.Below.{below, below-at}
 use Rattle.answers.specs.Answers.{Said, held, delivered, message, refused, WriterSaid, wrote, writeRefused}
 use Rattle.wire.specs.declared.Flow.{Flow}
-use Rattle.wire.specs.declared.Parsed.{Parsed}
 use Rattle.tables.specs.Refusals.{all, refuse, verdict}
 use Rattle.wire.specs.Head.{headRows}
 use Rattle.wire.specs.Parsed.{parsedBy, parsed}

@@ -6,7 +6,7 @@ use mathlib.Core.Bool.{Bool, true, false}
 use native.Mathlib.Omega.{arith}
 use lib.ListN.{length-set}
 use Rattle.tables.specs.Refusals.{Verdict, VerdictOf, refuse, accept, verdict, none}
-use Rattle.answers.specs.Answers.{SetupSaid, ready, setupRefused, AbandonSaid}
+use Rattle.answers.specs.Answers.{SetupSaid, ready, setupRefused}
 use Rattle.tables.proofs.Exactly.{none-held}
 use Rattle.contexts.specs.State.{State, fresh, fixed, withStream, withMessage, closedStream, closedMessage, streamContexts, messageContexts}
 use Rattle.contexts.specs.Words.{stateOf, wordsOf}

@@ -11,7 +11,7 @@ use Rattle.tables.specs.Refusals.{Leaves, all, flowClosed, allERROR, allRETRY, 
 use Rattle.tables.proofs.Exactly.{decided, none-held}
 use Rattle.wire.specs.Type11.{isSingle}
 use Rattle.wire.specs.Head.{is9, is11, headRows}
-use Rattle.responses.specs.Type13.{responseSize, DONE, RETRY, ERROR, answered}
+use Rattle.responses.specs.Type13.{DONE, RETRY, ERROR, answered}
 use Rattle.stream_rooms.specs.Placing as streamRoom
 use Rattle.streams.specs.Joining as stream
 use Rattle.message_rooms.specs.Placing as messageRoom

@@ -1,11 +1,11 @@
 -- Any mixture: an endpoint that treats each flow by itself, as the one-flow endpoint does, delivers exactly the whole PDUs.
 -- The invariant: what each flow still has to send is good from what the board has of that flow, and a flow that is not listed has nothing.
-use Prim.Native.Nat.{ℕ, zero, suc, _≤_, _<_}
+use Prim.Native.Nat.{ℕ, zero, suc, _<_}
 use mathlib.Core.Path.{_≡_, refl, sym, ap, _∙_, subst}
 use mathlib.Core.List.{List, [], _∷_, _++_, map, tail}
 use mathlib.Core.Bool.{Bool, true, false, cond, _||_, false≢true}
 use mathlib.Core.Option.{Option, none}
-use lib.ListN.{length, take}
+use lib.ListN.{take}
 use Rattle.wire.specs.declared.Flow.{Flow}
 use Rattle.wire.specs.declared.Parsed.{Parsed}
 use Rattle.wire.specs.declared.Parsed.the-variants.{Refused, Stream, Message}
