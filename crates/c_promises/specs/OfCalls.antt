@@ -103,7 +103,7 @@ pub record PlacesInside : Type 0 where
 
 -- there are so many rooms of so many bytes in that memory
 pub record PlaceOfDelivered (rooms room context size : ℕ) (place : Place) : Type 0 where
-  -- the context is one of them, and the length is no 0, and stays within its room
+  -- the context is one of them, the length is not 0, and stays within its room
   pub below : context < rooms
   pub some-byte : 1 ≤ size
   pub within : size ≤ room

@@ -17,7 +17,7 @@ use Rattle.flows.specs.Deliveries.{read, after, inRoom}
 -- What a room call does with an answer's context and length: there are so many rooms of so many bytes in that memory, and `asked` says which
 -- part of a memory of some length the call hands back
 pub record RoomHandedBack (rooms room : ℕ) (memory : List ℕ) (asked : ℕ → ℕ → ℕ → Part) (context size : ℕ) : Type 0 where
-  -- the context is one of them, and the length is no 0, and stays within its room
+  -- the context is one of them, the length is not 0, and stays within its room
   pub below : context < rooms
   pub some-byte : 1 ≤ size
   pub within : size ≤ room
