@@ -9,7 +9,7 @@ use Rattle.message_rooms.specs.Placing.{messageRoomBytes}
 use Rattle.reading.specs.Desk.{stateOn}
 use Rattle.reading.specs.Table.{Lent}
 use Rattle.reading.specs.Read.{reading}
-use Rattle.endpoint.specs.Calls.{part}
+use Rattle.room_parts.specs.Parts.{part}
 use Rattle.demands.proofs.Rooms.{room-of-delivered}
 use Rattle.c_reports.specs.declared.Report.{Report}
 use Rattle.c_reports.specs.Reports.{reportOf}

@@ -17,7 +17,8 @@ use Rattle.message_rooms.specs.Placing.{messageRoomBytes}
 use Rattle.reading.specs.Desk.{Desk, stateOn, withResponse}
 use Rattle.reading.specs.Table.{Lent, lent}
 use Rattle.reading.specs.Read.{reading}
-use Rattle.endpoint.specs.Calls.{part, SetupPromise}
+use Rattle.endpoint.specs.Calls.{SetupPromise}
+use Rattle.room_parts.specs.Parts.{part}
 use Rattle.cutting.specs.declared.Heading.{Heading}
 use Rattle.flows.specs.OneFlow.{pdu}
 use Rattle.flows.specs.Deliveries.{Delivery, delivery}

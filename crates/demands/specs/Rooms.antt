@@ -9,7 +9,7 @@ use Rattle.lists.specs.Bytes.{AreBytes}
 use Rattle.answers.specs.Answers.{delivered, message}
 use Rattle.wire.specs.declared.Flow.{Flow}
 use Rattle.reading.specs.Desk.{stateOn, Desk}
-use Rattle.endpoint.specs.Calls.{Part, part, streamRoom, messageRoom, IsPart}
+use Rattle.room_parts.specs.Parts.{Part, part, streamRoom, messageRoom, IsPart}
 use Rattle.flows.specs.Deliveries.{read, after, inRoom}
 
 -- What a room call does with an answer's context and length: there are so many rooms of so many bytes in that memory, and `asked` says which
