@@ -5,9 +5,9 @@ use mathlib.Core.List.{List}
 use borrow.Author.Tests.{ne-eqb}
 use Rattle.contexts.specs.State.{streamContexts, messageContexts}
 use Rattle.contexts.specs.Words.{stateOf}
-use Rattle.refusal19.specs.Lent.{stateRefusal}
+use Rattle.lent_state.specs.Lent.{stateRefusal}
 use Rattle.message_rooms.specs.Placing.{messageRoomBytes}
-use Rattle.endpoint.specs.Calls.{emptyPart, roomPart, streamRoom, messageRoom}
+use Rattle.room_parts.specs.Parts.{emptyPart, roomPart, streamRoom, messageRoom}
 
 module _ (words : List ℕ) (size n l number : ℕ) (e : number ≡ stateRefusal words) where
   -- no state, or one that 19 names

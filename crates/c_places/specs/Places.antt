@@ -2,7 +2,7 @@
 use Prim.Native.Nat.{ℕ}
 use mathlib.Core.Path.{_≡_}
 use mathlib.Core.List.{List}
-use Rattle.endpoint.specs.Calls.{Part, streamRoom, messageRoom}
+use Rattle.room_parts.specs.Parts.{Part, streamRoom, messageRoom}
 use Rattle.c_places.specs.declared.Place.{Place}
 
 abbrev pub placeOf : Part → Place

@@ -2,7 +2,7 @@
 ghost use mathlib.Core.Path.{_≡_};
 ghost use Prim.Native.Nat.{_≤_};
 ghost use Rattle.contexts.specs.State.{streamContexts};
-ghost use Rattle.endpoint.specs.Calls.{emptyPart, roomPart};
+ghost use Rattle.room_parts.specs.Parts.{emptyPart, roomPart};
 ghost use Rattle.c_places.specs.Places.{placeOf, StreamPlacePromise, MessagePlacePromise};
 
 // Where a part of a memory begins, and its bytes.
@@ -27,7 +27,7 @@ fn room_at(rooms: usize, room: usize, size: usize, n: usize, l: usize) -> Place
     requires { ⌜ (rooms ≤ streamContexts) × (room ≤ 65536) ⌝ }
     ensures { λ r. ⌜ r ≡ placeOf (roomPart rooms room size n l) ⌝ }
 {
-    if refusal19::has_room(rooms, room, size, n, l) {
+    if lent_state::has_room(rooms, room, size, n, l) {
         return Place {
             offset: n * room,
             length: l,
@@ -40,7 +40,7 @@ fn room_at(rooms: usize, room: usize, size: usize, n: usize, l: usize) -> Place
 pub fn stream_place(state: &[usize], size: usize, n: usize, l: usize) -> Place
     ensures { λ r. ⌜ StreamPlacePromise (now (state .entry)) size n l r ⌝ }
 {
-    if refusal19::state_refusal(state) != 0 {
+    if lent_state::state_refusal(state) != 0 {
         return nowhere();
     }
     room_at(contexts::STREAM_CONTEXTS, contexts::room(state), size, n, l)
@@ -50,7 +50,7 @@ pub fn stream_place(state: &[usize], size: usize, n: usize, l: usize) -> Place
 pub fn message_place(state: &[usize], size: usize, n: usize, l: usize) -> Place
     ensures { λ r. ⌜ MessagePlacePromise (now (state .entry)) size n l r ⌝ }
 {
-    if refusal19::state_refusal(state) != 0 {
+    if lent_state::state_refusal(state) != 0 {
         return nowhere();
     }
     room_at(contexts::MESSAGE_CONTEXTS, message_rooms::ROOM, size, n, l)

@@ -13,7 +13,9 @@ use Rattle.reading.specs.Desk.{Desk, withResponse}
 use Rattle.reading.specs.Table.{Lent, lent}
 use Rattle.reading.specs.Read.{reading, ReadPromise}
 use Rattle.reading.proofs.Spoken.{answered-by, says-it, promised}
-use Rattle.endpoint.specs.Calls.{stands, setup, streamRoom}
+use Rattle.endpoint.specs.Calls.{setup}
+use Rattle.answers.specs.Stands.{stands}
+use Rattle.room_parts.specs.Parts.{streamRoom}
 use Rattle.segments.specs.Writer.{wroteOf, writing}
 use Rattle.flows.specs.OneFlow.{pdu}
 use Rattle.flows.specs.Deliveries.{Delivery, delivery}

@@ -14,7 +14,7 @@ use Rattle.reading.specs.Desk.{Desk, withResponse}
 use Rattle.reading.specs.Table.{Lent, lent}
 use Rattle.reading.specs.Read.{reading}
 use Rattle.answers.specs.Answers.{SetupSaid}
-use Rattle.endpoint.specs.Calls.{Stands}
+use Rattle.answers.specs.Stands.{Stands}
 use Rattle.segments.specs.Writer.{Wrote}
 use Rattle.flows.specs.Deliveries.{Delivery}
 use Rattle.flows.specs.Fresh.{Allowed, zeroDesk}

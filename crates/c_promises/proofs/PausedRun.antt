@@ -8,8 +8,8 @@ use Rattle.reading.specs.Desk.{Desk, withResponse}
 use Rattle.paper_examples.proofs.Computing.{computing}
 use Rattle.log_records.specs.Records.{recordFrom, longRecord, nextRecord}
 use Rattle.log_records.specs.Written.{lengthBytes, writtenLog}
-use Rattle.refusal19.specs.Lent.{stateRefusal, hasRoom}
-use Rattle.endpoint.specs.Calls.{roomPart, streamRoom}
+use Rattle.lent_state.specs.Lent.{stateRefusal, hasRoom}
+use Rattle.room_parts.specs.Parts.{roomPart, streamRoom}
 use Rattle.c_reports.specs.Reports.{reportOf}
 use Rattle.flows.specs.OneFlow.{pdu}
 use Rattle.flows.specs.Deliveries.{Delivery, delivery}

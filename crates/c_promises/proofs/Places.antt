@@ -9,13 +9,13 @@ use Rattle.lists.specs.Bytes.{AreBytes}
 use Rattle.answers.specs.Answers.{Said, held, delivered, message, refused}
 use Rattle.contexts.specs.State.{streamContexts, messageContexts}
 use Rattle.contexts.specs.Words.{stateOf}
-use Rattle.refusal19.specs.Lent.{stateRefusal, hasRoom}
-use Rattle.refusal19.proofs.Lent.{room-inside}
+use Rattle.lent_state.specs.Lent.{stateRefusal, hasRoom}
+use Rattle.lent_state.proofs.Lent.{room-inside}
 use Rattle.message_rooms.specs.Placing.{messageRoomBytes}
 use Rattle.reading.specs.Desk.{stateOn}
 use Rattle.reading.specs.Table.{Lent}
 use Rattle.reading.specs.Read.{reading}
-use Rattle.endpoint.specs.Calls.{Part, part, emptyPart, roomPart, streamRoom, messageRoom}
+use Rattle.room_parts.specs.Parts.{Part, part, emptyPart, roomPart, streamRoom, messageRoom}
 use Rattle.demands.proofs.Rooms.{room-of-delivered}
 use Rattle.c_reports.specs.declared.Report.{Report}
 use Rattle.c_reports.specs.Reports.{reportOf}

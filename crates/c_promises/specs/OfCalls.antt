@@ -16,7 +16,7 @@ use Rattle.message_rooms.specs.Placing.{messageRoomBytes}
 use Rattle.reading.specs.Desk.{Desk, stateOn, withResponse}
 use Rattle.reading.specs.Table.{Lent, lent}
 use Rattle.reading.specs.Read.{reading}
-use Rattle.endpoint.specs.Calls.{part}
+use Rattle.room_parts.specs.Parts.{part}
 use Rattle.cutting.specs.declared.Heading.{Heading}
 use Rattle.segments.specs.Writer.{CountPromise}
 use Rattle.flows.specs.OneFlow.{pdu}

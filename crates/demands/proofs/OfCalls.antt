@@ -7,7 +7,8 @@ use Rattle.tables.specs.Refusals.{VerdictOf, refuse, accept, none, verdict}
 use Rattle.tables.proofs.Exactly.{none-held}
 use Rattle.contexts.specs.State.{fresh}
 use Rattle.contexts.specs.Words.{wordsOf}
-use Rattle.endpoint.specs.Calls.{Stands, stands, SetupLeaves, setupTable, setupBy, setup}
+use Rattle.endpoint.specs.Calls.{SetupLeaves, setupTable, setupBy, setup}
+use Rattle.answers.specs.Stands.{Stands, stands}
 use Rattle.flows.specs.Deliveries.{deliveries}
 use Rattle.flows.specs.Fresh.{Fresh}
 use Rattle.sending.specs.Sending.{packetCount}

@@ -9,8 +9,8 @@ use Rattle.reading.specs.Desk.{Desk, stateOn}
 use Rattle.reading.specs.Table.{lent}
 use Rattle.reading.specs.Inside.{Fit}
 use Rattle.reading.proofs.Kept.{room-kept}
-use Rattle.endpoint.specs.Calls.{Part, part, streamRoom, messageRoom}
-use Rattle.endpoint.proofs.Calls.{stream-room-itself, message-room-itself}
+use Rattle.room_parts.specs.Parts.{Part, part, streamRoom, messageRoom}
+use Rattle.room_parts.proofs.Laws.{stream-room-itself, message-room-itself}
 use Rattle.flows.specs.Deliveries.{after}
 use Rattle.sending.proofs.Measured.{delivers}
 use Rattle.demands.specs.Rooms.{RoomHandedBack, RoomOfDelivered}

@@ -20,7 +20,8 @@ use Rattle.reading.specs.Table.{Lent, lent}
 use Rattle.reading.specs.Read.{reading}
 use Rattle.reading.proofs.Spoken.{answered-by, promised}
 use Rattle.cutting.specs.Cutting.{segmentCount}
-use Rattle.endpoint.specs.Calls.{Part, setupTable, setup, streamRoom}
+use Rattle.endpoint.specs.Calls.{setupTable, setup}
+use Rattle.room_parts.specs.Parts.{Part, streamRoom}
 use Rattle.flows.specs.Deliveries.{Delivery}
 use Rattle.flows.specs.Fresh.{Allowed, zeroDesk}
 use Rattle.sending.specs.Sending.{Sent, packetCount, putOf, packets, FairPDU}

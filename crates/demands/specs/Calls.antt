@@ -13,7 +13,7 @@ use Rattle.contexts.specs.State.{Setup}
 use Rattle.reading.specs.Desk.{Desk, withResponse}
 use Rattle.reading.specs.Table.{lent}
 use Rattle.reading.specs.Read.{ReadPromise}
-use Rattle.endpoint.specs.Calls.{StreamRoomPromise}
+use Rattle.room_parts.specs.Parts.{StreamRoomPromise}
 use Rattle.segments.specs.Writer.{WritePromise}
 use Rattle.flows.specs.OneFlow.{pdu}
 use Rattle.flows.specs.Deliveries.{Delivery, delivery, read, after, deliveredOn, deliveries}

@@ -11,7 +11,7 @@ use Rattle.wire.specs.declared.Flow.{Flow}
 use Rattle.contexts.specs.State.{streamContexts, messageContexts}
 use Rattle.message_rooms.specs.Placing.{messageRoomBytes}
 use Rattle.reading.specs.Desk.{Desk, stateOn}
-use Rattle.endpoint.specs.Calls.{Part, part, streamRoom, messageRoom, IsPart}
+use Rattle.room_parts.specs.Parts.{Part, part, streamRoom, messageRoom, IsPart}
 use Rattle.flows.specs.Deliveries.{read, after, inRoom}
 
 -- What a room call does with an answer's context and length: there are so many rooms of so many bytes in that memory, and `asked` says which

@@ -6,7 +6,8 @@ use mathlib.Core.List.{List}
 use Rattle.reading.specs.Desk.{Desk}
 use Rattle.reading.specs.Table.{Lent}
 use Rattle.reading.specs.Read.{reading}
-use Rattle.endpoint.specs.Calls.{setup, abandonStream, abandonMessage}
+use Rattle.endpoint.specs.Calls.{setup}
+use Rattle.abandoning.specs.Abandoning.{abandonStream, abandonMessage}
 use Rattle.cutting.specs.declared.Heading.{Heading}
 use Rattle.segments.specs.Writer.{writing}
 use Rattle.c_reports.specs.declared.Numbers.{Numbers}

@@ -64,7 +64,7 @@ pub extern "C" fn kaiverohm_read_burst(
     ensures { λ r. ⌜ BurstPromise pause (desk (now (state .entry)) (now («stream_memory» .entry)) (now («message_memory» .entry)) (now (responses .entry))) (now (reports .entry))
         (now (burst .entry)) r (desk (now (state .exit)) (now («stream_memory» .exit)) (now («message_memory» .exit)) (now (responses .exit))) (now (reports .exit)) ⌝ }
 {
-    c_bursts::read_burst(
+    c_runs::read_burst(
         state,
         stream_memory,
         message_memory,

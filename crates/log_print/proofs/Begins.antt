@@ -12,11 +12,12 @@ use Rattle.sizes.specs.Sizes.{badMTU}
 use Rattle.contexts.specs.State.{fresh, fixed}
 use Rattle.contexts.specs.Words.{wordsOf}
 use Rattle.refusal19.specs.Refusal19.{badRoom}
-use Rattle.endpoint.specs.Calls.{Stands, setup, setupTable, SetupPromise}
+use Rattle.endpoint.specs.Calls.{setup, setupTable, SetupPromise}
+use Rattle.answers.specs.Stands.{Stands}
 use Rattle.log_lines.specs.Lines.{badLog}
-use Rattle.log_run.specs.Output.{output}
+use Rattle.log_pieces.specs.Output.{output}
 use Rattle.reading.specs.Desk.{desk}
-use Rattle.log_run.proofs.Pieces.{short-log}
+use Rattle.log_pieces.proofs.Pieces.{short-log}
 use Rattle.log_run.proofs.Runs.{still}
 
 set-up : (words : List ℕ) (r : Begun) → SetupPromise (replicate 147 0) 1 32 2048 r words → words ≡ wordsOf (fresh (fixed 1 32 2048))

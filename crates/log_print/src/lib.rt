@@ -3,7 +3,7 @@ use libc::STDOUT_FILENO;
 ghost use mathlib.Core.Path.{_≡_};
 ghost use Prim.Native.Nat.{_≤_};
 ghost use lib.ListN.{length};
-ghost use Rattle.log_run.specs.Output.{output};
+ghost use Rattle.log_pieces.specs.Output.{output};
 
 // Runs over a log from a fresh endpoint: device 1, MTU 32, R 2,048. Answers how many bytes they put. Every caller has tested the length.
 fn print_runs(log: &[u8]) -> usize

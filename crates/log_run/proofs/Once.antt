@@ -3,7 +3,7 @@ use Prim.Native.Nat.{ℕ}
 use mathlib.Core.Path.{_≡_, ap, sym, _∙_}
 use mathlib.Core.List.{List}
 use Rattle.log_lines.specs.Puts.{LinePut, linePut}
-use Rattle.log_run.specs.Printing.{Printing}
+use Rattle.log_pieces.specs.Printing.{Printing}
 use Rattle.log_run.specs.Running.{RunSettled}
 use Rattle.log_run.specs.Once.{NextRecordOnce, WriteLineOnce, WriteEndOnce, WriteBadOnce, NextLineOnce, LogRunOnce}
 

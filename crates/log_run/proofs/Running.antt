@@ -18,12 +18,12 @@ use Rattle.log_records.specs.Records.{nextRecord}
 use Rattle.log_records.proofs.Found.{inside}
 use Rattle.log_lines.specs.Lines.{lineOf, endLine, badLog}
 use Rattle.log_lines.specs.Puts.{LinePut, linePut, putLine}
-use Rattle.log_run.specs.declared.Piece.{Piece}
-use Rattle.log_run.specs.declared.Piece.the-variants.{Line, Last}
+use Rattle.log_pieces.specs.declared.Piece.{Piece}
+use Rattle.log_pieces.specs.declared.Piece.the-variants.{Line, Last}
 use Rattle.log_run.specs.declared.Ran.{Ran}
-use Rattle.log_run.specs.Printing.{Printing, printing, lastPrinted, printedBy, printed, LinePromise, Onward}
-use Rattle.log_run.proofs.Laws.{of-line, of-last}
-use Rattle.log_run.proofs.Pieces.{put-there}
+use Rattle.log_pieces.specs.Printing.{Printing, printing, lastPrinted, printedBy, printed, LinePromise, Onward}
+use Rattle.log_pieces.proofs.Laws.{of-line, of-last}
+use Rattle.log_pieces.proofs.Pieces.{put-there}
 use Rattle.log_run.specs.Running.{Running, running, linesBefore, recordRan, ranBy, ranFrom, ranOf, RunSettled, runSettled, runSettledBy, logRun, LogRunPromise, RunOnward}
 
 -- ---- every number of steps that is more than the bytes left makes the same run
@@ -77,9 +77,9 @@ module _ (b : Desk) (log : List ℕ) (at count room : ℕ) where
   at-bad h e = rw (le-ltb room 128 h, e)
 
 -- what a run leaves, with no more records than bytes before its place
-pub leaves-is : (b : Desk) (log : List ℕ) (at count : ℕ) (out : List ℕ) → count ≤ at → logRun b log at count out ≡ runSettledBy out (rest b log at count (length out))
+pub run-is : (b : Desk) (log : List ℕ) (at count : ℕ) (out : List ℕ) → count ≤ at → logRun b log at count out ≡ runSettledBy out (rest b log at count (length out))
 unfolding logRun ranOf
-leaves-is b log at count out h = rw (le-ltb at count h)
+run-is b log at count out h = rw (le-ltb at count h)
 
 -- ---- the loop of `run`: the lines so far stand in the buffer, the whole run is those and what is still to come, and no more records
 -- than bytes were read
@@ -169,9 +169,9 @@ module _ (b₀ : Desk) (log : List ℕ) (at₀ count₀ : ℕ) (out₀ : List �
           }
 
   -- what the whole run leaves, once no more is to come
-  leaves-lines : (b′ : Desk) (line : List ℕ) (over : Bool) → rest b log at count (length out₀ - used) ≡ running line b′ at count over
+  run-lines : (b′ : Desk) (line : List ℕ) (over : Bool) → rest b log at count (length out₀ - used) ≡ running line b′ at count over
       → logRun b₀ log at₀ count₀ out₀ ≡ runSettledBy out₀ (running (g .lines ++ line) b′ at count over)
-  leaves-lines b′ line over e = leaves-is b₀ log at₀ count₀ out₀ (g .front) ∙ ap (runSettledBy out₀) (g .whole ∙ ap (linesBefore (g .lines)) e)
+  run-lines b′ line over e = run-is b₀ log at₀ count₀ out₀ (g .front) ∙ ap (runSettledBy out₀) (g .whole ∙ ap (linesBefore (g .lines)) e)
 
   -- the last line
   ends-by : (size : ℕ) (b′ : Desk) (line part : List ℕ) → 128 ≤ length out - used → size ≤ 128
@@ -185,7 +185,7 @@ module _ (b₀ : Desk) (log : List ℕ) (at₀ count₀ : ℕ) (out₀ : List �
       let long : used + size ≡ length (g .lines ++ line) = simp length-append (omega (arith, g .size, a .sized)) in
       ap (λ (x : Desk). runSettled (record { used = used + size; at = at; count = count; over = true }) x (putMid used (length out - used) out part)) (ap (λ (x : Printing). x .desk) p)
       ∙ (ap₂ (λ (k : ℕ) (l : List ℕ). runSettled (record { used = k; at = at; count = count; over = true }) b l) long (a .stored)
-      ∙ sym (leaves-lines b line true e))
+      ∙ sym (run-lines b line true e))
 
   pub ends : (piece : Piece) (size : ℕ) (b′ : Desk) (part : List ℕ) → piece ≡ Last size → 128 ≤ length out - used → Onward (length log) at piece
       → LinePromise b log at count (midOf used (length out - used) out) piece b′ part
@@ -205,7 +205,7 @@ module _ (b₀ : Desk) (log : List ℕ) (at₀ count₀ : ℕ) (out₀ : List �
   stops h =
       ap₂ (λ (k : ℕ) (l : List ℕ). runSettled (record { used = k; at = at; count = count; over = false }) b l)
       (g .size ∙ ap length (sym (append-nil (g .lines)))) (g .stored ∙ ap (written out₀ 0) (sym (append-nil (g .lines))))
-      ∙ sym (leaves-lines b [] false (no-room b log at count (length out₀ - used) (omega (arith, g .same))))
+      ∙ sym (run-lines b [] false (no-room b log at count (length out₀ - used) (omega (arith, g .same))))
 
 -- more records than bytes before the place
 pub refuses : (b : Desk) (log : List ℕ) (at count : ℕ) (out : List ℕ) → at < count

@@ -15,11 +15,11 @@ use Rattle.log_records.specs.declared.Next.the-variants.{Record, End, Bad}
 use Rattle.log_records.specs.Records.{Records, before, byNext, nextRecord, recordsFrom}
 use Rattle.log_records.proofs.Found.{inside}
 use Rattle.log_lines.specs.Lines.{lineOf, endLine, badLog}
-use Rattle.log_run.specs.Output.{outputOf}
+use Rattle.log_pieces.specs.Output.{outputOf}
 use Rattle.log_run.specs.Running.{Running, ranFrom, RunSettled, runSettledBy, LogRunPromise, onRun, runs, RunsMakeOutput}
 use Rattle.log_run.specs.declared.Ran.{Ran}
-use Rattle.log_run.proofs.Pieces.{written-lines, still-room, one-more, short-log}
-use Rattle.log_run.proofs.Running.{rest, leaves-is, by-lines, comes-on}
+use Rattle.log_pieces.proofs.Pieces.{written-lines, still-room, one-more, short-log}
+use Rattle.log_run.proofs.Running.{rest, run-is, by-lines, comes-on}
 
 -- ---- every number of steps that is more than the bytes left finds the same records
 records-enough : (m k : ℕ) (log : List ℕ) (at : ℕ) → length log - at < m → length log - at < k → recordsFrom m log at ≡ recordsFrom k log at
@@ -92,7 +92,7 @@ from-place : (most : ℕ) (b : Desk) (log : List ℕ) (at count : ℕ) (out : Li
 unfolding runs
 from-place zero b log at count out h few room = absurd (omega arith)
 from-place (suc most) b log at count out h few room =
-    ap (λ (x : RunSettled). onRun (runs most (x .desk) log (x .ran .at) (x .ran .count) (x .out)) x) (leaves-is b log at count out few)
+    ap (λ (x : RunSettled). onRun (runs most (x .desk) log (x .ran .at) (x .ran .count) (x .out)) x) (run-is b log at count out few)
     ∙ (go (rest b log at count (length out)) (comes-on b log at count (length out) room) (few-still (suc (length log)) b log at count (length out) few)
     (λ b′ at′ count′ out′ h′ few′ room′. from-place most b′ log at′ count′ out′ h′ few′ room′)
     ∙ front-of (suc (length log)) b log at count (length out))
@@ -116,7 +116,7 @@ module _ (b : Desk) (log : List ℕ) (at count : ℕ) (out : List ℕ) (r : Ran)
   adds : r .used + length (cond (r .over) [] (still b′ log (r .at) (r .count))) ≡ length (still b log at count)
   adds =
       let x : Running = rest b log at count (length out) in
-      ap (λ (l : RunSettled). l .ran .used + length (cond (l .ran .over) [] (still (l .desk) log (l .ran .at) (l .ran .count)))) (p ∙ leaves-is b log at count out few)
+      ap (λ (l : RunSettled). l .ran .used + length (cond (l .ran .over) [] (still (l .desk) log (l .ran .at) (l .ran .count)))) (p ∙ run-is b log at count out few)
       ∙ (sym (length-append (x .lines) (cond (x .over) [] (still (x .desk) log (x .at) (x .count)))) ∙ ap length (front-of (suc (length log)) b log at count (length out)))
 
   -- a run that is over put all that was still to come
@@ -128,4 +128,4 @@ module _ (b : Desk) (log : List ℕ) (at count : ℕ) (out : List ℕ) (r : Ran)
   adds-more e = ap (λ (t : Bool). r .used + length (cond t [] (still b′ log (r .at) (r .count)))) (sym e) ∙ adds
 
   pub few-behind : r .count ≤ r .at
-  few-behind = subst (λ (l : RunSettled). l .ran .count ≤ l .ran .at) (sym (p ∙ leaves-is b log at count out few)) (few-still (suc (length log)) b log at count (length out) few)
+  few-behind = subst (λ (l : RunSettled). l .ran .count ≤ l .ran .at) (sym (p ∙ run-is b log at count out few)) (few-still (suc (length log)) b log at count (length out) few)

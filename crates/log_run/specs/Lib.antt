@@ -1,4 +1,2 @@
-pub mod Output
-pub mod Printing
 pub mod Running
 pub mod Once

@@ -8,9 +8,9 @@ use Rattle.reading.specs.Desk.{Desk}
 use Rattle.log_records.specs.declared.Next.{Next}
 use Rattle.log_records.specs.Records.{NextRecordPromise}
 use Rattle.log_lines.specs.Puts.{WriteLinePromise, WriteEndPromise, WriteBadPromise}
-use Rattle.log_run.specs.declared.Piece.{Piece}
+use Rattle.log_pieces.specs.declared.Piece.{Piece}
 use Rattle.log_run.specs.declared.Ran.{Ran}
-use Rattle.log_run.specs.Printing.{LinePromise}
+use Rattle.log_pieces.specs.Printing.{LinePromise}
 use Rattle.log_run.specs.Running.{LogRunPromise}
 
 abbrev pub NextRecordOnce : Type 0

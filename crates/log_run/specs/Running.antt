@@ -15,7 +15,7 @@ use Rattle.log_records.specs.Records.{nextRecord}
 use Rattle.log_lines.specs.Lines.{lineOf, endLine, badLog}
 use Rattle.log_lines.specs.Puts.{lineRoom}
 use Rattle.log_run.specs.declared.Ran.{Ran}
-use Rattle.log_run.specs.Output.{output}
+use Rattle.log_pieces.specs.Output.{output}
 
 -- ---- the lines of a run
 

@@ -8,8 +8,8 @@ use lib.ListN.{length, replicate, length-replicate}
 use lib.Dec.{leb}
 use borrow.Author.Tests.{ne-eqb, lt-leb}
 use Rattle.lists.proofs.Below.{below, are-bytes}
-use Rattle.refusal19.specs.Lent.{stateRefusal, hasRoom}
-use Rattle.endpoint.specs.Calls.{roomPart, messageRoom}
+use Rattle.lent_state.specs.Lent.{stateRefusal, hasRoom}
+use Rattle.room_parts.specs.Parts.{roomPart, messageRoom}
 use Rattle.flows.specs.Fresh.{Fresh, paperSetup, paperDesk}
 use Rattle.flows.proofs.Fine.{fresh-fine}
 use Rattle.mailing.specs.Mail.{msglenOf, dataAt, mailPacket}

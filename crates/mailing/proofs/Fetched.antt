@@ -9,8 +9,8 @@ use lib.ListN.{length, take, drop}
 use denote.Ref.{now}
 use Rattle.answers.specs.Answers.{Said, held, delivered, message, refused}
 use Rattle.reading.specs.Desk.{Desk}
-use Rattle.endpoint.specs.Calls.{Part, part, messageRoom}
-use Rattle.endpoint.proofs.Calls.{message-room-itself}
+use Rattle.room_parts.specs.Parts.{Part, part, messageRoom}
+use Rattle.room_parts.proofs.Laws.{message-room-itself}
 use Rattle.flows.specs.Deliveries.{inRoom}
 use Rattle.mailing.specs.Mail.{Mail, Posted, mailAnswer}
 use Rattle.mailing.specs.Run.{mailBy, ofName}

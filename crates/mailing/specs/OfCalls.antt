@@ -10,7 +10,7 @@ use Rattle.responses.specs.Type13.{responseSize}
 use Rattle.reading.specs.Desk.{Desk, withResponse}
 use Rattle.reading.specs.Table.{lent}
 use Rattle.reading.specs.Read.{ReadPromise}
-use Rattle.endpoint.specs.Calls.{MessageRoomPromise}
+use Rattle.room_parts.specs.Parts.{MessageRoomPromise}
 use Rattle.mailing.specs.Mail.{Mail, Posted}
 use Rattle.mailing.specs.Run.{MailTurn, runPackets, MailCall}
 use Rattle.mailing.specs.ReadBack.{deviceOf, MailRun, MailReadsBack}

@@ -23,7 +23,9 @@ use Rattle.messages.specs.Joining as message
 use Rattle.messages.specs.Rows.{messageOpen}
 use Rattle.reading.specs.Table.{Lent, stateIn, segmentIn, messageSegmentIn, table}
 use Rattle.reading.specs.Read.{Settled, refusing, accepting, outcome, reading}
-use Rattle.endpoint.specs.Calls.{Stands, setupTable, setupBy, setup, abandonTable, abandonBy, abandonStream, abandonMessage}
+use Rattle.endpoint.specs.Calls.{setupTable, setupBy, setup}
+use Rattle.answers.specs.Stands.{Stands}
+use Rattle.abandoning.specs.Abandoning.{abandonTable, abandonBy, abandonStream, abandonMessage}
 use Rattle.cutting.specs.Cutting.{packetOf}
 use Rattle.segments.specs.Writer.{writerTable, wroteBy, writing}
 use Rattle.promises.specs.ByTable.{ByTable, ReadingByTable, HeadByTable, SetupByTable, AbandonStreamByTable, AbandonMessageByTable, WriterByTable}

@@ -11,7 +11,8 @@ use Rattle.answers.specs.Answers.{SetupSaid, AbandonSaid, saidOfAbandon}
 use Rattle.answers.specs.Once.{Outcome, OneOutcome}
 use Rattle.answers.proofs.Once.{said-once, setup-once, abandon-once, writer-once, both}
 use Rattle.reading.specs.Read.{Settled}
-use Rattle.endpoint.specs.Calls.{Stands, stands, Part, IsPart}
+use Rattle.answers.specs.Stands.{Stands, stands}
+use Rattle.room_parts.specs.Parts.{Part, IsPart}
 use Rattle.segments.specs.Writer.{Wrote}
 use Rattle.promises.specs.Determinism.{OneRoom, OneOutcomeEach}
 

@@ -17,7 +17,9 @@ use Rattle.reading.specs.Good.{GoodWords, StillGood}
 use Rattle.reading.proofs.Kept.{good-words, unchanged, stays-good}
 use Rattle.wire.specs.Packet.{header}
 use Rattle.answers.specs.declared.Begun.the-variants.{Ready}
-use Rattle.endpoint.specs.Calls.{SetupPromise, Stands, stands, SetupLeaves, setupTable, setup, setupBy, abandonTable, abandonBy, abandonStream, abandonMessage}
+use Rattle.endpoint.specs.Calls.{SetupPromise, SetupLeaves, setupTable, setup, setupBy}
+use Rattle.answers.specs.Stands.{Stands, stands}
+use Rattle.abandoning.specs.Abandoning.{abandonTable, abandonBy, abandonStream, abandonMessage}
 use Rattle.promises.specs.GoodStates.{GoodStatesStay}
 
 -- ---- setup

@@ -19,7 +19,9 @@ use Rattle.contexts.specs.State.{streamContexts, messageContexts}
 use Rattle.contexts.specs.Words.{stateOf, wordsOf}
 use Rattle.reading.specs.Table.{Lent, table}
 use Rattle.reading.specs.Read.{Settled, refusing, accepting, reading}
-use Rattle.endpoint.specs.Calls.{Stands, stands, setupTable, setupLeaving, setup, abandonTable, abandonStream, abandonMessage}
+use Rattle.endpoint.specs.Calls.{setupTable, setupLeaving, setup}
+use Rattle.answers.specs.Stands.{Stands, stands}
+use Rattle.abandoning.specs.Abandoning.{abandonTable, abandonStream, abandonMessage}
 use Rattle.cutting.specs.declared.Heading.{Heading}
 use Rattle.cutting.specs.Cutting.{packetOf}
 use Rattle.segments.specs.Writer.{Wrote, wroteOf, writerTable, writing}

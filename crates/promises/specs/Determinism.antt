@@ -11,7 +11,9 @@ use Rattle.answers.specs.Once.{Outcome, OneOutcome}
 use Rattle.reading.specs.Desk.{Desk}
 use Rattle.reading.specs.Table.{Lent}
 use Rattle.reading.specs.Read.{ReadPromise}
-use Rattle.endpoint.specs.Calls.{SetupPromise, AbandonStreamPromise, AbandonMessagePromise, StreamRoomPromise, MessageRoomPromise, LengthPromise}
+use Rattle.endpoint.specs.Calls.{SetupPromise, LengthPromise}
+use Rattle.abandoning.specs.Abandoning.{AbandonStreamPromise, AbandonMessagePromise}
+use Rattle.room_parts.specs.Parts.{StreamRoomPromise, MessageRoomPromise}
 use Rattle.cutting.specs.declared.Heading.{Heading}
 use Rattle.segments.specs.Writer.{WritePromise, CountPromise}
 

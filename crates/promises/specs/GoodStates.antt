@@ -8,7 +8,8 @@ use Rattle.contexts.specs.Words.{stateOf}
 use Rattle.reading.specs.Table.{Lent, stateIn}
 use Rattle.reading.specs.Read.{reading}
 use Rattle.reading.specs.Good.{GoodWords, StillGood}
-use Rattle.endpoint.specs.Calls.{SetupPromise, abandonStream, abandonMessage}
+use Rattle.endpoint.specs.Calls.{SetupPromise}
+use Rattle.abandoning.specs.Abandoning.{abandonStream, abandonMessage}
 
 pub record GoodStatesStay : Type 0 where
   pub set-up : (words : List ℕ) (device mtu room : ℕ) (after : List ℕ) → SetupPromise words device mtu room Ready after → GoodWords after

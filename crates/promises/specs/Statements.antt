@@ -1,7 +1,7 @@
 -- THE PAGE OF PROMISES. What the association asked to have shown, in one record: a line for each promise; the `use` lines say in which file it stands.
 -- That they hold is one theorem, whose fields are citations (proofs/Promises.antt). The promises of the C library are a page of their own:
--- c_promises/specs/OfCalls.antt. Those of the log program stand in log_run/specs/{Printing,Running,Once}.antt, log_reader/specs/Once.antt and
--- log_records/specs/Written.antt.
+-- c_promises/specs/OfCalls.antt. Those of the log program stand in log_pieces/specs/Printing.antt, log_run/specs/{Running,Once}.antt,
+-- log_reader/specs/Once.antt and log_records/specs/Written.antt.
 --
 -- How to read what these files say. `A → B`: if A, then B; `(x : A) → B`: B for every x. `a ≡ b`: a and b are the same, in every part.
 -- `A × B`: both; `(x : A) × B`: there is an x of which B holds. `A ↔ B`: exactly if. `A → ⊥`: not A.

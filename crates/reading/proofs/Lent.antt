@@ -12,7 +12,7 @@ use Rattle.tables.proofs.Exactly.{none-held}
 use Rattle.tables.proofs.Numbers.{number-refused, number-accepted}
 use Rattle.contexts.specs.Words.{stateWords}
 use Rattle.refusal19.specs.Refusal19.{namedBy19}
-use Rattle.refusal19.specs.Lent.{stateRefusal}
+use Rattle.lent_state.specs.Lent.{stateRefusal}
 use Rattle.reading.specs.Desk.{Desk, stateOn}
 use Rattle.reading.specs.Table.{isState, wrongSizes, lentRows, lentRefusal}
 use Rattle.reading.specs.Inside.{ReadyToRead}

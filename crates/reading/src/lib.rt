@@ -51,7 +51,7 @@ pub fn lent_refusal(
 ) -> usize
     ensures { λ r. ⌜ r ≡ lentRefusal (desk (now (state .entry)) (now («stream_memory» .entry)) (now («message_memory» .entry)) (now (response .entry))) ⌝ }
 {
-    let number = refusal19::state_refusal(state);
+    let number = lent_state::state_refusal(state);
     if number != 0 {
         return number;
     }

@@ -1,2 +1,1 @@
 pub mod Refusal19
-pub mod Lent

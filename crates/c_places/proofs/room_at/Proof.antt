@@ -2,8 +2,8 @@
 use mathlib.Core.Path.{sym, _∙_}
 use native.Mathlib.Omega.{arith}
 use borrow.Author.Needs.{needs}
-use Rattle.refusal19.proofs.Lent.{room-inside}
-use Rattle.endpoint.specs.Calls.{roomPart}
+use Rattle.lent_state.proofs.Lent.{room-inside}
+use Rattle.room_parts.specs.Parts.{roomPart}
 use Rattle.c_places.proofs.room_at.Statement.{statement}
 use Rattle.c_places.proofs.room_at.Tie as tie
 

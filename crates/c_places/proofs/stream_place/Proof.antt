@@ -8,9 +8,9 @@ use borrow.Author.Needs.{needs}
 use Rattle.contexts.specs.State.{streamContexts}
 use Rattle.contexts.specs.Words.{stateOf, stateWords}
 use Rattle.refusal19.specs.Refusal19.{namedBy19}
-use Rattle.refusal19.proofs.Lent.{state-there}
+use Rattle.lent_state.proofs.Lent.{state-there}
 use Rattle.refusal19.proofs.Good.{good}
-use Rattle.endpoint.specs.Calls.{roomPart}
+use Rattle.room_parts.specs.Parts.{roomPart}
 use Rattle.c_places.specs.Places.{placeOf}
 use Rattle.c_places.proofs.Laws.{stream-nowhere, stream-there}
 use Rattle.c_places.proofs.stream_place.Statement.{statement}

@@ -4,7 +4,7 @@ use mathlib.Core.Path.{_≡_, refl, _∙_}
 use mathlib.Core.List.{List}
 use lib.ListN.{length, length-take}
 use Rattle.reading.specs.Desk.{Desk, desk}
-use Rattle.log_run.specs.Output.{output}
+use Rattle.log_pieces.specs.Output.{output}
 use Rattle.log_run.proofs.Runs.{still, adds-last, adds-more, few-behind}
 use Rattle.log_print.proofs.Begins.{begins}
 use borrow.Author.Needs.{needs}

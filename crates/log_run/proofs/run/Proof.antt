@@ -5,7 +5,7 @@ use Prim.Native.Nat.{_-_}
 use mathlib.Core.Path.{_≡_, refl, _∙_}
 use lib.ListN.{length}
 use Rattle.reading.specs.Desk.{desk}
-use Rattle.log_run.proofs.Laws.{of-line, of-last}
+use Rattle.log_pieces.proofs.Laws.{of-line, of-last}
 use Rattle.log_run.proofs.Running.{Going, begins, turn, ends, stops, refuses, onward-by}
 use borrow.Author.Needs.{needs}
 use native.Mathlib.Omega.{arith}

@@ -1,7 +1,7 @@
 -- `reading::lent_refusal` meets its contract: the state first, then the sizes.
 use mathlib.Core.Path.{sym, _∙_}
 use borrow.Author.Needs.{needs}
-use Rattle.refusal19.proofs.Lent.{state-there}
+use Rattle.lent_state.proofs.Lent.{state-there}
 use Rattle.reading.proofs.Lent.{state-lent, sizes-lent}
 use Rattle.reading.proofs.lent_refusal.Statement.{statement}
 use Rattle.reading.proofs.lent_refusal.Tie as tie
