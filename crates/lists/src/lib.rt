@@ -1,7 +1,7 @@
 // Bytes and lists: what every layer above uses, and nothing of RapidIO.
 ghost use mathlib.Core.Path.{_≡_};
 ghost use Prim.Native.Nat.{_+_, _<_, _≤_};
-ghost use lib.ListN.{length};
+ghost use lib.ListN.{length, take, drop};
 ghost use Rattle.lists.specs.Bytes.{word, long, written};
 
 // A byte as a number.
@@ -39,10 +39,58 @@ pub fn copy(memory: &mut [u8], bytes: &[u8])
     }
 }
 
+// 128 bytes from `at` on, through a block: all are read before any is written, so nobody need ask whether the two overlap.
+fn block_of_128(memory: &mut [u8], bytes: &[u8], at: usize)
+    requires { ⌜ (at + 128 ≤ length (now bytes)) × (length (now bytes) ≤ length (now memory)) ⌝ }
+    ensures { λ _. ⌜ now (memory .exit) ≡ written (now (memory .entry)) at (take 128 (drop at (now (bytes .entry)))) ⌝ }
+{
+    let mut block = [0u8; 128];
+    let to = at + 128;
+    copy(&mut block, &bytes[at..to]);
+    copy(&mut memory[at..], &block);
+}
+
+// 32 bytes in the same way.
+fn block_of_32(memory: &mut [u8], bytes: &[u8], at: usize)
+    requires { ⌜ (at + 32 ≤ length (now bytes)) × (length (now bytes) ≤ length (now memory)) ⌝ }
+    ensures { λ _. ⌜ now (memory .exit) ≡ written (now (memory .entry)) at (take 32 (drop at (now (bytes .entry)))) ⌝ }
+{
+    let mut block = [0u8; 32];
+    let to = at + 32;
+    copy(&mut block, &bytes[at..to]);
+    copy(&mut memory[at..], &block);
+}
+
+// The bytes from `from` on to the same place of `memory`: in blocks of 32, and what is left byte by byte.
+fn copy_small_blocks(memory: &mut [u8], bytes: &[u8], from: usize)
+    requires { ⌜ (from ≤ length (now bytes)) × (length (now bytes) ≤ length (now memory)) ⌝ }
+    ensures { λ _. ⌜ now (memory .exit) ≡ written (now (memory .entry)) from (drop from (now (bytes .entry))) ⌝ }
+{
+    let mut at = from;
+    while at + 32 <= bytes.len() {
+        block_of_32(memory, bytes, at);
+        at += 32;
+    }
+    copy(&mut memory[at..], &bytes[at..]);
+}
+
+// The same as `copy`: in blocks of 128, then in smaller ones.
+fn copy_blocks(memory: &mut [u8], bytes: &[u8])
+    requires { ⌜ length (now bytes) ≤ length (now memory) ⌝ }
+    ensures { λ _. ⌜ now (memory .exit) ≡ written (now (memory .entry)) 0 (now (bytes .entry)) ⌝ }
+{
+    let mut at = 0;
+    while at + 128 <= bytes.len() {
+        block_of_128(memory, bytes, at);
+        at += 128;
+    }
+    copy_small_blocks(memory, bytes, at);
+}
+
 // The part of `memory` from `at` on is lent on to the copying leaf. Every caller has room for the bytes there.
 pub fn store(memory: &mut [u8], at: usize, bytes: &[u8])
     requires { ⌜ at + length (now bytes) ≤ length (now memory) ⌝ }
     ensures { λ _. ⌜ now (memory .exit) ≡ written (now (memory .entry)) at (now (bytes .entry)) ⌝ }
 {
-    copy(&mut memory[at..], bytes);
+    copy_blocks(&mut memory[at..], bytes);
 }
