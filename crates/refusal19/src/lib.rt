@@ -42,18 +42,16 @@ fn bad_last(c: MessageContext) -> bool
     c.last != 0
 }
 
+// None, all, or marks beyond msglen: these are no fewer than all. Of fewer the last segment's length decides.
 fn bad_marks(c: MessageContext) -> bool
     requires { ⌜ c .msglen < 16 ⌝ }
     ensures { λ r. ⌜ r ≡ badMarks c ⌝ }
 {
-    let count = c.msglen + 1;
-    if marks::power(count) <= c.marks {
-        return true;
-    }
+    let all = marks::power(c.msglen + 1) - 1;
     if c.marks == 0 {
         return true;
     }
-    if marks::all_marked(c.marks as u16, count) {
+    if all <= c.marks {
         return true;
     }
     bad_last(c)

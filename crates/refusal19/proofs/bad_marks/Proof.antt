@@ -1,60 +1,32 @@
--- `refusal19::bad_marks` meets its contract: each return follows from the tests on the way; marks below 2 to the 16 fit the cast.
-use borrow.Author.Tests.{le-leb, lt-leb, eq-eqb, ne-eqb}
+-- `refusal19::bad_marks` meets its contract: marks that are none, or no fewer than all, are bad; fewer leave the last length to judge, and fit
+-- its cast.
+use mathlib.Core.Path.{_∙_}
+use lib.Pow.{pow-pos}
 use borrow.Author.Needs.{needs}
-use Rattle.refusal19.specs.Refusal19.{badMarks}
+use Rattle.refusal19.proofs.Few.{none-bad, all-bad, few-bad}
 use Rattle.refusal19.proofs.bad_marks.Statement.{statement}
 use Rattle.refusal19.proofs.bad_marks.Tie as tie
 
--- where the weight of all marks is made, from behind the first test
-abbrev weight : tie.After-struct-known2 → tie.After-power
-weight c = c .before
-
--- marks beyond msglen
-returns : tie.Need-returns
-unfolding badMarks
-returns c = simp (← weight (c .before) .power .ensures .0, le-leb _ _ (c .if1 .taken))
+-- 2 to any power is 1 at least
+sub-all : tie.Need-sub-all
+sub-all c = rw (c .power .ensures .0) (pow-pos _)
 
 -- none
-returns-2 : tie.Need-returns-2
-unfolding badMarks
-returns-2 c =
-    let inside = c .before .before in
-    simp (← weight (inside .before) .power .ensures .0, lt-leb _ _ (inside .if1 .left), eq-eqb _ _ (c .if2 .taken))
+returns : tie.Need-returns
+returns c = none-bad _ (c .if1 .taken)
 
--- all
-returns-3 : tie.Need-returns-3
-unfolding badMarks
-returns-3 c =
-    let some = c .before .before .before in
-    let inside = some .before .before in
-    simp (
-      ← weight (inside .before) .power .ensures .0,
-      lt-leb _ _ (inside .if1 .left),
-      ne-eqb _ _ (some .if2 .left),
-      ← c .before .all-marked .ensures,
-      c .if3 .taken,
-    )
+-- all, or beyond msglen
+returns-2 : tie.Need-returns-2
+returns-2 c =
+    let some = c .before .before in
+    all-bad _ (some .if1 .left) (rw (← some .before .before .power .ensures .0) (c .if2 .taken))
 
 -- the last segment's length
-returns-4 : tie.Need-returns-4
-unfolding badMarks
-returns-4 c =
+returns-3 : tie.Need-returns-3
+returns-3 c =
     let missing = c .before in
-    let some = missing .before .before .before in
-    let inside = some .before .before in
-    simp (
-      ← weight (inside .before) .power .ensures .0,
-      lt-leb _ _ (inside .if1 .left),
-      ne-eqb _ _ (some .if2 .left),
-      ← missing .before .all-marked .ensures,
-      missing .if3 .left,
-      ← c .bad-last .ensures,
-    )
+    let some = missing .before .before in
+    c .bad-last .ensures ∙ few-bad _ (some .if1 .left) (rw (← some .before .before .power .ensures .0) (missing .if2 .left))
 
 pub bad-marks-spec : {M : Type 1} → statement M
-bad-marks-spec =
-    tie.close
-    (tie.spec
-    (λ c. search needs) (λ c κs. search needs) returns returns-2
-    (λ c. search needs) (λ c κs. search needs) returns-3
-    (λ c κs. search needs) returns-4)
+bad-marks-spec = tie.close (tie.spec (λ c. search needs) (λ c κs. search needs) sub-all returns returns-2 (λ c κs. search needs) returns-3)
