@@ -74,17 +74,22 @@ fn copy_small_blocks(memory: &mut [u8], bytes: &[u8], from: usize)
     copy(&mut memory[at..], &bytes[at..]);
 }
 
-// The same as `copy`: in blocks of 128, then in smaller ones.
+// The same as `copy`, in blocks. A PDU's segment has at most 256 bytes, so the two blocks of 128 stand in the open: no loop is unrolled.
 fn copy_blocks(memory: &mut [u8], bytes: &[u8])
     requires { ⌜ length (now bytes) ≤ length (now memory) ⌝ }
     ensures { λ _. ⌜ now (memory .exit) ≡ written (now (memory .entry)) 0 (now (bytes .entry)) ⌝ }
 {
-    let mut at = 0;
-    while at + 128 <= bytes.len() {
-        block_of_128(memory, bytes, at);
-        at += 128;
+    if bytes.len() < 128 {
+        copy_small_blocks(memory, bytes, 0);
+        return;
     }
-    copy_small_blocks(memory, bytes, at);
+    block_of_128(memory, bytes, 0);
+    if bytes.len() < 256 {
+        copy_small_blocks(memory, bytes, 128);
+        return;
+    }
+    block_of_128(memory, bytes, 128);
+    copy_small_blocks(memory, bytes, 256);
 }
 
 // The part of `memory` from `at` on is lent on to the copying leaf. Every caller has room for the bytes there.
