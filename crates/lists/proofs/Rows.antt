@@ -3,9 +3,9 @@ use Prim.Native.Nat.{ℕ, zero, suc, _≤_, _<_, _+_, _-_, _*_}
 use mathlib.Core.Path.{_≡_, refl, ap, ap₂, sym, _∙_}
 use mathlib.Core.List.{List, [], _∷_, _++_, map, append-assoc}
 use native.Mathlib.Omega.{arith}
-use native.Mathlib.Nat.{mul-suc, mul-zero, mul-le-mul-left, add-comm, add-zero, add-suc}
+use native.Mathlib.Nat.{mul-suc, mul-zero, mul-le-mul-left, add-comm, add-zero, add-suc, suc-add}
 use lib.ListN.{length, getD, take, drop, set, length-drop, length-map, take-append-drop, length-append, List·getD-map}
-use lib.Seq.{drop-drop, drop-cons, take-all, take-at, drop-at, take-add, length-take-le, sets}
+use lib.Seq.{drop-drop, drop-cons, take-all, take-at, drop-at, take-add, length-take-le, sets, set-getD, getD-set-other}
 use Rattle.lists.specs.Bytes.{written}
 use Rattle.lists.specs.Rows.{rows, joined, recordsAt}
 use Rattle.lists.proofs.Written.{stores, drop-written, take-before, part-written, drop-behind}
@@ -98,6 +98,26 @@ write-sets w at k (v ∷ vs) = write-sets (set w (at + k) v) at (suc k) vs ∙ a
 
 pub write-is : (w : List ℕ) (at : ℕ) (vs : List ℕ) → at + length vs ≤ length w → writeAt w at 0 vs ≡ written w at vs
 write-is w at vs h = write-sets w at 0 vs ∙ (ap (λ (n : ℕ). sets w n vs) (add-zero at) ∙ stores w vs at h)
+
+-- words written as they stand change nothing, and what follows them is written behind
+write-read : (w : List ℕ) (at k count : ℕ) (vs : List ℕ) → writeAt w at k (readAt w at k count ++ vs) ≡ writeAt w at (k + count) vs
+write-read w at k ℕ.zero vs = ap (λ (n : ℕ). writeAt w at n vs) (sym (add-zero k))
+write-read w at k (suc count) vs =
+    ap (λ (l : List ℕ). writeAt l at (suc k) (readAt w at (suc k) count ++ vs)) (set-getD w (at + k) 0)
+    ∙ (write-read w at (suc k) count vs ∙ ap (λ (n : ℕ). writeAt w at n vs) (suc-add k count ∙ sym (add-suc k count)))
+
+-- a word written changes none of those behind it
+read-behind : (w : List ℕ) (at j v k count : ℕ) → j < k → readAt (set w (at + j) v) at k count ≡ readAt w at k count
+read-behind w at j v k ℕ.zero h = refl
+read-behind w at j v k (suc count) h =
+    ap₂ (λ (x : ℕ) (l : List ℕ). x ∷ l) (getD-set-other w (at + j) (at + k) v 0 (λ e. omega arith)) (read-behind w at j v (suc k) count (omega arith))
+
+-- the first word written, and those behind the next `count`: these are as they were
+pub write-around : (w : List ℕ) (at v count : ℕ) (vs : List ℕ)
+    → writeAt w at 0 (v ∷ (readAt w at 1 count ++ vs)) ≡ writeAt (set w (at + 0) v) at (1 + count) vs
+write-around w at v count vs =
+    ap (λ (l : List ℕ). writeAt (set w (at + 0) v) at 1 (l ++ vs)) (sym (read-behind w at 0 v 1 count (omega arith)))
+    ∙ write-read (set w (at + 0) v) at 1 count vs
 
 -- ---- records kept as rows: `from` reads one out of its words, `to` gives its words
 module _ {A : Type 0} (from : List ℕ → A) (width count first : ℕ) where
