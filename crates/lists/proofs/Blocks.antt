@@ -48,6 +48,12 @@ nothing-copied start bytes from =
     let none : from - from ≡ 0 = omega arith in
     sym (ap (λ (j : ℕ). written start from (take j (drop from bytes))) none ∙ nothing start from)
 
+-- from the first byte on they are those before `at`
+pub front-copied : (start bytes : List ℕ) (at : ℕ) → written start 0 (take at bytes) ≡ copiedTo start bytes 0 at
+front-copied start bytes at =
+    let all : at ≡ at - 0 = omega arith in
+    ap (λ (j : ℕ). written start 0 (take j bytes)) all
+
 module _ (start memory bytes : List ℕ) (from at : ℕ) (order : from ≤ at) (fits : length bytes ≤ length start) (e : memory ≡ copiedTo start bytes from at) where
   -- what is written at `at` then stands behind them
   behind : (k : ℕ) → at + k ≤ length bytes → written memory at (take k (drop at bytes)) ≡ written start from (take (at - from + k) (drop from bytes))

@@ -74,22 +74,30 @@ fn copy_small_blocks(memory: &mut [u8], bytes: &[u8], from: usize)
     copy(&mut memory[at..], &bytes[at..]);
 }
 
-// The same as `copy`, in blocks. A PDU's segment has at most 256 bytes, so the two blocks of 128 stand in the open: no loop is unrolled.
+// The blocks of 128 at the front; how many bytes they are. A PDU's segment has at most 256 bytes, so the two blocks stand in the open, and no
+// loop is unrolled.
+fn copy_large_blocks(memory: &mut [u8], bytes: &[u8]) -> usize
+    requires { ⌜ length (now bytes) ≤ length (now memory) ⌝ }
+    ensures { λ r. ⌜ (r ≤ length (now (bytes .entry))) × (now (memory .exit) ≡ written (now (memory .entry)) 0 (take r (now (bytes .entry)))) ⌝ }
+{
+    if bytes.len() < 128 {
+        return 0;
+    }
+    block_of_128(memory, bytes, 0);
+    if bytes.len() < 256 {
+        return 128;
+    }
+    block_of_128(memory, bytes, 128);
+    256
+}
+
+// The same as `copy`: in blocks of 128, then in smaller ones.
 fn copy_blocks(memory: &mut [u8], bytes: &[u8])
     requires { ⌜ length (now bytes) ≤ length (now memory) ⌝ }
     ensures { λ _. ⌜ now (memory .exit) ≡ written (now (memory .entry)) 0 (now (bytes .entry)) ⌝ }
 {
-    if bytes.len() < 128 {
-        copy_small_blocks(memory, bytes, 0);
-        return;
-    }
-    block_of_128(memory, bytes, 0);
-    if bytes.len() < 256 {
-        copy_small_blocks(memory, bytes, 128);
-        return;
-    }
-    block_of_128(memory, bytes, 128);
-    copy_small_blocks(memory, bytes, 256);
+    let at = copy_large_blocks(memory, bytes);
+    copy_small_blocks(memory, bytes, at);
 }
 
 // The part of `memory` from `at` on is lent on to the copying leaf. Every caller has room for the bytes there.
