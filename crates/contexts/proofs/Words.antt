@@ -1,7 +1,7 @@
 -- Laws between a state and its words: reading and writing one part, and that a state is its words and no more.
 use Prim.Native.Nat.{ℕ, _<_, _+_, _*_}
 use mathlib.Core.Path.{_≡_, refl, ap, ap₂, sym, _∙_}
-use mathlib.Core.List.{List, [], _++_, map, append-nil}
+use mathlib.Core.List.{List, [], _∷_, _++_, map, append-nil}
 use native.Mathlib.Omega.{arith}
 use borrow.Author.Fill.{fill-more}
 use lib.ListN.{length, take, drop, drop-of-length-le, replicate, set, length-take, length-drop, length-append, take-append-drop}
@@ -9,11 +9,12 @@ use lib.Seq.{drop-drop, take-all}
 use Rattle.lists.specs.Bytes.{written}
 use Rattle.lists.specs.Rows.{joined, recordsAt}
 use Rattle.lists.proofs.Written.{take-before}
-use Rattle.lists.proofs.Rows.{Rowed, readAt, read-is, writeAt, write-is, length-records, record-read}
+use Rattle.lists.proofs.Rows.{Rowed, readAt, read-is, writeAt, write-is, write-around, length-records, record-read}
 use Rattle.lists.proofs.Rows.{record-put, records-before, records-behind, row-again, records-words, words-records, length-joined}
 use Rattle.contexts.specs.declared.StreamContext.{StreamContext}
 use Rattle.contexts.specs.declared.MessageContext.{MessageContext}
 use Rattle.contexts.specs.State.{Setup, State, fixed, fresh, streamContexts, messageContexts, streamIn, messageIn, withStream, withMessage}
+use Rattle.contexts.specs.State.{holding, remarked}
 use Rattle.contexts.specs.Words.{stateOf, wordsOf, stateWords, headWords, streamWords, messageWords, firstStream}
 use Rattle.contexts.specs.Words.{firstMessage, setupFrom, wordsOfSetup, streamFrom, wordsOfStream, messageFrom, wordsOfMessage}
 
@@ -77,6 +78,25 @@ module _ (w : List ℕ) where
         (ap setupFrom (take-before w (wordsOfMessage c) at (omega arith) headWords (omega arith)))
         (records-before streamFrom streamWords streamContexts firstStream w (omega arith) at (wordsOfMessage c) (omega arith) (omega arith))
         (record-put messageFrom messageWords messageContexts firstMessage w (omega arith) i (wordsOfMessage c) refl h)
+
+    -- a context that goes on: its first word and some behind are written, and those between stay
+
+    pub stream-hold : (i held : ℕ) → i < streamContexts
+        → stateOf (writeAt (set w (firstStream + streamWords * i + 0) 1) (firstStream + streamWords * i) 4 (held ∷ [])) ≡ withStream (stateOf w) i (holding (streamIn (stateOf w) i) held)
+    stream-hold i held h =
+        let at : ℕ = firstStream + streamWords * i in
+        let c : StreamContext = streamFrom (readAt w at 0 streamWords) in
+        sym (ap stateOf (write-around w at 1 3 (held ∷ [])))
+        ∙ (stream-put i (holding c held) h ∙ ap (λ (x : StreamContext). withStream (stateOf w) i (holding x held)) (stream-read i h))
+
+    pub message-remark : (i marks last : ℕ) → i < messageContexts
+        → stateOf (writeAt (set w (firstMessage + messageWords * i + 0) 1) (firstMessage + messageWords * i) 6 (marks ∷ last ∷ []))
+        ≡ withMessage (stateOf w) i (remarked (messageIn (stateOf w) i) marks last)
+    message-remark i marks last h =
+        let at : ℕ = firstMessage + messageWords * i in
+        let c : MessageContext = messageFrom (readAt w at 0 messageWords) in
+        sym (ap stateOf (write-around w at 1 5 (marks ∷ last ∷ [])))
+        ∙ (message-put i (remarked c marks last) h ∙ ap (λ (x : MessageContext). withMessage (stateOf w) i (remarked x marks last)) (message-read i h))
 
     -- ---- a state is its words and no more
 

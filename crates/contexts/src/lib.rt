@@ -1,4 +1,4 @@
-// The endpoint's state in words that the caller lends, one context at a time as a small struct by value.
+// The endpoint's state in words that the caller lends: one context at a time as a small struct by value, or the one word that is asked.
 // The constants say where its words lie. No packet is known here. Every caller has tested that the state is WORDS words long, and that a
 // context's number is one of its kind's.
 use wire::Flow;
@@ -6,7 +6,7 @@ ghost use mathlib.Core.Path.{_≡_};
 ghost use Prim.Native.Nat.{_<_};
 ghost use lib.ListN.{length, replicate};
 ghost use Rattle.contexts.specs.State.{streamContexts, messageContexts, fixed, fresh, closedStream, openStream, closedMessage, openMessage};
-ghost use Rattle.contexts.specs.State.{streamIn, messageIn, withStream, withMessage};
+ghost use Rattle.contexts.specs.State.{streamIn, messageIn, withStream, withMessage, holding, remarked, isOfMessage};
 ghost use Rattle.contexts.specs.Words.{stateOf, wordsOf, stateWords};
 
 // How many contexts of each kind there are.
@@ -120,7 +120,46 @@ pub fn stream_at(state: &[usize], n: usize) -> StreamContext
     }
 }
 
-// Puts c in the place of stream context n. Only the two functions below do: a context is opened, kept and closed nowhere else.
+// Of stream context n only whether it is open: 0 where it is free.
+pub fn stream_live(state: &[usize], n: usize) -> usize
+    requires { ⌜ (n < streamContexts) × (length (now state) ≡ stateWords) ⌝ }
+    ensures { λ r. ⌜ r ≡ streamIn (stateOf (now (state .entry))) n .live ⌝ }
+{
+    let at = STREAMS + STREAM_WORDS * n;
+    state[at + LIVE]
+}
+
+// Only its flow.
+pub fn stream_flow(state: &[usize], n: usize) -> Flow
+    requires { ⌜ (n < streamContexts) × (length (now state) ≡ stateWords) ⌝ }
+    ensures { λ r. ⌜ r ≡ streamIn (stateOf (now (state .entry))) n .flow ⌝ }
+{
+    let at = STREAMS + STREAM_WORDS * n;
+    Flow {
+        source: state[at + SOURCE],
+        cos: state[at + COS],
+    }
+}
+
+// Only its streamID.
+pub fn stream_of(state: &[usize], n: usize) -> usize
+    requires { ⌜ (n < streamContexts) × (length (now state) ≡ stateWords) ⌝ }
+    ensures { λ r. ⌜ r ≡ streamIn (stateOf (now (state .entry))) n .stream ⌝ }
+{
+    let at = STREAMS + STREAM_WORDS * n;
+    state[at + STREAM]
+}
+
+// Only how many bytes of the PDU are in its room.
+pub fn held_of(state: &[usize], n: usize) -> usize
+    requires { ⌜ (n < streamContexts) × (length (now state) ≡ stateWords) ⌝ }
+    ensures { λ r. ⌜ r ≡ streamIn (stateOf (now (state .entry))) n .held ⌝ }
+{
+    let at = STREAMS + STREAM_WORDS * n;
+    state[at + HELD]
+}
+
+// Puts c in the place of stream context n. Only the functions below write a context: it is opened, kept and closed nowhere else.
 fn put_stream(state: &mut [usize], n: usize, c: StreamContext)
     requires { ⌜ (n < streamContexts) × (length (now state) ≡ stateWords) ⌝ }
     ensures { λ _. ⌜ stateOf (now (state .exit)) ≡ withStream (stateOf (now (state .entry))) n c ⌝ }
@@ -149,6 +188,17 @@ pub fn keep_stream(state: &mut [usize], n: usize, flow: Flow, stream: usize, hel
             held,
         },
     );
+}
+
+// Stream context n stays open, now with `held` bytes: its flow and its streamID are left as they are. Live is written as 1 again: in a given
+// state every number but 0 counts as open (row 19), and we write 1.
+pub fn hold(state: &mut [usize], n: usize, held: usize)
+    requires { ⌜ (n < streamContexts) × (length (now state) ≡ stateWords) ⌝ }
+    ensures { λ _. ⌜ stateOf (now (state .exit)) ≡ withStream (stateOf (now (state .entry))) n (holding (streamIn (stateOf (now (state .entry))) n) held) ⌝ }
+{
+    let at = STREAMS + STREAM_WORDS * n;
+    state[at + LIVE] = 1;
+    state[at + HELD] = held;
 }
 
 // Stream context n is closed: all its fields are 0.
@@ -187,7 +237,34 @@ pub fn message_at(state: &[usize], n: usize) -> MessageContext
     }
 }
 
-// Puts c in the place of message context n. Only the two functions below do.
+// Of message context n only whether it is open: 0 where it is free.
+pub fn message_live(state: &[usize], n: usize) -> usize
+    requires { ⌜ (n < messageContexts) × (length (now state) ≡ stateWords) ⌝ }
+    ensures { λ r. ⌜ r ≡ messageIn (stateOf (now (state .entry))) n .live ⌝ }
+{
+    let at = MESSAGES + MESSAGE_WORDS * n;
+    state[at + LIVE]
+}
+
+// Whether message context n is the open one of that message. Live is asked last: the other words set most contexts aside, open or not.
+pub fn is_of_message(state: &[usize], n: usize, source: usize, letter: usize, mbox: usize) -> bool
+    requires { ⌜ (n < messageContexts) × (length (now state) ≡ stateWords) ⌝ }
+    ensures { λ r. ⌜ r ≡ isOfMessage source letter mbox (messageIn (stateOf (now (state .entry))) n) ⌝ }
+{
+    let at = MESSAGES + MESSAGE_WORDS * n;
+    if state[at + SOURCE] != source {
+        return false;
+    }
+    if state[at + LETTER] != letter {
+        return false;
+    }
+    if state[at + MBOX] != mbox {
+        return false;
+    }
+    state[at + LIVE] != 0
+}
+
+// Puts c in the place of message context n. Only the functions below write a context.
 fn put_message(state: &mut [usize], n: usize, c: MessageContext)
     requires { ⌜ (n < messageContexts) × (length (now state) ≡ stateWords) ⌝ }
     ensures { λ _. ⌜ stateOf (now (state .exit)) ≡ withMessage (stateOf (now (state .entry))) n c ⌝ }
@@ -232,6 +309,18 @@ pub fn keep_message(
             last,
         },
     );
+}
+
+// Message context n stays open, now with these marks and this last: its other words are left as they are. Live is written as 1 again, as
+// `hold` does.
+pub fn remark(state: &mut [usize], n: usize, marks: usize, last: usize)
+    requires { ⌜ (n < messageContexts) × (length (now state) ≡ stateWords) ⌝ }
+    ensures { λ _. ⌜ stateOf (now (state .exit)) ≡ withMessage (stateOf (now (state .entry))) n (remarked (messageIn (stateOf (now (state .entry))) n) marks last) ⌝ }
+{
+    let at = MESSAGES + MESSAGE_WORDS * n;
+    state[at + LIVE] = 1;
+    state[at + MARKS] = marks;
+    state[at + LAST] = last;
 }
 
 // Message context n is closed: all its fields are 0.
