@@ -1,20 +1,19 @@
 // The walks over the contexts: the flow's open one, the message's, the lowest free one of each kind. Every caller has tested that the state is
 // one.
-use contexts::MessageContext;
-use contexts::StreamContext;
 use wire::Flow;
 ghost use mathlib.Core.Path.{_≡_};
+ghost use Prim.Native.Nat.{_<_};
 ghost use lib.ListN.{length};
-ghost use Rattle.contexts.specs.State.{isOfFlow, isOfMessage, flowContext, freeStream, messageContext, freeMessage};
+ghost use Rattle.contexts.specs.State.{streamContexts, streamIn, isOfFlow, flowContext, freeStream, messageContext, freeMessage};
 ghost use Rattle.contexts.specs.Words.{stateOf, stateWords};
 
-// The flow is asked first: it sets most contexts aside, open or not.
-fn is_of_flow(c: StreamContext, flow: Flow) -> bool
-    ensures { λ r. ⌜ r ≡ isOfFlow flow c ⌝ }
+// Whether context n is the flow's open one. The flow is asked first: it sets most contexts aside, open or not.
+fn is_of_flow(state: &[usize], n: usize, flow: Flow) -> bool
+    requires { ⌜ (n < streamContexts) × (length (now state) ≡ stateWords) ⌝ }
+    ensures { λ r. ⌜ r ≡ isOfFlow flow (streamIn (stateOf (now (state .entry))) n) ⌝ }
 {
-    let own = c.flow;
-    if wire::same_flow(own, flow) {
-        return c.live != 0;
+    if wire::same_flow(contexts::stream_flow(state, n), flow) {
+        return contexts::stream_live(state, n) != 0;
     }
     false
 }
@@ -26,7 +25,7 @@ pub fn find_stream(state: &[usize], flow: Flow) -> usize
 {
     let mut n = 0;
     while n < contexts::STREAM_CONTEXTS {
-        if is_of_flow(contexts::stream_at(state, n), flow) {
+        if is_of_flow(state, n, flow) {
             return n;
         }
         n += 1;
@@ -41,28 +40,12 @@ pub fn free_stream(state: &[usize]) -> usize
 {
     let mut i = 0;
     while i < contexts::STREAM_CONTEXTS {
-        let c = contexts::stream_at(state, i);
-        if c.live == 0 {
+        if contexts::stream_live(state, i) == 0 {
             return i;
         }
         i += 1;
     }
     contexts::STREAM_CONTEXTS
-}
-
-fn is_of_message(c: MessageContext, source: usize, letter: usize, mbox: usize) -> bool
-    ensures { λ r. ⌜ r ≡ isOfMessage source letter mbox c ⌝ }
-{
-    if c.source != source {
-        return false;
-    }
-    if c.letter != letter {
-        return false;
-    }
-    if c.mbox != mbox {
-        return false;
-    }
-    c.live != 0
 }
 
 // The open context of the message; MESSAGE_CONTEXTS: none.
@@ -72,7 +55,7 @@ pub fn find_message(state: &[usize], source: usize, letter: usize, mbox: usize) 
 {
     let mut i = 0;
     while i < contexts::MESSAGE_CONTEXTS {
-        if is_of_message(contexts::message_at(state, i), source, letter, mbox) {
+        if contexts::is_of_message(state, i, source, letter, mbox) {
             return i;
         }
         i += 1;
@@ -87,8 +70,7 @@ pub fn free_message(state: &[usize]) -> usize
 {
     let mut i = 0;
     while i < contexts::MESSAGE_CONTEXTS {
-        let c = contexts::message_at(state, i);
-        if c.live == 0 {
+        if contexts::message_live(state, i) == 0 {
             return i;
         }
         i += 1;

@@ -19,18 +19,16 @@ abbrev μ-loop : tie.MeasureT-loop
 returns : tie.Need-returns Inv-loop μ-loop
 unfolding flowContext
 returns c =
-    let at-context = c .before .before in
-    let walk = at-context .before in
+    let walk = c .before .before in
     first-found _ _ closedStream _ (rw sixteen (walk .loop-test .taken)) (walk .before .loop .inv .1)
-    (rw (← at-context .stream-at .ensures) (sym (c .before .is-of-flow .ensures) ∙ c .if1 .taken))
+    (sym (c .before .is-of-flow .ensures) ∙ c .if1 .taken)
 
 -- it is not
 loop-again : tie.Need-loop-again Inv-loop μ-loop
 loop-again c =
-    let at-context = c .before .before in
-    let walk = at-context .before in
+    let walk = c .before .before in
     let next = first-next _ _ closedStream _ (rw sixteen (walk .loop-test .taken)) (walk .before .loop .inv .1)
-    (rw (← at-context .stream-at .ensures) (sym (c .before .is-of-flow .ensures) ∙ c .if1 .left)) in
+    (sym (c .before .is-of-flow .ensures) ∙ c .if1 .left) in
     (search needs, next)
 
 -- none is
@@ -44,5 +42,5 @@ pub find-stream-spec : {M : Type 1} → statement M
 find-stream-spec =
     tie.close
     (tie.spec Inv-loop μ-loop
-    (λ c. search needs) (λ c κs. search needs) (λ c κs. search needs) returns
+    (λ c. search needs) (λ c κs. search needs) returns
     (λ c. search needs) (λ c. search needs) loop-again returns-2)

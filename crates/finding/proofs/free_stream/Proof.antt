@@ -19,18 +19,16 @@ abbrev μ-loop : tie.MeasureT-loop
 returns : tie.Need-returns Inv-loop μ-loop
 unfolding freeStream isFreeStream
 returns c =
-    let at-context = c .before .before in
-    let walk = at-context .before in
-    first-found _ _ closedStream _ (rw sixteen (walk .loop-test .taken)) (walk .before .loop .inv .1) (rw (← at-context .stream-at .ensures) (eq-eqb _ _ (c .if1 .taken)))
+    let walk = c .before .before in
+    first-found _ _ closedStream _ (rw sixteen (walk .loop-test .taken)) (walk .before .loop .inv .1) (rw (← c .before .stream-live .ensures) (eq-eqb _ _ (c .if1 .taken)))
 
 -- it is not
 loop-again : tie.Need-loop-again Inv-loop μ-loop
 unfolding isFreeStream
 loop-again c =
-    let at-context = c .before .before in
-    let walk = at-context .before in
+    let walk = c .before .before in
     let next = first-next _ _ closedStream _ (rw sixteen (walk .loop-test .taken)) (walk .before .loop .inv .1)
-    (rw (← at-context .stream-at .ensures) (ne-eqb _ _ (c .if1 .left))) in
+    (rw (← c .before .stream-live .ensures) (ne-eqb _ _ (c .if1 .left))) in
     (search needs, next)
 
 -- none is
