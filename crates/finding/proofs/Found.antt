@@ -1,14 +1,11 @@
--- Laws of the tests that find a context.
-use Prim.Native.Nat.{ℕ}
+-- Laws of the test whether a context is the open one of a flow.
 use mathlib.Core.Path.{_≡_}
 use mathlib.Core.Bool.{true, false, not, and-true, and-false}
 use lib.Dec.{eqb}
-use borrow.Author.Tests.{eq-eqb, ne-eqb}
 use Rattle.wire.specs.declared.Flow.{Flow}
 use Rattle.wire.specs.Type9.{sameFlow}
 use Rattle.contexts.specs.declared.StreamContext.{StreamContext}
-use Rattle.contexts.specs.declared.MessageContext.{MessageContext}
-use Rattle.contexts.specs.State.{isOfFlow, isFreeStream, isOfMessage, isFreeMessage}
+use Rattle.contexts.specs.State.{isOfFlow, isFreeStream}
 
 module _ (c : StreamContext) (flow : Flow) where
   -- a context of the flow is the flow's if it is open
