@@ -2,7 +2,7 @@
 use answers::Answer;
 use wire::MessageSegment;
 ghost use mathlib.Core.Path.{_≡_};
-ghost use mathlib.Core.Bool.{true, false};
+ghost use mathlib.Core.Bool.{true};
 ghost use Prim.Native.Nat.{_<_, _≤_};
 ghost use Rattle.answers.specs.Answers.{said};
 ghost use Rattle.wire.specs.Type11.{isSingle};
@@ -12,6 +12,7 @@ ghost use Rattle.rules.specs.Inside.{Sound};
 ghost use Rattle.message_rooms.specs.Placing.{messageJoining};
 ghost use Rattle.message_rooms.specs.Inside.{MessageReady};
 ghost use Rattle.messages.specs.Joining.{messageStepped};
+ghost use Rattle.messages.specs.Inside.{OfSeveral, Chooses, refusalStatus};
 
 // A single-segment message: the lowest free context, delivered at once.
 fn take_alone(
@@ -43,51 +44,88 @@ fn take_alone(
     }
 }
 
+// Where a segment of a message of several goes: refused by a row's number, or 0 and context n with the marks and the last segment's length that
+// it has so far.
+pub struct Chosen {
+    pub number: usize,
+    pub n: usize,
+    pub marks: usize,
+    pub last: usize,
+}
+
+fn refused_by(number: usize) -> Chosen
+    ensures { λ r. ⌜ r .number ≡ number ⌝ }
+{
+    Chosen {
+        number,
+        n: 0,
+        marks: 0,
+        last: 0,
+    }
+}
+
 // One more segment of the open message in context `found`: the one place that asks whether it is already marked.
-fn join(
-    state: &mut [usize],
-    memory: &mut [u8],
-    response: &mut [u8],
-    packet: &[u8],
-    m: MessageSegment,
-    found: usize,
-) -> Answer
-    requires { ⌜ MessageReady (now state) (now memory) (now response) (now packet) m ⌝ }
-    requires { ⌜ (Sound m) × (isSingle m ≡ false) × (found < messageContexts) × (found ≡ messageContext (stateOf (now state)) (m .source) (m .letter) (m .mbox)) ⌝ }
-    ensures { λ r. ⌜ messageJoining (said r) (stateOf (now (state .exit))) (now (memory .exit)) (now (response .exit))
-        ≡ messageStepped (stateOf (now (state .entry))) (now (memory .entry)) (now (response .entry)) (now (packet .entry)) m ⌝ }
+fn choose_open(state: &[usize], m: MessageSegment, found: usize) -> Chosen
+    requires { ⌜ OfSeveral (now state) m ⌝ }
+    requires { ⌜ (found < messageContexts) × (found ≡ messageContext (stateOf (now state)) (m .source) (m .letter) (m .mbox)) ⌝ }
+    ensures { λ r. ⌜ Chooses (stateOf (now (state .entry))) m r ⌝ }
 {
     let c = contexts::message_at(state, found);
     if c.msglen != m.msglen {
-        return message_rooms::refuse(response, packet, 23, responses::ERROR);
+        return refused_by(23);
     }
     if c.ssize != m.ssize {
-        return message_rooms::refuse(response, packet, 23, responses::ERROR);
+        return refused_by(23);
     }
     if marks::marked(c.marks as u16, m.msgseg) {
-        return message_rooms::refuse(response, packet, 24, responses::ERROR);
+        return refused_by(24);
     }
-    message_rooms::place(state, memory, response, packet, m, found, c.marks, c.last)
+    Chosen {
+        number: 0,
+        n: found,
+        marks: c.marks,
+        last: c.last,
+    }
 }
 
 // The first-come segment of a new message: the lowest free context.
-fn begin(
-    state: &mut [usize],
-    memory: &mut [u8],
-    response: &mut [u8],
-    packet: &[u8],
-    m: MessageSegment,
-) -> Answer
-    requires { ⌜ MessageReady (now state) (now memory) (now response) (now packet) m ⌝ }
-    requires { ⌜ (Sound m) × (isSingle m ≡ false) × (messageContexts ≤ messageContext (stateOf (now state)) (m .source) (m .letter) (m .mbox)) ⌝ }
-    ensures { λ r. ⌜ messageJoining (said r) (stateOf (now (state .exit))) (now (memory .exit)) (now (response .exit))
-        ≡ messageStepped (stateOf (now (state .entry))) (now (memory .entry)) (now (response .entry)) (now (packet .entry)) m ⌝ }
+fn choose_new(state: &[usize], m: MessageSegment) -> Chosen
+    requires { ⌜ OfSeveral (now state) m ⌝ }
+    requires { ⌜ messageContexts ≤ messageContext (stateOf (now state)) (m .source) (m .letter) (m .mbox) ⌝ }
+    ensures { λ r. ⌜ Chooses (stateOf (now (state .entry))) m r ⌝ }
 {
     let n = finding::free_message(state);
     if contexts::MESSAGE_CONTEXTS <= n {
-        return message_rooms::refuse(response, packet, 25, responses::RETRY);
+        return refused_by(25);
     }
-    message_rooms::place(state, memory, response, packet, m, n, 0, 0)
+    Chosen {
+        number: 0,
+        n,
+        marks: 0,
+        last: 0,
+    }
+}
+
+// Rows 23 to 25, and the context that they leave.
+fn choose(state: &[usize], m: MessageSegment) -> Chosen
+    requires { ⌜ OfSeveral (now state) m ⌝ }
+    ensures { λ r. ⌜ Chooses (stateOf (now (state .entry))) m r ⌝ }
+{
+    let found = finding::find_message(state, m.source, m.letter, m.mbox);
+    if found < contexts::MESSAGE_CONTEXTS {
+        return choose_open(state, m, found);
+    }
+    choose_new(state, m)
+}
+
+// The status that a refusal by rows 23 to 25 writes.
+fn status_of(number: usize) -> u8
+    ensures { λ r. ⌜ r ≡ refusalStatus number ⌝ }
+{
+    if number == 25 {
+        return responses::RETRY;
+    }
+    responses::ERROR
 }
 
 // A type 11 packet from row 20 on. Every caller has tested the state, the buffers' sizes and the packet's head.
@@ -109,9 +147,9 @@ pub fn step(
     if m.msglen == 0 {
         return take_alone(state, memory, response, packet, m);
     }
-    let found = finding::find_message(state, m.source, m.letter, m.mbox);
-    if found < contexts::MESSAGE_CONTEXTS {
-        return join(state, memory, response, packet, m, found);
+    let c = choose(state, m);
+    if c.number != 0 {
+        return message_rooms::refuse(response, packet, c.number, status_of(c.number));
     }
-    begin(state, memory, response, packet, m)
+    message_rooms::place(state, memory, response, packet, m, c.n, c.marks, c.last)
 }
