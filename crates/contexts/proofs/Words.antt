@@ -14,7 +14,7 @@ use Rattle.lists.proofs.Rows.{record-put, records-before, records-behind, row-a
 use Rattle.contexts.specs.declared.StreamContext.{StreamContext}
 use Rattle.contexts.specs.declared.MessageContext.{MessageContext}
 use Rattle.contexts.specs.State.{Setup, State, fixed, fresh, streamContexts, messageContexts, streamIn, messageIn, withStream, withMessage}
-use Rattle.contexts.specs.State.{holding, remarked}
+use Rattle.contexts.specs.State.{holding}
 use Rattle.contexts.specs.Words.{stateOf, wordsOf, stateWords, headWords, streamWords, messageWords, firstStream}
 use Rattle.contexts.specs.Words.{firstMessage, setupFrom, wordsOfSetup, streamFrom, wordsOfStream, messageFrom, wordsOfMessage}
 
@@ -88,15 +88,6 @@ module _ (w : List ℕ) where
         let c : StreamContext = streamFrom (readAt w at 0 streamWords) in
         sym (ap stateOf (write-around w at 1 3 (held ∷ [])))
         ∙ (stream-put i (holding c held) h ∙ ap (λ (x : StreamContext). withStream (stateOf w) i (holding x held)) (stream-read i h))
-
-    pub message-remark : (i marks last : ℕ) → i < messageContexts
-        → stateOf (writeAt (set w (firstMessage + messageWords * i + 0) 1) (firstMessage + messageWords * i) 6 (marks ∷ last ∷ []))
-        ≡ withMessage (stateOf w) i (remarked (messageIn (stateOf w) i) marks last)
-    message-remark i marks last h =
-        let at : ℕ = firstMessage + messageWords * i in
-        let c : MessageContext = messageFrom (readAt w at 0 messageWords) in
-        sym (ap stateOf (write-around w at 1 5 (marks ∷ last ∷ [])))
-        ∙ (message-put i (remarked c marks last) h ∙ ap (λ (x : MessageContext). withMessage (stateOf w) i (remarked x marks last)) (message-read i h))
 
     -- ---- a state is its words and no more
 

@@ -63,10 +63,6 @@ openMessage source letter mbox msglen ssize marks last = record {
 abbrev pub holding : StreamContext → (held : ℕ) → StreamContext
 holding c held = openStream (c .flow) (c .stream) held
 
--- of the same message, with these marks and that last
-abbrev pub remarked : MessageContext → (marks last : ℕ) → MessageContext
-remarked c marks last = openMessage (c .source) (c .letter) (c .mbox) (c .msglen) (c .ssize) marks last
-
 -- as setup makes it
 abbrev pub fresh : Setup → State
 fresh setup = record {

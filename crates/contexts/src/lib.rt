@@ -6,7 +6,7 @@ ghost use mathlib.Core.Path.{_≡_};
 ghost use Prim.Native.Nat.{_<_};
 ghost use lib.ListN.{length, replicate};
 ghost use Rattle.contexts.specs.State.{streamContexts, messageContexts, fixed, fresh, closedStream, openStream, closedMessage, openMessage};
-ghost use Rattle.contexts.specs.State.{streamIn, messageIn, withStream, withMessage, holding, remarked, isOfMessage};
+ghost use Rattle.contexts.specs.State.{streamIn, messageIn, withStream, withMessage, holding, isOfMessage};
 ghost use Rattle.contexts.specs.Words.{stateOf, wordsOf, stateWords};
 
 // How many contexts of each kind there are.
@@ -309,18 +309,6 @@ pub fn keep_message(
             last,
         },
     );
-}
-
-// Message context n stays open, now with these marks and this last: its other words are left as they are. Live is written as 1 again, as
-// `hold` does.
-pub fn remark(state: &mut [usize], n: usize, marks: usize, last: usize)
-    requires { ⌜ (n < messageContexts) × (length (now state) ≡ stateWords) ⌝ }
-    ensures { λ _. ⌜ stateOf (now (state .exit)) ≡ withMessage (stateOf (now (state .entry))) n (remarked (messageIn (stateOf (now (state .entry))) n) marks last) ⌝ }
-{
-    let at = MESSAGES + MESSAGE_WORDS * n;
-    state[at + LIVE] = 1;
-    state[at + MARKS] = marks;
-    state[at + LAST] = last;
 }
 
 // Message context n is closed: all its fields are 0.

@@ -9,9 +9,9 @@ use Rattle.lists.specs.Bytes.{AreBytes}
 use Rattle.lists.specs.Each.{Each}
 use Rattle.answers.specs.Answers as answers
 use Rattle.wire.specs.declared.Flow.{Flow}
-use Rattle.wire.specs.declared.Segment.{Segment}
-use Rattle.wire.specs.declared.Parsed.{Parsed}
-use Rattle.wire.specs.declared.Parsed.the-variants.{Refused, Stream, Message}
+use Rattle.wire.specs.Segment.{Segment}
+use Rattle.wire.specs.Parsed.{Parsed}
+use Rattle.wire.specs.Parsed.{Refused, Stream, Message}
 use Rattle.wire.specs.Type9.{sameFlow, segmentOf}
 use Rattle.wire.specs.Parsed.{parsed}
 use Rattle.stream_rooms.specs.Placing.{dataOf}
@@ -22,7 +22,8 @@ use Rattle.reading.specs.Desk.{Desk}
 use Rattle.flows.specs.Deliveries.{read, after, view}
 use Rattle.flows.specs.ByFlow.{Tells, OwnFlow, NoFlow, ByFlow}
 use Rattle.flows.specs.Apart.{FlowAnswer, flowAnswer, heardOf, heardAlone, isOf, packetsOf, answersTo, alone, flowAmong, AmongFlows, FlowsApart, SamePacketsSameAnswers}
-use Rattle.flows.proofs.Flows.{same-true, same-false, ne-same}
+use Rattle.contexts.proofs.Flows.{same-true}
+use Rattle.flows.proofs.Flows.{same-false, ne-same}
 use Rattle.flows.proofs.Fine.{Fine, fresh-fine, fresh-view}
 use Rattle.flows.proofs.Machine.{by-flow}
 

@@ -16,7 +16,8 @@ use Rattle.contexts.specs.declared.StreamContext.{StreamContext}
 use Rattle.contexts.specs.State.{closedStream, isFreeStream, isOfFlow}
 use Rattle.lists.proofs.Tests.{both}
 use Rattle.flows.specs.ByFlow.{among}
-use Rattle.flows.proofs.Flows.{same-true, eq-same, pigeon-less}
+use Rattle.contexts.proofs.Flows.{same-true, of-flow}
+use Rattle.flows.proofs.Flows.{eq-same, pigeon-less}
 
 -- context i; a closed one past the last
 abbrev pub at : List StreamContext → ℕ → StreamContext
@@ -33,10 +34,6 @@ spare cs = firstOf isFreeStream cs
 pub of-open : (k : Flow) (c : StreamContext) → isOfFlow k c ≡ true → isFreeStream c ≡ false
 unfolding isOfFlow
 of-open k c e = not-true (isFreeStream c) (both (not (isFreeStream c)) (sameFlow (c .flow) k) e .0)
-
-pub of-flow : (k : Flow) (c : StreamContext) → isOfFlow k c ≡ true → c .flow ≡ k
-unfolding isOfFlow
-of-flow k c e = same-true (c .flow) k (both (not (isFreeStream c)) (sameFlow (c .flow) k) e .1)
 
 pub made-of : (k : Flow) (c : StreamContext) → isFreeStream c ≡ false → c .flow ≡ k → isOfFlow k c ≡ true
 unfolding isOfFlow

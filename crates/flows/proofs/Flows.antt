@@ -11,14 +11,8 @@ use Rattle.wire.specs.declared.Flow.{Flow}
 use Rattle.wire.specs.Type9.{sameFlow}
 use Rattle.lists.proofs.Tests.{both}
 use Rattle.lists.specs.First.{any}
+use Rattle.contexts.proofs.Flows.{same-true}
 use Rattle.flows.specs.ByFlow.{among}
-
--- the test of sameness is sameness
-pub same-true : (a b : Flow) → sameFlow a b ≡ true → a ≡ b
-unfolding sameFlow
-same-true a b e =
-    let p = both (eqb (a .source) (b .source)) (eqb (a .cos) (b .cos)) e in
-    ap₂ (λ (x y : ℕ). record { source = x; cos = y }) (eqb-true (a .source) (b .source) (p .0)) (eqb-true (a .cos) (b .cos) (p .1))
 
 pub same-refl : (a : Flow) → sameFlow a a ≡ true
 unfolding sameFlow

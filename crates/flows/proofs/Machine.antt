@@ -8,10 +8,10 @@ use mathlib.Core.List.{List}
 use lib.ListN.{length, length-take, length-drop}
 use Rattle.lists.specs.Bytes.{AreBytes}
 use Rattle.wire.specs.declared.Flow.{Flow}
-use Rattle.wire.specs.declared.Segment.{Segment}
+use Rattle.wire.specs.Segment.{Segment}
 use Rattle.wire.specs.declared.MessageSegment.{MessageSegment}
-use Rattle.wire.specs.declared.Parsed.{Parsed}
-use Rattle.wire.specs.declared.Parsed.the-variants.{Refused, Stream, Message}
+use Rattle.wire.specs.Parsed.{Parsed}
+use Rattle.wire.specs.Parsed.{Refused, Stream, Message}
 use Rattle.sizes.specs.Sizes.{dataLength}
 use Rattle.wire.specs.Packet.{header}
 use Rattle.wire.specs.Parsed.{parsed}

@@ -17,7 +17,8 @@ use Rattle.contexts.specs.State.{closedStream, isFreeStream, isOfFlow}
 use Rattle.flows.specs.OneFlow.{PDU, pdu}
 use Rattle.flows.specs.Deliveries.{inRoom}
 use Rattle.flows.specs.ByFlow.{among}
-use Rattle.flows.proofs.Contexts.{at, own, of-open, of-flow, made-of, closed-free, free-of-none, first-set, put-closed, Place, here, there, place, Own, found, lacks, own-cases, Once, Inside}
+use Rattle.contexts.proofs.Flows.{of-flow}
+use Rattle.flows.proofs.Contexts.{at, own, of-open, made-of, closed-free, free-of-none, first-set, put-closed, Place, here, there, place, Own, found, lacks, own-cases, Once, Inside}
 use Rattle.flows.proofs.Rooms.{stored-length, stored-own, stored-apart}
 
 -- what a flow has whose context is c, number i

@@ -12,7 +12,7 @@ use Rattle.lists.specs.Bytes.{written}
 use Rattle.lists.proofs.First.{first-passes}
 use Rattle.answers.specs.Answers as answers
 use Rattle.wire.specs.declared.Flow.{Flow}
-use Rattle.wire.specs.declared.Segment.{Segment}
+use Rattle.wire.specs.Segment.{Segment}
 use Rattle.sizes.specs.Sizes.{dataLength}
 use Rattle.rules.specs.Segments.{malformed, wrongSize, wrongLength}
 use Rattle.contexts.specs.declared.StreamContext.{StreamContext}
@@ -28,7 +28,8 @@ use Rattle.lists.proofs.Tests.{by-test}
 use Rattle.flows.specs.OneFlow.{PDU, pdu, held, delivered, refused, FlowOutcome, flowOutcome, isOpen, flowRefused, flowJoined, flowStep}
 use Rattle.flows.specs.Deliveries.{inRoom, delivery}
 use Rattle.flows.specs.ByFlow.{among, Tells}
-use Rattle.flows.proofs.Contexts.{at, own, spare, of-open, of-flow, closed-free, free-of-none, past, Own, found, lacks, own-cases, spare-there}
+use Rattle.contexts.proofs.Flows.{of-flow}
+use Rattle.flows.proofs.Contexts.{at, own, spare, of-open, closed-free, free-of-none, past, Own, found, lacks, own-cases, spare-there}
 use Rattle.flows.proofs.Rooms.{room-length, stored-own}
 use Rattle.flows.proofs.Seen.{seen, seen-some, seen-none, Sound, Mine, After, just-closed, stored-closed, stored-held}
 use Rattle.flows.proofs.OneStep.{flow-malformed, flow-missized, flow-begins, flow-closed, flow-passes, flow-differs, flow-joins}
@@ -197,7 +198,7 @@ module _ (flows : List Flow) (s : State) (memory p : List ℕ) (g : Segment) (ok
             unfolding flowContext stream.refusedClosing
             sim-9 h =
                 subst₂ (λ (j : streamRoom.Joined) (x : FlowOutcome). Sim flows s memory g j x)
-                (go-passes s memory p g t now lt {c = c} {room = s .setup .room} refl refl (ltb-true (s .setup .room) (c .held + dataLength g) h)
+                (go-passes s memory p g t now lt {held = c .held} {room = s .setup .room} refl refl (ltb-true (s .setup .room) (c .held + dataLength g) h)
                 (record { answer = refl; drop = refl; state = refl }))
                 (sym (flow-passes (s .setup) g (streamRoom.dataOf p g) d e t held-so-far (c .held) holds h))
                 (sim-closing (some held-so-far) 9 (lt-ltb i 16 lt))
@@ -210,7 +211,7 @@ module _ (flows : List Flow) (s : State) (memory p : List ℕ) (g : Segment) (ok
               unfolding flowContext stream.refusedClosing
               sim-11 w =
                   subst₂ (λ (j : streamRoom.Joined) (x : FlowOutcome). Sim flows s memory g j x)
-                  (go-differs s memory p g t now lt {c = c} {room = s .setup .room} refl refl fits w (record { answer = refl; drop = refl; state = refl }))
+                  (go-differs s memory p g t now lt {held = c .held} {room = s .setup .room} refl refl fits w (record { answer = refl; drop = refl; state = refl }))
                   (sym (flow-differs (s .setup) g (streamRoom.dataOf p g) d e t held-so-far (c .held) holds h w))
                   (sim-closing (some held-so-far) 11 (lt-ltb i 16 lt))
 
@@ -218,7 +219,7 @@ module _ (flows : List Flow) (s : State) (memory p : List ℕ) (g : Segment) (ok
               unfolding flowContext
               sim-joins w =
                   subst₂ (λ (j : streamRoom.Joined) (x : FlowOutcome). Sim flows s memory g j x)
-                  (go-placed s memory p g t now lt {c = c} {room = s .setup .room} refl refl fits w refl)
+                  (go-placed s memory p g t now lt {held = c .held} {room = s .setup .room} refl refl fits w refl)
                   (sym (flow-joins (s .setup) g (streamRoom.dataOf p g) d e t held-so-far (c .held) holds h w))
                   (sim-placed i (c .held) (c .stream) false (own-mine flows (s .setup .room) (s .streams) memory ok (g .flow)) lt fits)
 

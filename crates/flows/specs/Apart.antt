@@ -9,8 +9,8 @@ use Rattle.lists.specs.Bytes.{AreBytes}
 use Rattle.lists.specs.Each.{Each}
 use Rattle.answers.specs.Answers as answers
 use Rattle.wire.specs.declared.Flow.{Flow}
-use Rattle.wire.specs.declared.Parsed.{Parsed}
-use Rattle.wire.specs.declared.Parsed.the-variants.{Refused, Stream, Message}
+use Rattle.wire.specs.Parsed.{Parsed}
+use Rattle.wire.specs.Parsed.{Refused, Stream, Message}
 use Rattle.wire.specs.Type9.{sameFlow, segmentOf}
 use Rattle.wire.specs.Parsed.{parsed}
 use Rattle.contexts.specs.State.{Setup, streamContexts}

@@ -12,7 +12,7 @@ use Rattle.lists.specs.Bytes.{high, low, AreBytes}
 use Rattle.lists.specs.Each.{Each}
 use Rattle.wire.specs.Packet.{packetType, destination, tt as ttOf}
 use Rattle.wire.specs.declared.MessageSegment.{MessageSegment}
-use Rattle.wire.specs.declared.Parsed.the-variants.{Message}
+use Rattle.wire.specs.Parsed.{Message}
 use Rattle.wire.specs.Type11.{mailbox, messageOf}
 use Rattle.tables.specs.Refusals.{verdict}
 use Rattle.wire.specs.Head.{headRows}

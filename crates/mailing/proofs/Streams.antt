@@ -8,7 +8,7 @@ use lib.ListN.{length, length-take, length-drop, length-set}
 use lib.Dec.{ltb}
 use borrow.Author.Tests.{ltb-true, ltb-false, not-false}
 use Rattle.answers.specs.Answers.{held, delivered}
-use Rattle.wire.specs.declared.Segment.{Segment}
+use Rattle.wire.specs.Segment.{Segment}
 use Rattle.sizes.specs.Sizes.{dataLength}
 use Rattle.contexts.specs.State.{State, freeStream}
 use Rattle.tables.specs.Refusals.{none}

@@ -9,7 +9,7 @@ use Rattle.lists.specs.Bytes.{high, low, AreBytes}
 use Rattle.answers.specs.Answers.{Said, message}
 use Rattle.wire.specs.Packet as packet
 use Rattle.wire.specs.declared.MessageSegment.{MessageSegment}
-use Rattle.wire.specs.declared.Parsed.the-variants.{Message}
+use Rattle.wire.specs.Parsed.{Message}
 use Rattle.wire.specs.Type11.{mailbox}
 use Rattle.wire.specs.Parsed.{parsed}
 use Rattle.sizes.specs.Sizes.{bytesOf, inEights}

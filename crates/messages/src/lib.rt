@@ -5,7 +5,7 @@ ghost use mathlib.Core.Path.{_≡_};
 ghost use mathlib.Core.Bool.{true};
 ghost use Prim.Native.Nat.{_<_, _≤_};
 ghost use Rattle.answers.specs.Answers.{said};
-ghost use Rattle.wire.specs.Type11.{isSingle};
+ghost use Rattle.wire.specs.Type11.{isSingle, messageOf};
 ghost use Rattle.contexts.specs.State.{messageContext, messageContexts};
 ghost use Rattle.contexts.specs.Words.{stateOf};
 ghost use Rattle.rules.specs.Inside.{Sound};
@@ -128,8 +128,8 @@ fn status_of(number: usize) -> u8
     responses::ERROR
 }
 
-// A type 11 packet from row 20 on. Every caller has tested the state, the buffers' sizes and the packet's head.
-pub fn step(
+// A type 11 packet, read into `m`: rows 20 to 22, then by the kind of message.
+fn take(
     state: &mut [usize],
     memory: &mut [u8],
     response: &mut [u8],
@@ -152,4 +152,14 @@ pub fn step(
         return message_rooms::refuse(response, packet, c.number, status_of(c.number));
     }
     message_rooms::place(state, memory, response, packet, m, c.n, c.marks, c.last)
+}
+
+// A type 11 packet from row 20 on. Every caller has tested the state, the buffers' sizes and the packet's head.
+pub fn step(state: &mut [usize], memory: &mut [u8], response: &mut [u8], packet: &[u8]) -> Answer
+    requires { ⌜ MessageReady (now state) (now memory) (now response) (now packet) (messageOf (now packet)) ⌝ }
+    ensures { λ r. ⌜ messageJoining (said r) (stateOf (now (state .exit))) (now (memory .exit)) (now (response .exit))
+        ≡ messageStepped (stateOf (now (state .entry))) (now (memory .entry)) (now (response .entry)) (now (packet .entry)) (messageOf (now (packet .entry))) ⌝ }
+{
+    let m = wire::message_of(packet);
+    take(state, memory, response, packet, m)
 }

@@ -8,8 +8,8 @@ use Rattle.lists.proofs.Tests.{chosen}
 use Rattle.tables.specs.Refusals.{RowOf, Leaves, all, flowClosed, allERROR, allRETRY, VerdictOf, refuse, accept, verdict, Decides, none}
 use Rattle.tables.proofs.Exactly.{answered, decided, accepted, none-held}
 use Rattle.answers.specs.Answers.{Said, held, refused, AbandonSaid, abandonRefused}
-use Rattle.wire.specs.declared.Parsed.{Parsed}
-use Rattle.wire.specs.declared.Parsed.the-variants.{Refused, Stream, Message}
+use Rattle.wire.specs.Parsed.{Parsed}
+use Rattle.wire.specs.Parsed.{Refused, Stream, Message}
 use Rattle.wire.specs.Type9.{segmentOf}
 use Rattle.wire.specs.Type11.{isSingle, messageOf}
 use Rattle.wire.specs.Head.{is9, headRows}

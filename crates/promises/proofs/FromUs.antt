@@ -16,7 +16,7 @@ use Rattle.responses.specs.Type13.{responseTo, answered}
 use Rattle.reading.specs.Table.{Lent, stateIn, lentRows, table}
 use Rattle.reading.specs.Read.{reading, outcome, accepting}
 use Rattle.lists.proofs.Tests.{by-test, _and_}
-use Rattle.wire.proofs.Head.{one-type}
+use Rattle.wire.proofs.HeadLaws.{one-type}
 use Rattle.reading.proofs.Kept.{other-type}
 use Rattle.lists.specs.Each.{Each}
 use Rattle.promises.specs.Responses.{statusOf, responseLeft, Responds}

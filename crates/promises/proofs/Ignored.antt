@@ -10,9 +10,9 @@ use lib.Seq.{ext-getD, getD-take, getD-drop}
 use lib.Dec.{eqb, ltb}
 use borrow.Author.Tests.{ltb-true, ltb-false, eqb-true, eqb-false, ne-eqb}
 use Rattle.lists.specs.Bytes.{byte, word}
-use Rattle.wire.specs.declared.Segment.{Segment}
-use Rattle.wire.specs.declared.Parsed.{Parsed}
-use Rattle.wire.specs.declared.Parsed.the-variants.{Refused, Stream}
+use Rattle.wire.specs.Segment.{Segment}
+use Rattle.wire.specs.Parsed.{Parsed}
+use Rattle.wire.specs.Parsed.{Refused, Stream}
 use Rattle.wire.specs.Packet.{packetType, header, bit}
 use Rattle.wire.specs.Type9.{flags, isS, isE, xh, isO, isP, segmentAt, segmentOf}
 use Rattle.tables.specs.Refusals.{Row, Verdict, refuse, accept, verdict, none}

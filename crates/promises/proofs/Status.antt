@@ -21,7 +21,7 @@ use Rattle.rules.specs.Messages.{formRows}
 use Rattle.messages.specs.Rows.{messageOpen, messageRows}
 use Rattle.reading.specs.Table.{Lent, stateIn, segmentIn, messageSegmentIn, lentRows, table}
 use Rattle.reading.specs.Read.{reading, outcome, refusing, accepting}
-use Rattle.wire.proofs.Head.{one-type}
+use Rattle.wire.proofs.HeadLaws.{one-type}
 use Rattle.reading.proofs.Kept.{other-type}
 use Rattle.lists.specs.Each.{Each}
 use Rattle.lists.proofs.Tests.{both, by-test, _and_, chosen}

@@ -8,8 +8,8 @@ use lib.ListN.{length}
 use Rattle.lists.specs.Bytes.{written}
 use Rattle.tables.specs.Refusals.{RowOf, Leaves, Decides, none}
 use Rattle.answers.specs.Answers.{refused, SetupSaid, ready, setupRefused, AbandonSaid, closed, free, abandonRefused, wrote, writeRefused}
-use Rattle.wire.specs.declared.Parsed.{Parsed}
-use Rattle.wire.specs.declared.Parsed.the-variants.{Refused, Stream, Message}
+use Rattle.wire.specs.Parsed.{Parsed}
+use Rattle.wire.specs.Parsed.{Refused, Stream, Message}
 use Rattle.wire.specs.Type9.{segmentOf}
 use Rattle.wire.specs.Type11.{messageOf}
 use Rattle.wire.specs.Head.{is9, headRows}

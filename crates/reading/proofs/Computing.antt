@@ -9,7 +9,7 @@ use Rattle.wire.specs.Head.{headRows}
 use Rattle.wire.specs.Parsed.{parsed}
 use Rattle.sizes.specs.Sizes.{badMTU, pduLength, dataLength, bytesOf, inEights}
 use Rattle.responses.specs.Type13.{responseTo, answered}
-use Rattle.rules.specs.Segments.{malformed}
+use Rattle.rules.specs.Segments.{malformed, wrongForm}
 use Rattle.rules.specs.Messages.{reservedSize, badLength, pastLast, formRows}
 use Rattle.marks.specs.Marks.{marked, allMarked}
 use Rattle.contexts.specs.State.{isFreeStream, isFreeMessage, isOfFlow, isOfMessage, flowContext, freeStream, messageContext, freeMessage}
@@ -27,7 +27,7 @@ use Rattle.reading.specs.Read.{reading}
 unfoldable pub reads : Unit {0}
 unfolding written firstOf any rows joined verdict given
     sameFlow segmentAt segmentOf messageOf headRows parsed badMTU pduLength dataLength bytesOf inEights responseTo answered
-    malformed reservedSize badLength pastLast formRows
+    malformed wrongForm reservedSize badLength pastLast formRows
     marked allMarked isFreeStream isFreeMessage isOfFlow isOfMessage flowContext freeStream messageContext freeMessage stateOf wordsOf
     badRoom badStream badLast badMarks badMessage namedBy19
     streamRooms.placed stream.accepted stream.refusedClosing missized notOpen passesRoom noneFree lengthDiffers streamRows

@@ -6,14 +6,14 @@ use mathlib.Core.Bool.{_||_}
 use native.Mathlib.Omega.{arith}
 use lib.ListN.{length, getD}
 use Rattle.lists.proofs.Tests.{by-test, neither}
-use Rattle.wire.specs.declared.Segment.{Segment}
+use Rattle.wire.specs.Segment.{Segment}
 use Rattle.wire.specs.declared.MessageSegment.{MessageSegment}
-use Rattle.wire.specs.declared.Parsed.the-variants.{Stream, Message}
+use Rattle.wire.specs.Parsed.{Stream, Message}
 use Rattle.wire.specs.Packet.{header}
 use Rattle.wire.specs.Type9.{isS, isE, segmentAt, segmentOf}
 use Rattle.wire.specs.Type11.{messageOf}
 use Rattle.wire.specs.Parsed.{parsed}
-use Rattle.wire.proofs.Head.{with-field, without-field, whole-head, whole-field, stream-passed, message-passed}
+use Rattle.wire.proofs.HeadLaws.{with-field, without-field, whole-head, whole-field, stream-passed, message-passed}
 
 -- a type 9 packet's data end with it
 abbrev pub Lies : List ℕ → Segment → Type 0

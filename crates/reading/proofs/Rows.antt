@@ -11,11 +11,11 @@ use Rattle.tables.specs.Refusals.{Row, Leaves, all, flowClosed, allERROR, allRE
 use Rattle.tables.proofs.Exactly.{every-row, none-held}
 use Rattle.tables.proofs.Joined.{orElse, verdict-joined, joined-refuses, first-given, second-given}
 use Rattle.tables.proofs.Cases.{by-row, carried}
-use Rattle.wire.specs.declared.Parsed.{Parsed}
-use Rattle.wire.specs.declared.Parsed.the-variants.{Refused, Stream, Message}
+use Rattle.wire.specs.Parsed.{Parsed}
+use Rattle.wire.specs.Parsed.{Refused, Stream, Message}
 use Rattle.wire.specs.Parsed.{parsedBy, parsed}
 use Rattle.wire.specs.Head.{is9, is11, headRows}
-use Rattle.wire.proofs.Head.{one-type, other-type}
+use Rattle.wire.proofs.HeadLaws.{one-type, other-type}
 use Rattle.responses.specs.Type13.{ERROR, RETRY}
 use Rattle.rules.specs.Messages.{formRows}
 use Rattle.contexts.specs.Words.{stateWords}

@@ -1,7 +1,6 @@
 // Reading one packet, for a state and memories that rows 19 and 12 of the refusal table have passed; and row 12's test.
 use answers::Answer;
 use answers::Reading;
-use wire::Parsed;
 ghost use mathlib.Core.Path.{_≡_};
 ghost use mathlib.Core.Bool.{false};
 ghost use lib.ListN.{length};
@@ -73,25 +72,23 @@ pub fn step(
     ensures { λ r. ⌜ ReadPromise (lent (desk (now (state .entry)) (now («stream_memory» .entry)) (now («message_memory» .entry)) (now (response .entry))) (now (packet .entry)))
         r (desk (now (state .exit)) (now («stream_memory» .exit)) (now («message_memory» .exit)) (now (response .exit))) ⌝ }
 {
-    let device = contexts::device(state);
-    match wire::parse(packet, device) {
-        Parsed::Refused(number) => refused(number),
-        Parsed::Stream(g) => {
-            let told = streams::step(state, stream_memory, packet, g);
-            let answer = told.answer;
-            Reading {
-                answer,
-                dropped: told.dropped,
-                response: 0,
-            }
-        }
-        Parsed::Message(m) => {
-            let answer = messages::step(state, message_memory, response, packet, m);
-            Reading {
-                answer,
-                dropped: false,
-                response: responses::SIZE,
-            }
-        }
+    let kind = wire::head(packet, contexts::device(state));
+    if kind < 9 {
+        return refused(kind);
+    }
+    if kind == 9 {
+        let told = streams::step(state, stream_memory, packet);
+        let answer = told.answer;
+        return Reading {
+            answer,
+            dropped: told.dropped,
+            response: 0,
+        };
+    }
+    let answer = messages::step(state, message_memory, response, packet);
+    Reading {
+        answer,
+        dropped: false,
+        response: responses::SIZE,
     }
 }

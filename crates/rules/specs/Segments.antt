@@ -2,16 +2,20 @@
 use Prim.Native.Nat.{ℕ, _/_, _%_}
 use mathlib.Core.Bool.{Bool, cond, not, _||_, _&&_}
 use lib.Dec.{eqb, ltb}
-use Rattle.wire.specs.declared.Segment.{Segment}
+use Rattle.wire.specs.Segment.{Segment}
 use Rattle.sizes.specs.Sizes.{pduLength}
 
--- O=1 exactly if the number of half-words is odd
-abbrev pub wrongO : Segment → Bool
-wrongO g = cond (eqb (g .raw / 2 % 2) 1) (not (g .odd)) (g .odd)
+-- O=1 exactly if the number of half-words is odd, for `raw` bytes
+abbrev pub wrongO : ℕ → Bool → Bool
+wrongO raw odd = cond (eqb (raw / 2 % 2) 1) (not odd) odd
 
--- 6: no data, odd bytes of data, or O wrong
+-- no data, odd bytes of data, or O wrong
+unfoldable pub wrongForm : ℕ → Bool → Bool
+wrongForm raw odd = eqb raw 0 || eqb (raw % 2) 1 || wrongO raw odd
+
+-- 6: for a segment's bytes, with the pad
 unfoldable pub malformed : Segment → Bool
-malformed g = eqb (g .raw) 0 || eqb (g .raw % 2) 1 || wrongO g
+malformed g = wrongForm (g .raw) (g .odd)
 
 -- 7, for n bytes of data: start or continuation not MTU data bytes (pad not counted); end or single over MTU
 abbrev pub wrongSize : Bool → ℕ → ℕ → Bool

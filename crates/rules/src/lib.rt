@@ -1,49 +1,36 @@
 // Rules that judge a packet by itself: rows 6, 7 and 20 to 22 of the refusal table, and what a length or a mailbox must be.
 use wire::MessageSegment;
-use wire::Segment;
 ghost use mathlib.Core.Path.{_≡_};
 ghost use Prim.Native.Nat.{_<_};
 ghost use Rattle.wire.specs.Type11.{isLast, mailbox};
-ghost use Rattle.rules.specs.Segments.{malformed, wrongSize, wrongLength};
+ghost use Rattle.wire.specs.Packet.{bit};
+ghost use Rattle.rules.specs.Segments.{wrongForm, wrongSize};
 ghost use Rattle.rules.specs.Messages.{badLength, judged, lastWith};
 
-// Row 6.
-pub fn is_malformed(g: Segment) -> bool
-    ensures { λ r. ⌜ r ≡ malformed g ⌝ }
+// Row 6, for `raw` bytes with the pad: none, an odd number, or O is not that of their half-words.
+pub fn is_wrong_form(raw: usize, flags: usize) -> bool
+    ensures { λ r. ⌜ r ≡ wrongForm raw (bit flags 2) ⌝ }
 {
-    if g.raw == 0 {
+    if raw == 0 {
         return true;
     }
-    if g.raw % 2 == 1 {
+    if raw % 2 == 1 {
         return true;
     }
-    if g.raw / 2 % 2 == 1 {
-        if g.odd {
-            return false;
-        }
-        return true;
-    }
-    g.odd
+    raw / 2 % 2 != flags / 2 % 2
 }
 
-// Row 7, for n bytes of data.
-pub fn is_missized(end: bool, n: usize, mtu: usize) -> bool
-    ensures { λ r. ⌜ r ≡ wrongSize end n mtu ⌝ }
+// Row 7, for n bytes of data: over MTU is wrong of every segment, under it where E is not set.
+pub fn is_wrong_size(flags: usize, n: usize, mtu: usize) -> bool
+    ensures { λ r. ⌜ r ≡ wrongSize (bit flags 64) n mtu ⌝ }
 {
-    if end {
-        return mtu < n;
+    if mtu < n {
+        return true;
     }
-    n != mtu
-}
-
-// Row 11, for n bytes in all.
-pub fn length_differs(g: Segment, n: usize) -> bool
-    ensures { λ r. ⌜ r ≡ wrongLength g n ⌝ }
-{
-    if g.ends {
-        return n != sizes::pdu_length(g.field);
+    if n == mtu {
+        return false;
     }
-    false
+    flags / 64 % 2 == 0
 }
 
 // Whether a segment is its message's last, or only one.

@@ -13,14 +13,14 @@ use Rattle.lists.proofs.Tests.{_and_}
 use Rattle.tables.specs.Refusals.{none}
 use Rattle.wire.specs.Packet.{header, packetType, destination, tt as ttOf}
 use Rattle.wire.specs.declared.Flow.{Flow}
-use Rattle.wire.specs.declared.Segment.{Segment}
-use Rattle.wire.specs.declared.Parsed.the-variants.{Stream}
+use Rattle.wire.specs.Segment.{Segment}
+use Rattle.wire.specs.Parsed.{Stream}
 use Rattle.wire.specs.Type9.{segmentAt, segmentOf}
 use Rattle.sizes.specs.Sizes.{badMTU, dataLength}
 use Rattle.wire.specs.Head.{under, is9, headRows}
 use Rattle.wire.specs.Parsed.{parsed}
-use Rattle.wire.proofs.Head.{with-field, without-field, is-stream}
-use Rattle.rules.specs.Segments.{malformed}
+use Rattle.wire.proofs.HeadLaws.{with-field, without-field, is-stream}
+use Rattle.rules.specs.Segments.{malformed, wrongForm}
 use Rattle.stream_rooms.specs.Placing as placing
 use Rattle.cutting.specs.declared.Heading.{Heading}
 use Rattle.cutting.specs.Cutting.{segmentCount, segmentData, isFirst, isFinal, padOf, flagsOf, fieldOf, packetOf}
@@ -67,7 +67,7 @@ cut-length flow first final stream size n = go (eqb (n % 2) 1) refl
 
 -- row 6 passes it
 pub cut-well-formed : (flow : Flow) (first final : Bool) (stream size n : ℕ) → 0 < n → malformed (cutSegment flow first final stream size n) ≡ false
-unfolding malformed
+unfolding malformed wrongForm
 cut-well-formed flow first final stream size n some =
     let half : (n + n % 2) / 2 ≡ (n + 1) / 2 = omega arith in
     rw (ne-eqb (n + n % 2) 0 (λ e. omega arith), ne-eqb ((n + n % 2) % 2) 1 (λ e. omega arith), half) (go (eqb ((n + 1) / 2 % 2) 1))

@@ -10,8 +10,8 @@ use borrow.Author.Tests.{ltb-true, leb-true, not-true}
 use Rattle.lists.specs.Each.{Each}
 use Rattle.lists.proofs.Tests.{both}
 use Rattle.lists.proofs.Below.{below, below-at, are-bytes}
-use Rattle.wire.specs.declared.Parsed.{Parsed}
-use Rattle.wire.specs.declared.Parsed.the-variants.{Refused, Stream, Message}
+use Rattle.wire.specs.Parsed.{Parsed}
+use Rattle.wire.specs.Parsed.{Refused, Stream, Message}
 use Rattle.wire.specs.Parsed.{parsed}
 use Rattle.contexts.specs.State.{Setup}
 use Rattle.sending.specs.Sending.{Sent, losses, isWhole, FlowSent, Turn, next, between, Sending, FairPDU, FairFlow, FairTurn, OneOfTwoWhole, Fair}

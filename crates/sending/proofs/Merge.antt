@@ -7,8 +7,8 @@ use mathlib.Core.Bool.{Bool, true, false, cond, _||_, false≢true}
 use mathlib.Core.Option.{Option, none}
 use lib.ListN.{take}
 use Rattle.wire.specs.declared.Flow.{Flow}
-use Rattle.wire.specs.declared.Parsed.{Parsed}
-use Rattle.wire.specs.declared.Parsed.the-variants.{Refused, Stream, Message}
+use Rattle.wire.specs.Parsed.{Parsed}
+use Rattle.wire.specs.Parsed.{Refused, Stream, Message}
 use Rattle.wire.specs.Type9.{sameFlow}
 use Rattle.wire.specs.Parsed.{parsed}
 use Rattle.contexts.specs.State.{Setup}
@@ -22,7 +22,7 @@ use Rattle.lists.specs.First.{any}
 use Rattle.sending.specs.Sending.{Put, flowPuts, FlowSent, Turn, next, between, sentOn, flowsOf, Event, came, nextEvent}
 use Rattle.sending.specs.Sending.{advance, events, queues, packetsLeft, tell, wholes, whole, FairFlow, FairTurn, OneOfTwoWhole}
 use Rattle.sending.specs.OneFlow.{packetStep, deliveredPDU}
-use Rattle.flows.proofs.Flows.{same-true}
+use Rattle.contexts.proofs.Flows.{same-true}
 use Rattle.sending.specs.OfSendings.{DeliveredIsWhole, DeliveredIsWholeAnyLoss, firstTurns, DeliveredAtEveryTurn, SamePacketsSameWhole}
 use Rattle.sending.proofs.OneFlow.{afterPut, Good, one-flow}
 use Rattle.sending.proofs.Rooms.{carried}

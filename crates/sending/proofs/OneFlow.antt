@@ -12,7 +12,7 @@ use lib.Seq.{length-take-le}
 use borrow.Author.Tests.{eqb-true, eqb-false}
 use Rattle.lists.specs.Bytes.{AreBytes}
 use Rattle.wire.specs.declared.Flow.{Flow}
-use Rattle.wire.specs.declared.Parsed.the-variants.{Stream}
+use Rattle.wire.specs.Parsed.{Stream}
 use Rattle.wire.specs.Type9.{segmentOf}
 use Rattle.wire.specs.Parsed.{parsed}
 use Rattle.cutting.specs.Cutting.{segmentData, isFinal, packetOf}

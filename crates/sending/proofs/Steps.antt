@@ -17,8 +17,8 @@ use Rattle.wire.specs.declared.Flow.{Flow}
 use Rattle.wire.specs.Type9.{segmentOf}
 use Rattle.sizes.specs.Sizes.{badMTU}
 use Rattle.sizes.proofs.Laws.{mtu-fits}
-use Rattle.wire.specs.declared.Segment.{Segment}
-use Rattle.wire.specs.declared.Parsed.the-variants.{Stream}
+use Rattle.wire.specs.Segment.{Segment}
+use Rattle.wire.specs.Parsed.{Stream}
 use Rattle.wire.specs.Parsed.{parsed}
 use Rattle.stream_rooms.specs.Placing as placing
 use Rattle.cutting.specs.Cutting.{segmentCount, segmentData, isFirst, isFinal, packetOf}

@@ -8,8 +8,8 @@ use lib.Dec.{eqb}
 use Rattle.lists.specs.Bytes.{byte, AreBytes}
 use Rattle.wire.specs.Packet as packet
 use Rattle.wire.specs.declared.Flow.{Flow}
-use Rattle.wire.specs.declared.Segment.{Segment}
-use Rattle.wire.specs.declared.Parsed.the-variants.{Stream}
+use Rattle.wire.specs.Segment.{Segment}
+use Rattle.wire.specs.Parsed.{Stream}
 use Rattle.wire.specs.Type9.{flags}
 use Rattle.sizes.specs.Sizes.{badMTU, dataLength, pduLength}
 use Rattle.wire.specs.Parsed.{parsed}

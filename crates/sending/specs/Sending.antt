@@ -9,8 +9,8 @@ use lib.Dec.{eqb}
 use Rattle.lists.specs.Bytes.{AreBytes}
 use Rattle.lists.specs.Each.{Each}
 use Rattle.wire.specs.declared.Flow.{Flow}
-use Rattle.wire.specs.declared.Segment.{Segment}
-use Rattle.wire.specs.declared.Parsed.the-variants.{Stream}
+use Rattle.wire.specs.Segment.{Segment}
+use Rattle.wire.specs.Parsed.{Stream}
 use Rattle.wire.specs.Type9.{sameFlow}
 use Rattle.wire.specs.Parsed.{parsed}
 use Rattle.contexts.specs.State.{Setup, streamContexts}

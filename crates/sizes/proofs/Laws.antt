@@ -1,16 +1,17 @@
 -- Laws of MTUs, of ssize codes and of lengths in eights.
-use Prim.Native.Nat.{ℕ, zero, suc, _≤_, _<_, _%_}
+use Prim.Native.Nat.{ℕ, zero, suc, _≤_, _<_, _-_, _/_, _%_}
 use mathlib.Core.Path.{_≡_, refl, ap}
 use mathlib.Core.List.{List, [], _∷_, _++_}
 use mathlib.Core.Bool.{true, false, not, _||_}
 use native.Mathlib.Omega.{arith}
 use lib.Dec.{ltb, leb, eqb}
-use native.Mathlib.Decide.{decLt}
+use native.Mathlib.Decide.{decLt, ℕ-discrete}
 use lib.ListN.{getD, replicate, List·getD-eq-default}
-use borrow.Author.Tests.{ltb-false, leb-true}
+use borrow.Author.Tests.{ltb-false, leb-true, eq-eqb, ne-eqb}
 use Rattle.lists.proofs.Tests.{neither, both}
 use Rattle.lists.proofs.Below.{below, below-at}
-use Rattle.sizes.specs.Sizes.{badMTU, ssizes, bytesOf, inEights}
+use Rattle.wire.specs.Packet.{bit}
+use Rattle.sizes.specs.Sizes.{badMTU, withoutPad, ssizes, bytesOf, inEights}
 
 -- an MTU that 18 does not refuse
 pub mtu-fits : (mtu : ℕ) → badMTU mtu ≡ false → (32 ≤ mtu) × (mtu ≤ 256)
@@ -44,3 +45,11 @@ bytes-le code = omega (arith, below-at 257 ssizes code (omega arith) refl)
 pub eights-le : (n size : ℕ) → inEights n size ≡ true → n ≤ size
 unfolding inEights
 eights-le n size e = leb-true n size (both (leb n size) (eqb (n % 8) 0) (both (leb 8 n) _ e .1) .0)
+
+-- P is the lowest bit of the flags
+pub pad-taken : (raw flags : ℕ) → raw - flags % 2 ≡ withoutPad raw (bit flags 1)
+pad-taken raw flags = go (ℕ-discrete (flags / 1 % 2) 1)
+  where
+    go : Dec (flags / 1 % 2 ≡ 1) → raw - flags % 2 ≡ withoutPad raw (bit flags 1)
+    go (yes e) = rw (eq-eqb (flags / 1 % 2) 1 e) (omega arith)
+    go (no e) = rw (ne-eqb (flags / 1 % 2) 1 e) (omega arith)

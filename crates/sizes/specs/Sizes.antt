@@ -4,7 +4,7 @@ use mathlib.Core.List.{List, [], _∷_}
 use mathlib.Core.Bool.{Bool, cond, not, _||_, _&&_}
 use lib.ListN.{getD}
 use lib.Dec.{eqb, ltb, leb}
-use Rattle.wire.specs.declared.Segment.{Segment}
+use Rattle.wire.specs.Segment.{Segment}
 
 -- an MTU that is no multiple of 4 from 32 to 256 (document 01, 'Cutting and joining PDUs'; 004, the MTU register)
 unfoldable pub badMTU : ℕ → Bool
@@ -14,9 +14,13 @@ badMTU mtu = ltb mtu 32 || ltb 256 mtu || not (eqb (mtu % 4) 0)
 unfoldable pub pduLength : ℕ → ℕ
 pduLength n = cond (eqb n 0) 65536 n
 
+-- so many bytes without the pad byte, where there is one
+abbrev pub withoutPad : ℕ → Bool → ℕ
+withoutPad raw pad = cond pad (raw - 1) raw
+
 -- the data without the pad byte
 unfoldable pub dataLength : Segment → ℕ
-dataLength g = cond (g .pad) (g .raw - 1) (g .raw)
+dataLength g = withoutPad (g .raw) (g .pad)
 
 -- the bytes that an ssize code means; 0: reserved
 abbrev pub ssizes : List ℕ

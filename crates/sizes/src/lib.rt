@@ -1,8 +1,8 @@
 // Sizes that a packet or a setup may have, and what a field says of one. No state.
-use wire::Segment;
 ghost use mathlib.Core.Path.{_≡_};
 ghost use Prim.Native.Nat.{_<_};
-ghost use Rattle.sizes.specs.Sizes.{badMTU, pduLength, dataLength, bytesOf, inEights};
+ghost use Rattle.wire.specs.Packet.{bit};
+ghost use Rattle.sizes.specs.Sizes.{badMTU, pduLength, withoutPad, bytesOf, inEights};
 
 // Whether an MTU is no multiple of 4 from 32 to 256.
 pub fn bad_mtu(mtu: usize) -> bool
@@ -27,15 +27,12 @@ pub fn pdu_length(field: usize) -> usize
     field
 }
 
-// The bytes of a segment's data, the pad not counted. Row 6 has refused a segment without data.
-pub fn data_length(g: Segment) -> usize
-    requires { ⌜ 0 < g .raw ⌝ }
-    ensures { λ r. ⌜ r ≡ dataLength g ⌝ }
+// The bytes of a segment's data, the pad not counted: P is the lowest bit. Row 6 has refused a segment without data.
+pub fn data_length(raw: usize, flags: usize) -> usize
+    requires { ⌜ 0 < raw ⌝ }
+    ensures { λ r. ⌜ r ≡ withoutPad raw (bit flags 1) ⌝ }
 {
-    if g.pad {
-        return g.raw - 1;
-    }
-    g.raw
+    raw - flags % 2
 }
 
 // The bytes that an ssize code means; 0 where it is reserved or no code.

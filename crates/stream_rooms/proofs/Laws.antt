@@ -1,19 +1,24 @@
 -- Laws of a context's room: where it ends, and what a store and a context put make of it.
 use Prim.Native.Nat.{ℕ, _≤_, _<_, _+_, _-_, _*_}
-use mathlib.Core.Path.{_≡_, ap, sym}
+use mathlib.Core.Path.{_≡_, ap, sym, subst, subst₂, _∙_}
 use mathlib.Core.List.{List}
-use mathlib.Core.Bool.{Bool}
+use mathlib.Core.Bool.{Bool, true, false, _||_}
 use native.Mathlib.Omega.{arith}
-use native.Mathlib.Nat.{suc-mul, mul-le-mul-right}
+use native.Mathlib.Nat.{zero-add, suc-mul, mul-le-mul-right}
 use lib.ListN.{length, take, drop}
 use lib.Seq.{set-out}
-use Rattle.lists.specs.Bytes.{written}
-use Rattle.answers.specs.Answers.{Said}
-use Rattle.wire.specs.declared.Segment.{Segment}
+use Rattle.lists.specs.Bytes.{word, written}
+use Rattle.answers.specs.Answers.{Said, held}
+use Rattle.wire.specs.declared.Flow.{Flow}
+use Rattle.wire.specs.Segment.{Segment}
+use Rattle.wire.specs.Packet.{header, bit}
+use Rattle.wire.specs.Type9.{flags, isS, isE, segmentOf}
+use Rattle.wire.proofs.Fields.{begins-is, ends-is, field-is, from-field}
+use Rattle.sizes.specs.Sizes.{dataLength}
 use Rattle.contexts.specs.declared.StreamContext.{StreamContext}
-use Rattle.contexts.specs.State.{State, withStream, closedStream, streamContexts}
-use Rattle.stream_rooms.specs.Placing.{joining, placed}
-use Rattle.stream_rooms.specs.Inside.{Kept, Fits}
+use Rattle.contexts.specs.State.{State, withStream, closedStream, openStream, streamContexts}
+use Rattle.stream_rooms.specs.Placing.{joining, placed, dataOf}
+use Rattle.stream_rooms.specs.Inside.{Delivering, Fits}
 
 -- room n ends inside the memory
 pub room-ends : (n base count room : ℕ) → n < streamContexts → base + count ≤ room → n * room + base + count ≤ streamContexts * room
@@ -26,12 +31,56 @@ put-nowhere s n z h =
     (sym (set-out (s .streams) n closedStream (omega arith)))
 
 -- the store and the context make the placing
-pub placing : (s : State) (memory after p : List ℕ) (g : Segment) (n base stream count : ℕ) (gave : Bool) (says : Said) (dropped : Bool) (state : State)
-    → Fits s g n base count
-    → Kept s n g stream (base + count) gave says dropped state
-    → after ≡ written memory (n * s .setup .room + base) (take (g .from + count - g .from) (drop (g .from) p))
-    → joining says dropped state after ≡ placed s memory p g n base stream gave
-unfolding placed
-placing s memory after p g n base stream count gave says dropped state f k m =
-    let same : g .from + count - g .from ≡ count = omega arith in
-    rw (k .answer, k .drop, k .state, m, same, f .size)
+module _ (s : State) (memory after p : List ℕ) (g : Segment) (n base stream count : ℕ) (f : Fits s g n base count)
+    (m : after ≡ written memory (n * s .setup .room + base) (dataOf p g)) (gave : Bool) where
+  pub ended : {flow : Flow} {says : Said} {dropped : Bool} {state : State} → g .ends ≡ true → flow ≡ g .flow → Delivering s n flow stream (base + count) gave says dropped state
+      → joining says dropped state after ≡ placed s memory p g n base stream gave
+  unfolding placed
+  ended e w k = rw (k .answer, k .drop, k .state, m, w, f .size, e)
+
+  pub kept : {flow : Flow} {state : State} → g .ends ≡ false → flow ≡ g .flow → state ≡ withStream s n (openStream flow stream (base + count))
+      → joining held gave state after ≡ placed s memory p g n base stream gave
+  unfolding placed
+  kept e w k = rw (k, m, w, f .size, e)
+
+-- the same delivery by another name of its streamID
+pub of-stream : {s : State} {n i j total : ℕ} {flow : Flow} {gave dropped : Bool} {says : Said} {state : State}
+    → i ≡ j → Delivering s n flow i total gave says dropped state → Delivering s n flow j total gave says dropped state
+of-stream {s} {n} {i} {j} {total} {flow} {gave} {dropped} {says} {state} e d = subst (λ (k : ℕ). Delivering s n flow k total gave says dropped state) e d
+
+-- what the leaf stores is the data
+pub stored : (memory after p : List ℕ) (s : State) (g : Segment) {n base count room from : ℕ} → Fits s g n base count → room ≡ s .setup .room → from ≡ g .from
+    → after ≡ written memory (n * room + base) (take (from + count - from) (drop from p))
+    → after ≡ written memory (n * s .setup .room + base) (dataOf p g)
+stored memory after p s g {n} {base} {count} {room} {from} f r w e =
+    let same : from + count - from ≡ dataLength g = omega (arith, f .size) in
+    e ∙ rw (same, r, w)
+
+-- E, as the code has it
+pub ends-by : (p : List ℕ) {byte-6 : ℕ} {r b : Bool} → byte-6 ≡ flags p → r ≡ bit byte-6 64 → r ≡ b → segmentOf p .ends ≡ b
+ends-by p w t e = ends-is p ∙ rw (← w) (sym t ∙ e)
+
+-- a start or single has a field: 9 bytes at least, of which two are the streamID
+module _ (p : List ℕ) (t : segmentOf p .begins ≡ true) where
+  fielded : (isS p || isE p) ≡ true
+  fielded = rw (sym (begins-is p) ∙ t)
+
+  pub start-from : segmentOf p .from ≡ header + 4
+  start-from = from-field p fielded
+
+  pub start-field : {stream : ℕ} → stream ≡ word p (header + 2) → stream ≡ segmentOf p .field
+  start-field e = e ∙ sym (field-is p fielded)
+
+-- from its beginning
+module _ (s : State) (memory after p : List ℕ) (g : Segment) (n count : ℕ) (f : Fits s g n 0 count)
+    (m : after ≡ written memory (n * s .setup .room + 0) (dataOf p g)) (gave : Bool) {stream : ℕ} (w : stream ≡ g .field) where
+  all : count ≡ 0 + count
+  all = sym (zero-add count)
+
+  pub single : {flow : Flow} {says : Said} {dropped : Bool} {state : State} → g .ends ≡ true → flow ≡ g .flow → Delivering s n flow stream count gave says dropped state
+      → joining says dropped state after ≡ placed s memory p g n 0 (g .field) gave
+  single {flow} {says} {dropped} {state} e v k = ended s memory after p g n 0 (g .field) count f m gave e v (subst₂ (λ (i t : ℕ). Delivering s n flow i t gave says dropped state) w all k)
+
+  pub start : {flow : Flow} {state : State} → g .ends ≡ false → flow ≡ g .flow → state ≡ withStream s n (openStream flow stream count)
+      → joining held gave state after ≡ placed s memory p g n 0 (g .field) gave
+  start {flow} {state} e v k = kept s memory after p g n 0 (g .field) count f m gave e v (subst₂ (λ (i t : ℕ). state ≡ withStream s n (openStream flow i t)) w all k)

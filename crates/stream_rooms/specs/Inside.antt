@@ -5,13 +5,14 @@ use mathlib.Core.List.{List}
 use mathlib.Core.Bool.{Bool, false}
 use lib.ListN.{length}
 use lib.Dec.{ltb}
-use Rattle.answers.specs.Answers.{Said, refused}
-use Rattle.wire.specs.declared.Segment.{Segment}
+use Rattle.answers.specs.Answers.{Said, delivered, refused}
+use Rattle.wire.specs.declared.Flow.{Flow}
+use Rattle.wire.specs.Segment.{Segment}
+use Rattle.wire.specs.Type9.{flags, segmentOf}
 use Rattle.sizes.specs.Sizes.{dataLength}
-use Rattle.contexts.specs.State.{State, withStream, closedStream, streamContexts}
+use Rattle.contexts.specs.State.{State, streamIn, withStream, closedStream, streamContexts}
 use Rattle.contexts.specs.Words.{stateOf, stateWords}
 use Rattle.refusal19.specs.Refusal19.{namedBy19}
-use Rattle.stream_rooms.specs.Placing.{answerAt, contextAt}
 
 -- what every step may rely on: words of a state that 19 does not name, the stream memory's size, data inside the packet
 pub record Ready (words memory packet : List ℕ) (g : Segment) : Type 0 where
@@ -26,11 +27,17 @@ pub record Closing (s : State) (found number : ℕ) (says : Said) (dropped : Boo
   pub drop : dropped ≡ ltb found streamContexts
   pub state : after ≡ withStream s found closedStream
 
--- context n delivered or kept with `count` bytes
-pub record Kept (s : State) (n : ℕ) (g : Segment) (stream count : ℕ) (gave : Bool) (says : Said) (dropped : Bool) (after : State) : Type 0 where
-  pub answer : says ≡ answerAt g n stream count
+-- what the code has read of a type 9 packet: byte 6, where the data begin, and the flow
+pub record Fields (p : List ℕ) (byte-6 from : ℕ) (flow : Flow) : Type 0 where
+  pub flag-bits : byte-6 ≡ flags p
+  pub data-from : from ≡ segmentOf p .from
+  pub sender : flow ≡ segmentOf p .flow
+
+-- the PDU of context n delivered, and the context freed
+pub record Delivering (s : State) (n : ℕ) (flow : Flow) (stream total : ℕ) (gave : Bool) (says : Said) (dropped : Bool) (after : State) : Type 0 where
+  pub answer : says ≡ delivered n flow stream total
   pub drop : dropped ≡ gave
-  pub state : after ≡ withStream s n (contextAt g stream count)
+  pub state : after ≡ withStream s n closedStream
 
 -- the segment's data fit behind `base` bytes of room n
 pub record Fits (s : State) (g : Segment) (n base count : ℕ) : Type 0 where
@@ -38,3 +45,9 @@ pub record Fits (s : State) (g : Segment) (n base count : ℕ) : Type 0 where
   pub size : count ≡ dataLength g
   pub within : count ≤ g .raw
   pub behind : base + count ≤ s .setup .room
+
+-- a segment that goes on: in context n, which is its flow's, and whether it ends the PDU
+pub record GoesOn (s : State) (g : Segment) (n held count : ℕ) (isEnd : Bool) : Type 0 where
+  pub fits : Fits s g n held count
+  pub own : streamIn s n .flow ≡ g .flow
+  pub kind : g .ends ≡ isEnd

@@ -5,7 +5,7 @@ use mathlib.Core.Bool.{Bool, cond}
 use lib.ListN.{take, drop}
 use Rattle.lists.specs.Bytes.{written}
 use Rattle.answers.specs.Answers.{Said, held, delivered}
-use Rattle.wire.specs.declared.Segment.{Segment}
+use Rattle.wire.specs.Segment.{Segment}
 use Rattle.sizes.specs.Sizes.{dataLength}
 use Rattle.contexts.specs.declared.StreamContext.{StreamContext}
 use Rattle.contexts.specs.State.{State, withStream, closedStream, openStream}

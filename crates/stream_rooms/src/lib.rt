@@ -1,15 +1,18 @@
 // What a type 9 segment does to one context and its room: its data stored, the context kept, delivered or closed.
 use answers::Answer;
 use answers::StreamAnswer;
-use wire::Segment;
+use wire::Flow;
 ghost use mathlib.Core.Path.{_≡_};
-ghost use Prim.Native.Nat.{_<_, _≤_};
+ghost use mathlib.Core.Bool.{true, false};
+ghost use Prim.Native.Nat.{_+_, _*_, _<_, _≤_};
 ghost use lib.ListN.{length};
+ghost use Rattle.lists.specs.Bytes.{written};
 ghost use Rattle.answers.specs.Answers.{said};
 ghost use Rattle.contexts.specs.Words.{stateOf, stateWords};
-ghost use Rattle.contexts.specs.State.{streamContexts};
-ghost use Rattle.stream_rooms.specs.Placing.{joining, placed};
-ghost use Rattle.stream_rooms.specs.Inside.{Ready, Closing, Kept, Fits};
+ghost use Rattle.wire.specs.Type9.{segmentOf};
+ghost use Rattle.contexts.specs.State.{streamContexts, streamIn};
+ghost use Rattle.stream_rooms.specs.Placing.{joining, placed, dataOf};
+ghost use Rattle.stream_rooms.specs.Inside.{Ready, Closing, Fields, Delivering, Fits, GoesOn};
 
 // A refusal that closes the flow's context, where it has one. Every caller has tested the state, and `found` is what was found.
 pub fn refused_closing(state: &mut [usize], found: usize, number: usize) -> StreamAnswer
@@ -29,59 +32,118 @@ pub fn refused_closing(state: &mut [usize], found: usize, number: usize) -> Stre
     }
 }
 
-// Context n, which now holds `total` bytes of the PDU, is delivered by an end or single and kept by any other segment.
-fn keep(
+// The PDU of context n is delivered, `total` bytes of it, and the context freed.
+fn deliver(
     state: &mut [usize],
     n: usize,
-    g: Segment,
+    flow: Flow,
     stream: usize,
     total: usize,
     dropped: bool,
 ) -> StreamAnswer
     requires { ⌜ (n < streamContexts) × (length (now state) ≡ stateWords) ⌝ }
-    ensures { λ r. ⌜ Kept (stateOf (now (state .entry))) n g stream total dropped (said (r .answer)) (r .dropped) (stateOf (now (state .exit))) ⌝ }
+    ensures { λ r. ⌜ Delivering (stateOf (now (state .entry))) n flow stream total dropped (said (r .answer)) (r .dropped) (stateOf (now (state .exit))) ⌝ }
 {
-    let flow = g.flow;
-    if g.ends {
-        contexts::close_stream(state, n);
-        return StreamAnswer {
-            answer: Answer::Delivered {
-                context: n,
-                flow,
-                stream,
-                length: total,
-            },
-            dropped,
-        };
-    }
-    contexts::keep_stream(state, n, flow, stream, total);
+    contexts::close_stream(state, n);
     StreamAnswer {
-        answer: Answer::Held,
+        answer: Answer::Delivered {
+            context: n,
+            flow,
+            stream,
+            length: total,
+        },
         dropped,
     }
 }
 
 // The segment's `count` bytes of data go into room n behind `base` bytes: the part of the memory from there on is lent to the copying leaf.
 // Every caller has tested the state, the memory's size and that the data fit.
-pub fn place(
+fn store_data(
+    state: &[usize],
+    memory: &mut [u8],
+    packet: &[u8],
+    from: usize,
+    n: usize,
+    base: usize,
+    count: usize,
+)
+    requires { ⌜ Ready (now state) (now memory) (now packet) (segmentOf (now packet)) ⌝ }
+    requires { ⌜ (from ≡ segmentOf (now packet) .from) × Fits (stateOf (now state)) (segmentOf (now packet)) n base count ⌝ }
+    ensures { λ _. ⌜ now (memory .exit) ≡ written (now (memory .entry)) (n * stateOf (now (state .entry)) .setup .room + base) (dataOf (now (packet .entry)) (segmentOf (now (packet .entry)))) ⌝ }
+{
+    let to = from + count;
+    lists::store(memory, n * contexts::room(state) + base, &packet[from..to]);
+}
+
+// A PDU begins in room n: a start is held there, a single delivered.
+pub fn begin_room(
     state: &mut [usize],
     memory: &mut [u8],
     packet: &[u8],
-    g: Segment,
+    flags: usize,
+    from: usize,
+    flow: Flow,
     n: usize,
-    base: usize,
-    stream: usize,
     count: usize,
     dropped: bool,
 ) -> StreamAnswer
-    requires { ⌜ Ready (now state) (now memory) (now packet) g ⌝ }
-    requires { ⌜ Fits (stateOf (now state)) g n base count ⌝ }
+    requires { ⌜ Ready (now state) (now memory) (now packet) (segmentOf (now packet)) ⌝ }
+    requires { ⌜ (Fields (now packet) flags from flow) × (segmentOf (now packet) .begins ≡ true) × Fits (stateOf (now state)) (segmentOf (now packet)) n 0 count ⌝ }
     ensures { λ r. ⌜ joining (said (r .answer)) (r .dropped) (stateOf (now (state .exit))) (now (memory .exit))
-        ≡ placed (stateOf (now (state .entry))) (now (memory .entry)) (now (packet .entry)) g n base stream dropped ⌝ }
+        ≡ placed (stateOf (now (state .entry))) (now (memory .entry)) (now (packet .entry)) (segmentOf (now (packet .entry))) n 0 (segmentOf (now (packet .entry)) .field) dropped ⌝ }
 {
-    let room = contexts::room(state);
-    let from = g.from;
-    let to = from + count;
-    lists::store(memory, n * room + base, &packet[from..to]);
-    keep(state, n, g, stream, base + count, dropped)
+    store_data(state, memory, packet, from, n, 0, count);
+    let stream = lists::word_at(packet, wire::HEADER + 2);
+    if wire::bit(flags, 64) {
+        return deliver(state, n, flow, stream, count, dropped);
+    }
+    contexts::keep_stream(state, n, flow, stream, count);
+    StreamAnswer {
+        answer: Answer::Held,
+        dropped,
+    }
+}
+
+// A continuation: its data go behind the `held` bytes that the PDU has, and the context, which is the flow's own, holds them too.
+pub fn hold_room(
+    state: &mut [usize],
+    memory: &mut [u8],
+    packet: &[u8],
+    from: usize,
+    n: usize,
+    held: usize,
+    count: usize,
+) -> StreamAnswer
+    requires { ⌜ Ready (now state) (now memory) (now packet) (segmentOf (now packet)) ⌝ }
+    requires { ⌜ (from ≡ segmentOf (now packet) .from) × GoesOn (stateOf (now state)) (segmentOf (now packet)) n held count false ⌝ }
+    ensures { λ r. ⌜ joining (said (r .answer)) (r .dropped) (stateOf (now (state .exit))) (now (memory .exit))
+        ≡ placed (stateOf (now (state .entry))) (now (memory .entry)) (now (packet .entry)) (segmentOf (now (packet .entry))) n held (streamIn (stateOf (now (state .entry))) n .stream) false ⌝ }
+{
+    store_data(state, memory, packet, from, n, held, count);
+    contexts::hold(state, n, held + count);
+    StreamAnswer {
+        answer: Answer::Held,
+        dropped: false,
+    }
+}
+
+// An end: the PDU is whole with its data, and delivered.
+pub fn end_room(
+    state: &mut [usize],
+    memory: &mut [u8],
+    packet: &[u8],
+    from: usize,
+    flow: Flow,
+    n: usize,
+    held: usize,
+    count: usize,
+) -> StreamAnswer
+    requires { ⌜ Ready (now state) (now memory) (now packet) (segmentOf (now packet)) ⌝ }
+    requires { ⌜ (from ≡ segmentOf (now packet) .from) × (flow ≡ segmentOf (now packet) .flow) × GoesOn (stateOf (now state)) (segmentOf (now packet)) n held count true ⌝ }
+    ensures { λ r. ⌜ joining (said (r .answer)) (r .dropped) (stateOf (now (state .exit))) (now (memory .exit))
+        ≡ placed (stateOf (now (state .entry))) (now (memory .entry)) (now (packet .entry)) (segmentOf (now (packet .entry))) n held (streamIn (stateOf (now (state .entry))) n .stream) false ⌝ }
+{
+    store_data(state, memory, packet, from, n, held, count);
+    let stream = contexts::stream_of(state, n);
+    deliver(state, n, flow, stream, held + count, false)
 }

@@ -6,7 +6,7 @@ use mathlib.Core.Bool.{Bool, true, false, cond, _||_}
 use native.Mathlib.Omega.{arith}
 use lib.Dec.{eqb}
 use borrow.Author.Tests.{eqb-false, ltb-false}
-use Rattle.wire.specs.declared.Segment.{Segment}
+use Rattle.wire.specs.Segment.{Segment}
 use Rattle.sizes.specs.Sizes.{dataLength}
 use Rattle.contexts.specs.declared.StreamContext.{StreamContext}
 use Rattle.contexts.specs.State.{State, closedStream, openStream}
@@ -16,13 +16,13 @@ use Rattle.refusal19.proofs.Kept.{closed-stream, held-stream, stream-kept}
 use Rattle.stream_rooms.specs.Placing.{placed}
 use Rattle.streams.specs.Rows.{passesRoom, total}
 use Rattle.streams.specs.Joining.{accepted, refusedClosing, contextFor, streamID}
-use Rattle.rules.specs.Segments.{malformed, wrongO}
+use Rattle.rules.specs.Segments.{malformed, wrongForm, wrongO}
 
 -- row 6 passed: there is at least one byte besides a pad
 pub data-there : (g : Segment) → malformed g ≡ false → 0 < dataLength g
-unfolding malformed dataLength
+unfolding malformed wrongForm dataLength
 data-there g e =
-    let a = neither (eqb (g .raw) 0 || eqb (g .raw % 2) 1) (wrongO g) e in
+    let a = neither (eqb (g .raw) 0 || eqb (g .raw % 2) 1) (wrongO (g .raw) (g .odd)) e in
     let b = neither (eqb (g .raw) 0) (eqb (g .raw % 2) 1) (a .0) in
     go (g .pad) (eqb-false (g .raw) 0 (b .0)) (eqb-false (g .raw % 2) 1 (b .1))
   where

@@ -2,20 +2,24 @@
 use Prim.Native.Nat.{ℕ, _≤_, _<_, _+_, _-_, _%_}
 use mathlib.Core.Path.{_≡_, ap, ap₂, sym, _∙_}
 use mathlib.Core.List.{List}
-use mathlib.Core.Bool.{Bool, true, false, cond, not, _||_, _&&_}
+use mathlib.Core.Bool.{Bool, true, false, cond, not, _||_, _&&_, or-true}
 use native.Mathlib.Omega.{arith}
 use lib.Dec.{eqb, ltb}
 use lib.ListN.{length}
 use borrow.Author.Tests.{lt-ltb, le-ltb, eqb-false, eqb-true, ltb-false, not-false}
-use Rattle.lists.proofs.First.{first-le}
+use Rattle.lists.proofs.First.{first-le, first-passes}
 use Rattle.lists.proofs.Tests.{neither, _and_}
 use Rattle.tables.specs.Refusals.{none}
 use Rattle.tables.proofs.Cases.{by-row, by-end, whichever}
 use Rattle.answers.specs.Answers.{Said, refused}
-use Rattle.wire.specs.declared.Segment.{Segment}
-use Rattle.sizes.specs.Sizes.{dataLength}
-use Rattle.contexts.specs.declared.StreamContext.{StreamContext}
-use Rattle.contexts.specs.State.{State, streamContexts, streamIn, flowContext, freeStream}
+use Rattle.wire.specs.Segment.{Segment}
+use Rattle.lists.specs.Bytes.{word}
+use Rattle.wire.specs.Packet.{header, bit}
+use Rattle.wire.specs.Type9.{flags, isS, isE, segmentOf}
+use Rattle.wire.proofs.Fields.{begins-is, ends-is, odd-is, pad-is, raw-is, field-is, from-field}
+use Rattle.sizes.specs.Sizes.{dataLength, withoutPad, pduLength}
+use Rattle.contexts.specs.State.{State, streamContexts, streamIn, closedStream, isOfFlow, flowContext, freeStream}
+use Rattle.contexts.proofs.Flows.{of-flow}
 use Rattle.refusal19.specs.Refusal19.{namedBy19}
 use Rattle.refusal19.proofs.Good.{good, found-holds}
 use Rattle.stream_rooms.specs.Placing.{Joined, joining, placed}
@@ -23,7 +27,7 @@ use Rattle.stream_rooms.specs.Inside.{Closing, Fits}
 use Rattle.streams.specs.Rows.{foundFor, total, missized, notOpen, passesRoom, noneFree, lengthDiffers, streamRows}
 use Rattle.streams.specs.Joining.{accepted, refusedClosing, refusedStaying, streamRefusing, stepped}
 use Rattle.streams.specs.Inside.{Passed}
-use Rattle.rules.specs.Segments.{malformed, wrongO, wrongLength, wrongSize}
+use Rattle.rules.specs.Segments.{malformed, wrongForm, wrongO, wrongLength, wrongSize}
 
 -- the context found is one, or streamContexts
 pub found-le : (s : State) (g : Segment) → length (s .streams) ≡ streamContexts → foundFor s g ≤ streamContexts
@@ -41,9 +45,9 @@ data-le g = go (g .pad)
 
 -- row 6 passed: there are data
 pub some-data : (g : Segment) → malformed g ≡ false → 0 < g .raw
-unfolding malformed
+unfolding malformed wrongForm
 some-data g e =
-    let a = neither (eqb (g .raw) 0 || eqb (g .raw % 2) 1) (wrongO g) e in
+    let a = neither (eqb (g .raw) 0 || eqb (g .raw % 2) 1) (wrongO (g .raw) (g .odd)) e in
     let b = eqb-false (g .raw) 0 (neither (eqb (g .raw) 0) (eqb (g .raw % 2) 1) (a .0) .0) in
     omega arith
 
@@ -57,12 +61,19 @@ pub start-fits : (s : State) (g : Segment) {found count n : ℕ} → namedBy19 s
 start-fits s g e q h = record { context = h; size = q .size; within = q .within; behind = omega (arith, q .small, good s e .holds) }
 
 -- what the flow's context holds is at most R, and the data at most the MTU
-pub total-le : (s : State) (g : Segment) {found count : ℕ} {c : StreamContext} → namedBy19 s ≡ false → Passed s g found count → length (s .streams) ≡ streamContexts
-    → found < streamContexts → c ≡ streamIn s found → c .held + count ≤ 65792
+pub total-le : (s : State) (g : Segment) {found count held : ℕ} → namedBy19 s ≡ false → Passed s g found count → length (s .streams) ≡ streamContexts
+    → found < streamContexts → held ≡ streamIn s found .held → held + count ≤ 65792
 total-le s g e q z o own =
     let k = good s e in
     let inside : foundFor s g < length (s .streams) = rw (← q .flow, z) o in
-    omega (arith, ap (λ (c : StreamContext). c .held) own, ap (λ (n : ℕ). streamIn s n .held) (q .flow), found-holds s (g .flow) k inside .1, k .room, q .small, k .most)
+    omega (arith, own, ap (λ (n : ℕ). streamIn s n .held) (q .flow), found-holds s (g .flow) k inside .1, k .room, q .small, k .most)
+
+-- the context found is of the packet's flow
+pub own-flow : (s : State) (g : Segment) {found : ℕ} → found ≡ foundFor s g → length (s .streams) ≡ streamContexts → found < streamContexts → streamIn s found .flow ≡ g .flow
+unfolding flowContext
+own-flow s g f z o =
+    let inside : foundFor s g < length (s .streams) = rw (← f, z) o in
+    ap (λ (n : ℕ). streamIn s n .flow) f ∙ of-flow (g .flow) _ (first-passes (isOfFlow (g .flow)) (s .streams) closedStream inside)
 
 -- a closing refusal
 closing : (s : State) (memory : List ℕ) (g : Segment) {found number : ℕ} {says : Said} {dropped : Bool} {state : State}
@@ -76,15 +87,15 @@ module _ (s : State) (g : Segment) (t : g .begins ≡ false) {found count : ℕ}
   unfolding notOpen
   open-flow o = rw (t, ← q .flow, lt-ltb found streamContexts o)
 
-  module _ {c : StreamContext} (e : c ≡ streamIn s found) where
-    total-is : total s g ≡ c .held + count
+  module _ {held : ℕ} (e : held ≡ streamIn s found .held) where
+    total-is : total s g ≡ held + count
     total-is = ap (λ (b : Bool). cond b 0 (streamIn s (foundFor s g) .held) + dataLength g) t ∙ rw (← q .flow, ← e, ← q .size)
 
-    passes : {room : ℕ} → room ≡ s .setup .room → passesRoom s g ≡ ltb room (c .held + count)
+    passes : {room : ℕ} → room ≡ s .setup .room → passesRoom s g ≡ ltb room (held + count)
     unfolding passesRoom
     passes r = ap₂ ltb (sym r) total-is
 
-    differs : lengthDiffers s g ≡ wrongLength g (c .held + count)
+    differs : lengthDiffers s g ≡ wrongLength g (held + count)
     unfolding lengthDiffers
     differs = ap₂ (λ (b : Bool) (n : ℕ). not b && wrongLength g n) t total-is
 
@@ -178,18 +189,54 @@ module _ (s : State) (memory p : List ℕ) (g : Segment) where
     unfolding notOpen refusedStaying
     go-closed o = sym (continued ∙ rw (t, ← q .flow, le-ltb found streamContexts o))
 
-    module _ (o : found < streamContexts) {c : StreamContext} {room : ℕ} (e : c ≡ streamIn s found) (r : room ≡ s .setup .room) where
-      pub go-passes : {says : Said} {dropped : Bool} {state : State} → room < c .held + count → Closing s found 9 says dropped state → joining says dropped state memory ≡ stepped s memory p g
-      go-passes h k = closing s memory g (q .flow) k ∙ sym (continued ∙ rw (open-flow s g t q o, passes s g t q e r, lt-ltb room (c .held + count) h))
+    module _ (o : found < streamContexts) {held room : ℕ} (e : held ≡ streamIn s found .held) (r : room ≡ s .setup .room) where
+      pub go-passes : {says : Said} {dropped : Bool} {state : State} → room < held + count → Closing s found 9 says dropped state → joining says dropped state memory ≡ stepped s memory p g
+      go-passes h k = closing s memory g (q .flow) k ∙ sym (continued ∙ rw (open-flow s g t q o, passes s g t q e r, lt-ltb room (held + count) h))
 
-      module _ (h : c .held + count ≤ room) where
-        within : stepped s memory p g ≡ cond (wrongLength g (c .held + count)) (refusedClosing s memory g 11) (accepted s memory p g)
-        within = continued ∙ rw (open-flow s g t q o, passes s g t q e r, le-ltb room (c .held + count) h, differs s g t q e)
+      module _ (h : held + count ≤ room) where
+        within : stepped s memory p g ≡ cond (wrongLength g (held + count)) (refusedClosing s memory g 11) (accepted s memory p g)
+        within = continued ∙ rw (open-flow s g t q o, passes s g t q e r, le-ltb room (held + count) h, differs s g t q e)
 
-        pub go-differs : {says : Said} {dropped : Bool} {state : State} → wrongLength g (c .held + count) ≡ true → Closing s found 11 says dropped state
+        pub go-differs : {says : Said} {dropped : Bool} {state : State} → wrongLength g (held + count) ≡ true → Closing s found 11 says dropped state
             → joining says dropped state memory ≡ stepped s memory p g
         go-differs d k = closing s memory g (q .flow) k ∙ sym (within ∙ rw d)
 
-        pub go-placed : {j : Joined} → wrongLength g (c .held + count) ≡ false → j ≡ placed s memory p g found (c .held) (c .stream) false → j ≡ stepped s memory p g
+        pub go-placed : {j : Joined} → wrongLength g (held + count) ≡ false → j ≡ placed s memory p g found held (streamIn s found .stream) false → j ≡ stepped s memory p g
         unfolding accepted
         go-placed d k = k ∙ sym (within ∙ rw d (rw (t, ← q .flow, lt-ltb found streamContexts o, ← e)))
+
+-- ---- rows 6 to 8 by what the code has read of the packet
+
+module _ (p : List ℕ) {byte-6 from raw : ℕ} (w : byte-6 ≡ flags p) (f : from ≡ segmentOf p .from) (z : raw ≡ length p - from) where
+  pub raw-by : raw ≡ segmentOf p .raw
+  raw-by = z ∙ rw f (sym (raw-is p))
+
+  pub malformed-by : {r b : Bool} → r ≡ wrongForm raw (bit byte-6 2) → r ≡ b → malformed (segmentOf p) ≡ b
+  unfolding malformed
+  malformed-by t e = rw (odd-is p, ← raw-by, ← w) (sym t ∙ e)
+
+  pub data-by : {count : ℕ} → count ≡ withoutPad raw (bit byte-6 1) → count ≡ dataLength (segmentOf p)
+  unfolding dataLength
+  data-by t = t ∙ rw (pad-is p, ← raw-by, ← w)
+
+module _ (p : List ℕ) {byte-6 : ℕ} (w : byte-6 ≡ flags p) where
+  pub begins-by : {r b : Bool} → r ≡ bit byte-6 128 → r ≡ b → segmentOf p .begins ≡ b
+  begins-by t e = begins-is p ∙ rw (← w) (sym t ∙ e)
+
+  pub size-by : (n mtu : ℕ) {r b : Bool} → r ≡ wrongSize (bit byte-6 64) n mtu → r ≡ b → wrongSize (segmentOf p .ends) n mtu ≡ b
+  size-by n mtu t e = rw (ends-is p, ← w) (sym t ∙ e)
+
+-- an end has a field, and by it its length differs or not
+module _ (p : List ℕ) (e : segmentOf p .ends ≡ true) where
+  fielded : (isS p || isE p) ≡ true
+  fielded = rw (sym (ends-is p) ∙ e) (or-true (isS p))
+
+  pub end-from : segmentOf p .from ≡ header + 4
+  end-from = from-field p fielded
+
+  pub length-by : (n : ℕ) {field size : ℕ} {b : Bool} → field ≡ word p (header + 2) → size ≡ pduLength field → not (eqb n size) ≡ b → wrongLength (segmentOf p) n ≡ b
+  length-by n w z t = rw (e, field-is p fielded, ← w, ← z) t
+
+-- a continuation has none
+pub no-length : (g : Segment) (n : ℕ) → g .ends ≡ false → wrongLength g n ≡ false
+no-length g n e = rw e

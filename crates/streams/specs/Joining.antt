@@ -4,7 +4,7 @@ use mathlib.Core.List.{List}
 use mathlib.Core.Bool.{false, cond, _&&_}
 use Rattle.tables.specs.Refusals.{Leaves, all, flowClosed, allERROR, allRETRY, verdict, byVerdict}
 use Rattle.answers.specs.Answers.{refused}
-use Rattle.wire.specs.declared.Segment.{Segment}
+use Rattle.wire.specs.Segment.{Segment}
 use Rattle.contexts.specs.State.{State, streamIn, withStream, closedStream, freeStream}
 use Rattle.stream_rooms.specs.Placing.{Joined, joining, placed}
 use Rattle.streams.specs.Rows.{foundFor, flowOpen, heldBefore, streamRows}

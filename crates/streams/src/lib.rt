@@ -1,36 +1,58 @@
 // Type 9 packets from row 6 of the refusal table on, for a state that 19 does not name.
 use answers::Answer;
 use answers::StreamAnswer;
-use wire::Segment;
+use wire::Flow;
 ghost use mathlib.Core.Path.{_≡_};
 ghost use Rattle.answers.specs.Answers.{said};
+ghost use Rattle.wire.specs.Type9.{segmentOf};
 ghost use Rattle.contexts.specs.Words.{stateOf};
 ghost use Rattle.stream_rooms.specs.Placing.{joining};
-ghost use Rattle.stream_rooms.specs.Inside.{Ready};
+ghost use Rattle.stream_rooms.specs.Inside.{Ready, Fields};
 ghost use Rattle.streams.specs.Joining.{stepped};
-ghost use Rattle.streams.specs.Inside.{BeginsPDU, ContinuesPDU};
+ghost use Rattle.streams.specs.Inside.{BeginsPDU, ContinuesPDU, EndsPDU};
 
 // A start or single: the flow's own context from its beginning, else the lowest free one.
 fn begin(
     state: &mut [usize],
     memory: &mut [u8],
     packet: &[u8],
-    g: Segment,
+    flags: usize,
+    from: usize,
+    flow: Flow,
     found: usize,
     count: usize,
 ) -> StreamAnswer
-    requires { ⌜ Ready (now state) (now memory) (now packet) g ⌝ }
-    requires { ⌜ BeginsPDU (stateOf (now state)) g found count ⌝ }
+    requires { ⌜ Ready (now state) (now memory) (now packet) (segmentOf (now packet)) ⌝ }
+    requires { ⌜ (Fields (now packet) flags from flow) × BeginsPDU (stateOf (now state)) (segmentOf (now packet)) found count ⌝ }
     ensures { λ r. ⌜ joining (said (r .answer)) (r .dropped) (stateOf (now (state .exit))) (now (memory .exit))
-        ≡ stepped (stateOf (now (state .entry))) (now (memory .entry)) (now (packet .entry)) g ⌝ }
+        ≡ stepped (stateOf (now (state .entry))) (now (memory .entry)) (now (packet .entry)) (segmentOf (now (packet .entry))) ⌝ }
 {
-    let stream = g.field;
     if found < contexts::STREAM_CONTEXTS {
-        return stream_rooms::place(state, memory, packet, g, found, 0, stream, count, true);
+        return stream_rooms::begin_room(
+            state,
+            memory,
+            packet,
+            flags,
+            from,
+            flow,
+            found,
+            count,
+            true,
+        );
     }
     let free = finding::free_stream(state);
     if free < contexts::STREAM_CONTEXTS {
-        return stream_rooms::place(state, memory, packet, g, free, 0, stream, count, false);
+        return stream_rooms::begin_room(
+            state,
+            memory,
+            packet,
+            flags,
+            from,
+            flow,
+            free,
+            count,
+            false,
+        );
     }
     StreamAnswer {
         answer: Answer::Refused(10),
@@ -38,19 +60,43 @@ fn begin(
     }
 }
 
+// An end whose data fit behind the `held` bytes of the flow's context.
+fn end(
+    state: &mut [usize],
+    memory: &mut [u8],
+    packet: &[u8],
+    from: usize,
+    flow: Flow,
+    found: usize,
+    held: usize,
+    count: usize,
+) -> StreamAnswer
+    requires { ⌜ Ready (now state) (now memory) (now packet) (segmentOf (now packet)) ⌝ }
+    requires { ⌜ (from ≡ segmentOf (now packet) .from) × (flow ≡ segmentOf (now packet) .flow) × EndsPDU (stateOf (now state)) (segmentOf (now packet)) found held count ⌝ }
+    ensures { λ r. ⌜ joining (said (r .answer)) (r .dropped) (stateOf (now (state .exit))) (now (memory .exit))
+        ≡ stepped (stateOf (now (state .entry))) (now (memory .entry)) (now (packet .entry)) (segmentOf (now (packet .entry))) ⌝ }
+{
+    if held + count != sizes::pdu_length(lists::word_at(packet, wire::HEADER + 2)) {
+        return stream_rooms::refused_closing(state, found, 11);
+    }
+    stream_rooms::end_room(state, memory, packet, from, flow, found, held, count)
+}
+
 // A continuation or end: behind what the flow's context holds.
 fn go_on(
     state: &mut [usize],
     memory: &mut [u8],
     packet: &[u8],
-    g: Segment,
+    flags: usize,
+    from: usize,
+    flow: Flow,
     found: usize,
     count: usize,
 ) -> StreamAnswer
-    requires { ⌜ Ready (now state) (now memory) (now packet) g ⌝ }
-    requires { ⌜ ContinuesPDU (stateOf (now state)) g found count ⌝ }
+    requires { ⌜ Ready (now state) (now memory) (now packet) (segmentOf (now packet)) ⌝ }
+    requires { ⌜ (Fields (now packet) flags from flow) × ContinuesPDU (stateOf (now state)) (segmentOf (now packet)) found count ⌝ }
     ensures { λ r. ⌜ joining (said (r .answer)) (r .dropped) (stateOf (now (state .exit))) (now (memory .exit))
-        ≡ stepped (stateOf (now (state .entry))) (now (memory .entry)) (now (packet .entry)) g ⌝ }
+        ≡ stepped (stateOf (now (state .entry))) (now (memory .entry)) (now (packet .entry)) (segmentOf (now (packet .entry))) ⌝ }
 {
     if contexts::STREAM_CONTEXTS <= found {
         return StreamAnswer {
@@ -58,45 +104,37 @@ fn go_on(
             dropped: false,
         };
     }
-    let c = contexts::stream_at(state, found);
-    let total = c.held + count;
+    let held = contexts::held_of(state, found);
+    let total = held + count;
     if contexts::room(state) < total {
         return stream_rooms::refused_closing(state, found, 9);
     }
-    if rules::length_differs(g, total) {
-        return stream_rooms::refused_closing(state, found, 11);
+    if wire::bit(flags, 64) {
+        return end(state, memory, packet, from, flow, found, held, count);
     }
-    stream_rooms::place(
-        state,
-        memory,
-        packet,
-        g,
-        found,
-        c.held,
-        c.stream,
-        count,
-        false,
-    )
+    stream_rooms::hold_room(state, memory, packet, from, found, held, count)
 }
 
 // A type 9 packet from row 6 on. Every caller has tested the state, the memory's size and the packet's head.
-pub fn step(state: &mut [usize], memory: &mut [u8], packet: &[u8], g: Segment) -> StreamAnswer
-    requires { ⌜ Ready (now state) (now memory) (now packet) g ⌝ }
+pub fn step(state: &mut [usize], memory: &mut [u8], packet: &[u8]) -> StreamAnswer
+    requires { ⌜ Ready (now state) (now memory) (now packet) (segmentOf (now packet)) ⌝ }
     ensures { λ r. ⌜ joining (said (r .answer)) (r .dropped) (stateOf (now (state .exit))) (now (memory .exit))
-        ≡ stepped (stateOf (now (state .entry))) (now (memory .entry)) (now (packet .entry)) g ⌝ }
+        ≡ stepped (stateOf (now (state .entry))) (now (memory .entry)) (now (packet .entry)) (segmentOf (now (packet .entry))) ⌝ }
 {
-    let flow = g.flow;
+    let flags = lists::wide(packet[wire::HEADER + 1]);
+    let from = wire::data_from(flags);
+    let flow = wire::flow_of(packet);
     let found = finding::find_stream(state, flow);
-    if rules::is_malformed(g) {
+    let raw = packet.len() - from;
+    if rules::is_wrong_form(raw, flags) {
         return stream_rooms::refused_closing(state, found, 6);
     }
-    let count = sizes::data_length(g);
-    let mtu = contexts::mtu(state);
-    if rules::is_missized(g.ends, count, mtu) {
+    let count = sizes::data_length(raw, flags);
+    if rules::is_wrong_size(flags, count, contexts::mtu(state)) {
         return stream_rooms::refused_closing(state, found, 7);
     }
-    if g.begins {
-        return begin(state, memory, packet, g, found, count);
+    if wire::bit(flags, 128) {
+        return begin(state, memory, packet, flags, from, flow, found, count);
     }
-    go_on(state, memory, packet, g, found, count)
+    go_on(state, memory, packet, flags, from, flow, found, count)
 }

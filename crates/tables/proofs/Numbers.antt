@@ -3,11 +3,22 @@ use Prim.Native.Nat.{ℕ}
 use mathlib.Core.Path.{_≡_, refl, ap, ap₂, sym, _∙_}
 use mathlib.Core.List.{List, [], _∷_}
 use mathlib.Core.Bool.{Bool, true, false, cond}
+use native.Mathlib.Omega.{arith}
 use Rattle.lists.specs.Each.{Each}
 use Rattle.tables.specs.Refusals.{RowOf, VerdictOf, refuse, accept, numberOf, verdict}
 use Rattle.tables.proofs.Exactly.{every-row}
 
 module _ {L : Type 0} where
+  -- what every row's number has, a refusal's has
+  pub every-number : (P : ℕ → Type 0) (table : List (RowOf L)) (number : ℕ) (leaves : L) → Each (λ (r : RowOf L). P (r .number)) table → verdict table ≡ refuse number leaves → P number
+  unfolding verdict
+  every-number P [] number leaves rows e = absurd (let z : _≡_ {A = ℕ} 0 1 = cc in omega arith)
+  every-number P (r ∷ table) number leaves rows e = go (r .holds) e (every-number P table number leaves (rows .1))
+    where
+      go : (b : Bool) → cond b (refuse (r .number) (r .leaves)) (verdict table) ≡ refuse number leaves → (verdict table ≡ refuse number leaves → P number) → P number
+      go true e ih = let same : r .number ≡ number = cc in rw (← same) (rows .0)
+      go false e ih = ih e
+
   -- where every row leaves the same
   pub number-refused : (leaves : L) (table : List (RowOf L)) (number : ℕ) → Each (λ (r : RowOf L). r .leaves ≡ leaves) table
       → number ≡ numberOf (verdict table) → (number ≡ 0 → ⊥) → verdict table ≡ refuse number leaves

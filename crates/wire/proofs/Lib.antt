@@ -1,1 +1,3 @@
-pub mod Head
+pub mod HeadLaws
+pub mod Fields
+pub mod ByNumber

@@ -1,4 +1,5 @@
 pub mod Packet
+pub mod Segment
 pub mod Type9
 pub mod Type11
 pub mod Head

@@ -3,11 +3,16 @@ use Prim.Native.Nat.{ℕ}
 use mathlib.Core.List.{List}
 use mathlib.Core.Bool.{cond}
 use Rattle.tables.specs.Refusals.{Verdict, refuse, accept, verdict}
+use Rattle.wire.specs.Segment.{Segment}
+use Rattle.wire.specs.declared.MessageSegment.{MessageSegment}
 use Rattle.wire.specs.Head.{is9, headRows}
 use Rattle.wire.specs.Type9.{segmentOf}
 use Rattle.wire.specs.Type11.{messageOf}
-use Rattle.wire.specs.declared.Parsed.{Parsed}
-use Rattle.wire.specs.declared.Parsed.the-variants.{Refused, Stream, Message}
+
+pub data Parsed : Type 0 where
+  Refused : ℕ → Parsed
+  Stream : Segment → Parsed
+  Message : MessageSegment → Parsed
 
 -- by the rows' verdict: refused, else of type 9, else of type 11, since row 4 has passed
 abbrev pub parsedBy : List ℕ → Verdict → Parsed

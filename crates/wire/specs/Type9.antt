@@ -8,7 +8,7 @@ use lib.Dec.{eqb}
 use Rattle.lists.specs.Bytes.{byte, word}
 use Rattle.wire.specs.Packet.{header, source, bit}
 use Rattle.wire.specs.declared.Flow.{Flow}
-use Rattle.wire.specs.declared.Segment.{Segment}
+use Rattle.wire.specs.Segment.{Segment}
 
 -- byte 5
 abbrev pub cos : List ℕ → ℕ

@@ -1,14 +1,13 @@
-// Packets as document 01 lays them out: the head of types 9 and 11 read into small structs. No state.
+// Packets as document 01 lays them out: the head of types 9 and 11, and their fields. No state.
 ghost use mathlib.Core.Path.{_≡_};
-ghost use mathlib.Core.Bool.{_||_, true};
+ghost use mathlib.Core.Bool.{true};
 ghost use Prim.Native.Nat.{_+_, _<_, _≤_};
 ghost use lib.ListN.{length};
 ghost use Rattle.wire.specs.Packet.{header, bit as bitOf};
-ghost use Rattle.wire.specs.Type9.{isS, isE, sameFlow, segmentAt};
+ghost use Rattle.wire.specs.Type9.{flowOf, sameFlow};
 ghost use Rattle.wire.specs.Type11.{messageOf};
 ghost use Rattle.wire.specs.Head.{is9};
-ghost use Rattle.wire.specs.Parsed.{parsed};
-ghost use Rattle.wire.specs.Inside.{parsedBehind};
+ghost use Rattle.wire.specs.Inside.{headed, headedBehind, dataFrom};
 
 // Where the fields of a type begin: behind byte 0 and two IDs of two bytes.
 pub const HEADER: usize = 5;
@@ -17,19 +16,6 @@ pub const HEADER: usize = 5;
 pub struct Flow {
     pub source: usize,
     pub cos: usize,
-}
-
-// A type 9 packet. `begins` is S: a start or a single; `ends` is E: an end or a single. `field` is the streamID where it begins a PDU,
-// the PDU length of an end, 0 of a continuation. Its data lie from `from` on, `raw` bytes with the pad. `odd` is O, `pad` is P.
-pub struct Segment {
-    pub begins: bool,
-    pub ends: bool,
-    pub flow: Flow,
-    pub field: usize,
-    pub from: usize,
-    pub raw: usize,
-    pub odd: bool,
-    pub pad: bool,
 }
 
 // A type 11 packet: `raw` bytes of data behind its head.
@@ -43,13 +29,6 @@ pub struct MessageSegment {
     pub raw: usize,
 }
 
-// What a packet is, before any context is looked at.
-pub enum Parsed {
-    Refused(usize),
-    Stream(Segment),
-    Message(MessageSegment),
-}
-
 // Whether two flows are one: the only place that compares them.
 pub fn same_flow(a: Flow, b: Flow) -> bool
     ensures { λ r. ⌜ r ≡ sameFlow a b ⌝ }
@@ -61,70 +40,36 @@ pub fn same_flow(a: Flow, b: Flow) -> bool
 }
 
 // Whether the bit of that weight is set.
-fn bit(byte: usize, weight: usize) -> bool
+pub fn bit(byte: usize, weight: usize) -> bool
     requires { ⌜ 0 < weight ⌝ }
     ensures { λ r. ⌜ r ≡ bitOf byte weight ⌝ }
 {
     byte / weight % 2 == 1
 }
 
-// The fields of a type 9 packet whose data begin at `from`.
-fn segment_at(packet: &[u8], from: usize, field: usize) -> Segment
-    requires { ⌜ (header + 2 ≤ length (now packet)) × (from ≤ length (now packet)) ⌝ }
-    ensures { λ r. ⌜ r ≡ segmentAt (now (packet .entry)) from field ⌝ }
+// Where the data of a type 9 packet begin: S or E is set where its flags are 64 or more, and then a field of two bytes comes before them.
+pub fn data_from(flags: usize) -> usize
+    ensures { λ r. ⌜ r ≡ dataFrom flags ⌝ }
 {
-    let flags = lists::wide(packet[HEADER + 1]);
-    let flow = Flow {
+    if flags < 64 {
+        return HEADER + 2;
+    }
+    HEADER + 4
+}
+
+// Who sent a packet, under which class of service.
+pub fn flow_of(packet: &[u8]) -> Flow
+    requires { ⌜ header + 2 ≤ length (now packet) ⌝ }
+    ensures { λ r. ⌜ r ≡ flowOf (now (packet .entry)) ⌝ }
+{
+    Flow {
         source: lists::word_at(packet, 3),
         cos: lists::wide(packet[HEADER]),
-    };
-    Segment {
-        begins: bit(flags, 128),
-        ends: bit(flags, 64),
-        flow,
-        field,
-        from,
-        raw: packet.len() - from,
-        odd: bit(flags, 2),
-        pad: bit(flags, 1),
     }
 }
 
-// A type 9 packet with S or E set, which has a field of two bytes before its data.
-fn parse_fielded(packet: &[u8]) -> Parsed
-    requires { ⌜ header + 2 ≤ length (now packet) ⌝ }
-    requires { ⌜ is9 (now packet) ≡ true ⌝ }
-    requires { ⌜ (isS (now packet) || isE (now packet)) ≡ true ⌝ }
-    ensures { λ r. ⌜ r ≡ parsedBehind 6 (now (packet .entry)) ⌝ }
-{
-    if packet.len() < HEADER + 4 {
-        return Parsed::Refused(1);
-    }
-    let field = lists::word_at(packet, HEADER + 2);
-    Parsed::Stream(segment_at(packet, HEADER + 4, field))
-}
-
-// A type 9 packet behind its IDs.
-fn parse_stream(packet: &[u8]) -> Parsed
-    requires { ⌜ header + 2 ≤ length (now packet) ⌝ }
-    requires { ⌜ is9 (now packet) ≡ true ⌝ }
-    ensures { λ r. ⌜ r ≡ parsedBehind 5 (now (packet .entry)) ⌝ }
-{
-    let flags = lists::wide(packet[HEADER + 1]);
-    if bit(flags, 4) {
-        return Parsed::Refused(5);
-    }
-    if bit(flags, 128) {
-        return parse_fielded(packet);
-    }
-    if bit(flags, 64) {
-        return parse_fielded(packet);
-    }
-    Parsed::Stream(segment_at(packet, HEADER + 2, 0))
-}
-
-// A type 11 packet behind its IDs.
-fn parse_message(packet: &[u8]) -> MessageSegment
+// The fields of a type 11 packet. Every caller has found that it has them.
+pub fn message_of(packet: &[u8]) -> MessageSegment
     requires { ⌜ header + 2 ≤ length (now packet) ⌝ }
     ensures { λ r. ⌜ r ≡ messageOf (now (packet .entry)) ⌝ }
 {
@@ -141,39 +86,58 @@ fn parse_message(packet: &[u8]) -> MessageSegment
     }
 }
 
-// The one place where types part.
-fn parse_by_type(packet: &[u8]) -> Parsed
+// Rows 5 and 1 of a type 9 packet that has its flags: 9, or the refusal.
+fn head_of_9(packet: &[u8]) -> usize
+    requires { ⌜ (header + 2 ≤ length (now packet)) × (is9 (now packet) ≡ true) ⌝ }
+    ensures { λ r. ⌜ r ≡ headedBehind 5 (now (packet .entry)) ⌝ }
+{
+    let flags = lists::wide(packet[HEADER + 1]);
+    if bit(flags, 4) {
+        return 5;
+    }
+    // neither S nor E: no field
+    if flags < 64 {
+        return 9;
+    }
+    if packet.len() < HEADER + 4 {
+        return 1;
+    }
+    9
+}
+
+// The head from row 4 on: 9, 11, or the refusal.
+fn head_by_type(packet: &[u8]) -> usize
     requires { ⌜ header ≤ length (now packet) ⌝ }
-    ensures { λ r. ⌜ r ≡ parsedBehind 3 (now (packet .entry)) ⌝ }
+    ensures { λ r. ⌜ r ≡ headedBehind 3 (now (packet .entry)) ⌝ }
 {
     let kind = lists::wide(packet[0]) % 16;
     if kind == 9 {
         if packet.len() < HEADER + 2 {
-            return Parsed::Refused(1);
+            return 1;
         }
-        return parse_stream(packet);
+        return head_of_9(packet);
     }
     if kind == 11 {
         if packet.len() < HEADER + 2 {
-            return Parsed::Refused(1);
+            return 1;
         }
-        return Parsed::Message(parse_message(packet));
+        return 11;
     }
-    Parsed::Refused(4)
+    4
 }
 
-// A packet as far as it can be judged without contexts, for the endpoint of that device ID.
-pub fn parse(packet: &[u8], device: usize) -> Parsed
-    ensures { λ r. ⌜ r ≡ parsed device (now (packet .entry)) ⌝ }
+// Rows 1 to 5, for the endpoint of that device ID: the packet's type, 9 or 11, or the refusal.
+pub fn head(packet: &[u8], device: usize) -> usize
+    ensures { λ r. ⌜ r ≡ headed device (now (packet .entry)) ⌝ }
 {
     if packet.len() < HEADER {
-        return Parsed::Refused(1);
+        return 1;
     }
     if lists::wide(packet[0]) / 16 % 4 != 1 {
-        return Parsed::Refused(2);
+        return 2;
     }
     if lists::word_at(packet, 1) != device {
-        return Parsed::Refused(3);
+        return 3;
     }
-    parse_by_type(packet)
+    head_by_type(packet)
 }
