@@ -15,7 +15,7 @@ enum { PACKETS = 2048, LONGEST = 300, STATE = KAIVEROHM_STATE_WORDS, ROOM = 4096
 static uint8_t packets[PACKETS][LONGEST];
 static size_t lengths[PACKETS];
 static size_t count, payload;
-static size_t mtu = 32;
+static size_t mtu;
 
 static uint8_t burst[PACKETS * (LONGEST + 2)];
 static size_t burst_length;
@@ -31,41 +31,69 @@ static void add(const uint8_t *packet, size_t length)
     lengths[count++] = length;
 }
 
-/* sixteen flows in turn, each with PDUs of eight segments */
-static void make_streams(void)
+/* segment k of a PDU of so many segments, once from each of so many flows */
+static void add_segments(unsigned flows, uint16_t stream, uint64_t segments, uint64_t k)
 {
     static uint8_t pdu[8 * 256];
     uint8_t out[LONGEST];
     for (size_t i = 0; i < sizeof pdu; i++)
         pdu[i] = (uint8_t)(7 * i + i / 256);
-    for (int round = 0; count + 128 <= PACKETS; round++)
-        for (uint64_t k = 0; k < 8; k++)
-            for (int flow = 0; flow < 16; flow++) {
-                struct kaiverohm_heading h = { .destination = 1,
-                                               .source = (uint16_t)(flow + 2),
-                                               .stream = (uint16_t)round,
-                                               .cos = 5 };
-                struct kaiverohm_answer a =
-                    kaiverohm_write_segment(out, sizeof out, h, mtu, pdu, 8 * mtu, k);
-                payload += mtu;
-                add(out, a.number);
-            }
+    for (unsigned flow = 0; flow < flows; flow++) {
+        struct kaiverohm_heading h = {
+            .destination = 1, .source = (uint16_t)(flow + 2), .stream = stream, .cos = 5
+        };
+        struct kaiverohm_answer a =
+            kaiverohm_write_segment(out, sizeof out, h, mtu, pdu, segments * mtu, k);
+        payload += mtu;
+        add(out, a.number);
+    }
 }
 
-/* messages of sixteen segments of 64 bytes, four senders in turn */
-static void make_messages(void)
+/* segment k of a message of sixteen segments of 64 bytes, once from each of four senders */
+static void add_mail(unsigned k)
 {
     uint8_t p[7 + 64] = { 0x1b, 0, 1, 0, 0, 0xfc, 0 };
     for (size_t i = 7; i < sizeof p; i++)
         p[i] = (uint8_t)(3 * i);
-    while (count + 64 <= PACKETS)
+    for (unsigned sender = 0; sender < 4; sender++) {
+        p[4] = (uint8_t)(sender + 2);
+        p[6] = (uint8_t)(sender << 4 | k);
+        payload += 64;
+        add(p, sizeof p);
+    }
+}
+
+/* sixteen flows in turn, each with PDUs of eight segments */
+static void make_streams(void)
+{
+    for (uint16_t stream = 0; count < PACKETS; stream++)
+        for (uint64_t k = 0; k < 8; k++)
+            add_segments(16, stream, 8, k);
+}
+
+static void make_messages(void)
+{
+    while (count < PACKETS)
         for (unsigned k = 0; k < 16; k++)
-            for (unsigned sender = 0; sender < 4; sender++) {
-                p[4] = (uint8_t)(sender + 2);
-                p[6] = (uint8_t)(sender << 4 | k);
-                payload += 64;
-                add(p, sizeof p);
-            }
+            add_mail(k);
+}
+
+/* an idle board: PDUs of one segment, so that no context is ever open */
+static void make_idle(void)
+{
+    for (uint16_t stream = 0; count < PACKETS; stream++)
+        add_segments(16, stream, 1, 0);
+}
+
+/* half the contexts open: eight flows and four messages, PDUs of eight segments */
+static void make_half(void)
+{
+    for (uint16_t stream = 0; count < PACKETS; stream++)
+        for (unsigned k = 0; k < 8; k++) {
+            add_segments(8, stream, 8, k);
+            add_mail(2 * k);
+            add_mail(2 * k + 1);
+        }
 }
 
 /* packets that rows 1, 2, 3, 4, 5, 6, 7, 8 and 20 to 22 refuse */
@@ -157,6 +185,26 @@ static void round_memcpy(void)
 
 static const struct {
     const char *name;
+    size_t mtu;
+    void (*make)(void);
+} traffics[] = { { "streams32", 32, make_streams }, { "streams256", 256, make_streams },
+                 { "messages", 32, make_messages }, { "refused", 32, make_refused },
+                 { "idle", 256, make_idle },        { "half", 256, make_half } };
+
+static void make(const char *name)
+{
+    for (size_t i = 0; i < sizeof traffics / sizeof *traffics; i++)
+        if (strcmp(name, traffics[i].name) == 0) {
+            mtu = traffics[i].mtu;
+            traffics[i].make();
+            return;
+        }
+    fprintf(stderr, "bench: no traffic %s\n", name);
+    exit(2);
+}
+
+static const struct {
+    const char *name;
     void (*round)(void);
 } endpoints[] = { { "single", round_single },
                   { "burst", round_burst },
@@ -220,17 +268,10 @@ int main(int argc, char **argv)
 {
     if (argc != 4)
         return 2;
-    if (strcmp(argv[1], "streams256") == 0)
-        mtu = 256;
+    make(argv[1]);
+    make_burst();
     kaiverohm_setup(state, STATE, 1, mtu, ROOM);
     twin_setup(&twin, 1, mtu, ROOM);
-    if (strcmp(argv[1], "messages") == 0)
-        make_messages();
-    else if (strcmp(argv[1], "refused") == 0)
-        make_refused();
-    else
-        make_streams();
-    make_burst();
     agree();
     int rounds = atoi(argv[3]);
     for (size_t e = 0; e < sizeof endpoints / sizeof *endpoints; e++) {

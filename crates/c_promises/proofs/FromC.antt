@@ -28,7 +28,8 @@ use Rattle.c_places.specs.Places.{StreamPlacePromise}
 use Rattle.demands.specs.Calls.{Fetches, room, none-held, none-message, none-refused, Reads, stop, call, Writes, written-all, write}
 use Rattle.demands.specs.OfCalls.{SetUp}
 use Rattle.demands.proofs.OfCalls.{demand2-of-calls, demand3-of-calls}
-use Rattle.c_promises.specs.OfCalls.{bytesAt, FetchesFromC, at-place, nothing, ReadsFromC, no-more, one-more, CallsFromCAreReads, SetUpFromC, readyKind, writtenKind, WritesFromC, no-segment, one-segment, WritesFromCAreWrites, Demand2FromC, Demand3FromC}
+use Rattle.c_promises.specs.OfCalls.{bytesAt, FetchesFromC, at-place, nothing, ReadsFromC, no-more, one-more, CallsFromCAreReads, SetUpFromC}
+use Rattle.c_promises.specs.OfCalls.{readyKind, writtenKind, WritesFromC, no-segment, one-segment, WritesFromCAreWrites, Demand2FromC, Demand3FromC}
 
 -- ---- What is fetched
 

@@ -94,7 +94,8 @@ module _ (setup : Setup) (flows : List Flow) (b : Desk) (p : List ℕ) (f : Fine
       own = ap (λ (y : Settled). view (y .desk) (g .flow)) leaves ∙ (view-left (g .flow) ∙ sim .leaves .own-is);
       others = λ k ne. ap (λ (y : Settled). view (y .desk) k) leaves ∙ (view-left k ∙ (sim .leaves .others k (same-false k (g .flow) ne) ∙ sym (view-is b k)));
       tells =
-          subst (λ (y : Settled). Tells (s .setup .room) (y .desk .streamMemory) (g .flow) (y .says) (flowStep (s .setup) (view b (g .flow)) g (streamRoom.dataOf p g) .told)) (sym leaves) (sim .tells);
+          subst (λ (y : Settled). Tells (s .setup .room) (y .desk .streamMemory) (g .flow) (y .says) (flowStep (s .setup) (view b (g .flow)) g (streamRoom.dataOf p g) .told))
+          (sym leaves) (sim .tells);
       drops = ap (λ (y : Settled). y .dropped) leaves ∙ sim .drops;
     }
 

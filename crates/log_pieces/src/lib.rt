@@ -22,7 +22,8 @@ pub fn next_line(
     count: usize,
     line: &mut [u8],
 ) -> Piece
-    ensures { λ r. ⌜ LinePromise (desk (now (state .entry)) (now («stream_memory» .entry)) (now («message_memory» .entry)) (now (response .entry))) (now (log .entry)) at count (now (line .entry)) r (desk (now (state .exit)) (now («stream_memory» .exit)) (now («message_memory» .exit)) (now (response .exit))) (now (line .exit)) ⌝ }
+    ensures { λ r. ⌜ LinePromise (desk (now (state .entry)) (now («stream_memory» .entry)) (now («message_memory» .entry)) (now (response .entry)))
+        (now (log .entry)) at count (now (line .entry)) r (desk (now (state .exit)) (now («stream_memory» .exit)) (now («message_memory» .exit)) (now (response .exit))) (now (line .exit)) ⌝ }
     ensures { λ r. ⌜ Onward (length (now (log .entry))) at r ⌝ }
 {
     let found = log_records::next_record(log, at);

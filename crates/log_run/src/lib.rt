@@ -27,7 +27,8 @@ pub fn run(
     count: usize,
     out: &mut [u8],
 ) -> Ran
-    ensures { λ r. ⌜ LogRunPromise (desk (now (state .entry)) (now («stream_memory» .entry)) (now («message_memory» .entry)) (now (response .entry))) (now (log .entry)) at count (now (out .entry)) r (desk (now (state .exit)) (now («stream_memory» .exit)) (now («message_memory» .exit)) (now (response .exit))) (now (out .exit)) ⌝ }
+    ensures { λ r. ⌜ LogRunPromise (desk (now (state .entry)) (now («stream_memory» .entry)) (now («message_memory» .entry)) (now (response .entry)))
+        (now (log .entry)) at count (now (out .entry)) r (desk (now (state .exit)) (now («stream_memory» .exit)) (now («message_memory» .exit)) (now (response .exit))) (now (out .exit)) ⌝ }
     ensures { λ r. ⌜ RunOnward (length (now (log .entry))) at (length (now (out .entry))) r ⌝ }
 {
     if at < count {

@@ -40,7 +40,8 @@ one-outcome-each = record {
   read = λ x y z p q.
       let e = p ∙ sym q in
       both
-      (same-reading (y .answer) (z .answer) (said-once (y .answer .answer) (z .answer .answer) (ap (λ (l : Settled). l .says) e)) (ap (λ (l : Settled). l .dropped) e) (ap (λ (l : Settled). l .replied) e))
+      (same-reading (y .answer) (z .answer) (said-once (y .answer .answer) (z .answer .answer) (ap (λ (l : Settled). l .says) e))
+      (ap (λ (l : Settled). l .dropped) e) (ap (λ (l : Settled). l .replied) e))
       (ap (λ (l : Settled). l .desk) e);
   abandon-stream = λ words n. abandoned _;
   abandon-message = λ words n. abandoned _;

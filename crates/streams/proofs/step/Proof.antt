@@ -63,7 +63,8 @@ well-formed c =
     let f = fields (c .before .before) in
     malformed-by _ (f .flag-bits) (f .data-from) refl (c .before .is-wrong-form .ensures) (c .if1 .left)
 
-right-size : (c : tie.Else2) → wrongSize (segmentOf (entry (found-at (c .before)) .args .packet .now) .ends) (c .before .before .before .before .data-length .result) (c .before .before .mtu .result) ≡ false
+right-size : (c : tie.Else2) → let at-mtu = c .before .before in
+    wrongSize (segmentOf (entry (found-at (c .before)) .args .packet .now) .ends) (at-mtu .before .before .data-length .result) (at-mtu .mtu .result) ≡ false
 right-size c =
     let at-mtu = c .before .before in
     size-by _ (fields (found-at (c .before)) .flag-bits) (at-mtu .before .before .data-length .result) (at-mtu .mtu .result) (c .before .is-wrong-size .ensures) (c .if2 .left)
@@ -74,7 +75,8 @@ has-passed c =
     let at-mtu = c .before .before in
     let at-found = found-at (c .before) in
     let f = fields at-found in
-    passed _ _ (data-by _ (f .flag-bits) (f .data-from) refl (at-mtu .before .before .data-length .ensures)) (at-mtu .mtu .ensures) (well-formed (past-6 (c .before))) (found-is at-found) (right-size c)
+    passed _ _ (data-by _ (f .flag-bits) (f .data-from) refl (at-mtu .before .before .data-length .ensures)) (at-mtu .mtu .ensures)
+    (well-formed (past-6 (c .before))) (found-is at-found) (right-size c)
 
 -- ---- the ways out
 
