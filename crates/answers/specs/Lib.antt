@@ -1,3 +1,4 @@
 pub mod Answers
 pub mod Once
 pub mod Stands
+pub mod Told

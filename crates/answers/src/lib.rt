@@ -1,6 +1,9 @@
 // What the endpoint's calls answer. specs/Answers.antt sets out document 01's number and values for each case.
 
 use wire::Flow;
+ghost use mathlib.Core.Path.{_≡_};
+ghost use Rattle.answers.specs.Answers.{said, refused, held};
+ghost use Rattle.answers.specs.Told.{telling, plainTold, toldOf};
 
 // The answer to a packet.
 pub enum Answer {
@@ -21,10 +24,18 @@ pub enum Answer {
     Refused(usize),
 }
 
-// The answer to a type 9 packet, and whether the packet closed an open stream context undelivered.
-pub struct StreamAnswer {
-    pub answer: Answer,
+// The same as numbers, by value, which is how the steps hand it up: specs/Told.antt sets out the numbers. `dropped`, whether the packet closed an
+// open stream context undelivered; `response`, how many bytes of response were written.
+pub struct Told {
+    pub kind: usize,
+    pub number: usize,
     pub dropped: bool,
+    pub response: usize,
+    pub context: usize,
+    pub source: usize,
+    pub cos_or_letter: usize,
+    pub stream_or_mailbox: usize,
+    pub length: usize,
 }
 
 // The answer to a packet, whether the packet closed an open stream context undelivered, and how many bytes of response were written.
@@ -51,4 +62,80 @@ pub enum Abandoned {
 pub enum Written {
     Length(usize),
     Refused(usize),
+}
+
+// What carries no PDU and no message.
+fn plain(kind: usize, number: usize, dropped: bool, response: usize) -> Told
+    ensures { λ r. ⌜ r ≡ plainTold kind number dropped response ⌝ }
+{
+    Told {
+        kind,
+        number,
+        dropped,
+        response,
+        context: 0,
+        source: 0,
+        cos_or_letter: 0,
+        stream_or_mailbox: 0,
+        length: 0,
+    }
+}
+
+// A refusal.
+pub fn refusal(number: usize, dropped: bool, response: usize) -> Told
+    ensures { λ r. ⌜ r ≡ toldOf (refused number) dropped response ⌝ }
+{
+    plain(0, number, dropped, response)
+}
+
+// A segment that is held.
+pub fn holding(dropped: bool, response: usize) -> Told
+    ensures { λ r. ⌜ r ≡ toldOf held dropped response ⌝ }
+{
+    plain(1, 0, dropped, response)
+}
+
+// The answer that these numbers tell.
+fn answer_of(t: Told) -> Answer
+    ensures { λ r. ⌜ said r ≡ telling t ⌝ }
+{
+    if t.kind == 0 {
+        return Answer::Refused(t.number);
+    }
+    if t.kind == 1 {
+        return Answer::Held;
+    }
+    if t.kind == 2 {
+        let flow = Flow {
+            source: t.source,
+            cos: t.cos_or_letter,
+        };
+        return Answer::Delivered {
+            context: t.context,
+            flow,
+            stream: t.stream_or_mailbox,
+            length: t.length,
+        };
+    }
+    Answer::Message {
+        context: t.context,
+        source: t.source,
+        letter: t.cos_or_letter,
+        mailbox: t.stream_or_mailbox,
+        length: t.length,
+    }
+}
+
+// The reading that these numbers tell.
+pub fn reading_of(t: Told) -> Reading
+    ensures { λ r. ⌜ (said (r .answer) ≡ telling t) × (r .dropped ≡ t .dropped) × (r .response ≡ t .response) ⌝ }
+{
+    let dropped = t.dropped;
+    let response = t.response;
+    let answer = answer_of(t);
+    Reading {
+        answer,
+        dropped,
+        response,
+    }
 }

@@ -9,14 +9,14 @@ use lib.Seq.{drop-drop}
 use borrow.Rule.Slice.PartMut.{midOf, putMid}
 use Rattle.lists.specs.Bytes.{written}
 use Rattle.lists.proofs.Written.{written-is}
-use Rattle.answers.specs.declared.Reading.{Reading}
-use Rattle.answers.specs.Answers.{said}
+use Rattle.answers.specs.declared.Told.{Told}
+use Rattle.answers.specs.Told.{telling}
 use Rattle.contexts.specs.State.{Setup, streamContexts}
 use Rattle.reading.specs.Desk.{Desk, stateOn, withResponse}
 use Rattle.reading.specs.Table.{lent}
-use Rattle.reading.specs.Read.{Settled, settled, reading, ReadPromise}
+use Rattle.reading.specs.Read.{Settled, settled, reading}
 use Rattle.reading.specs.Good.{StillGood}
-use Rattle.reading.specs.Inside.{Fit}
+use Rattle.reading.specs.Inside.{Fit, ToldPromise}
 use Rattle.reading.proofs.Kept.{stays-good}
 use Rattle.c_reports.specs.declared.Report.{Report}
 use Rattle.c_reports.specs.Reports.{reportOf, reportWords, wordsOfReport}
@@ -49,9 +49,9 @@ module _ (r : Run) (ready : ReadyToRun r 1) where
   slot-length = ap length slot-is ∙ simp (length-take, length-drop) (omega (arith, ready .space .replies))
 
   -- what reading left: in its memories, in its slot, and with the report beside it
-  module _ (packet : List ℕ) (small : getD packet 5 0 < 256) (x : Reading) (after : Desk) (promise : ReadPromise (lent lentDesk packet) x after) where
-    as-defined : settled (said (x .answer)) (x .dropped) (x .response) after ≡ readIn r packet
-    as-defined = promise ∙ ap (λ (s : List ℕ). reading (lent (withResponse (r .desk) s) packet)) slot-is
+  module _ (packet : List ℕ) (small : getD packet 5 0 < 256) (t : Told) (after : Desk) (promise : ToldPromise (lent lentDesk packet) t after) where
+    as-defined : settled (telling t) (t .dropped) (t .response) after ≡ readIn r packet
+    as-defined = promise .promised ∙ ap (λ (s : List ℕ). reading (lent (withResponse (r .desk) s) packet)) slot-is
 
     still-good : StillGood (stateOn (r .desk)) (after .words)
     still-good = rw (ap (λ (l : Settled). l .desk .words) as-defined) (stays-good (lentIn r packet) (ready .fit .whole) (ready .fit .good) small)
@@ -66,7 +66,7 @@ module _ (r : Run) (ready : ReadyToRun r 1) where
       }
 
       pub packet-read : length (after .response) ≡ length lentSlot
-          → (report : Report) (reports : List ℕ) → report ≡ reportOf (said (x .answer)) (x .dropped) (x .response) → reports ≡ written (r .reports) (reportWords * r .count) (wordsOfReport report)
+          → (report : Report) (reports : List ℕ) → report ≡ reportOf (telling t) (t .dropped) (t .response) → reports ≡ written (r .reports) (reportWords * r .count) (wordsOfReport report)
           → PacketPromise r packet (report .kind) (withResponse after (putMid (slotBytes * r .count) size (r .desk .response) (after .response))) reports
       packet-read slot report reports e f = record {
         leaves =

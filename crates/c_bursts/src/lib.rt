@@ -51,14 +51,14 @@ fn read_packet(
 {
     let at = SLOT * count;
     let end = at + SLOT;
-    let reading = reading::step(
+    let told = reading::step(
         state,
         stream_memory,
         message_memory,
         &mut responses[at..end],
         packet,
     );
-    let report = c_reports::reported(reading);
+    let report = c_reports::reported(told);
     c_reports::put(reports, c_reports::WORDS * count, report);
     report.kind
 }

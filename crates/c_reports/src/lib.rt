@@ -1,15 +1,15 @@
 // The answer to a packet as a report of numbers, which C can take: as a struct, and as words of a lent buffer.
 use answers::Abandoned;
-use answers::Answer;
 use answers::Begun;
-use answers::Reading;
+use answers::Told;
 use answers::Written;
 ghost use mathlib.Core.Path.{_≡_};
 ghost use Prim.Native.Nat.{_+_, _≤_};
 ghost use lib.ListN.{length};
-ghost use Rattle.answers.specs.Answers.{said, saidOfSetup, saidOfAbandon, saidOfWriter};
+ghost use Rattle.answers.specs.Answers.{saidOfSetup, saidOfAbandon, saidOfWriter};
+ghost use Rattle.answers.specs.Told.{telling, Tells};
 ghost use Rattle.lists.specs.Bytes.{written};
-ghost use Rattle.c_reports.specs.Reports.{flagOf, plainOf, sayingOf, reportOf, reportWords, wordsOfReport};
+ghost use Rattle.c_reports.specs.Reports.{flagOf, reportOf, reportWords, wordsOfReport};
 ghost use Rattle.c_reports.specs.Reports.{numbersOfSetup, numbersOfAbandon, numbersOfWriter};
 
 // The words of a report.
@@ -38,72 +38,22 @@ fn flag(b: bool) -> usize
     0
 }
 
-// A report that carries no PDU and no message.
-fn plain(kind: usize, number: usize, dropped: usize, response: usize) -> Report
-    ensures { λ r. ⌜ r ≡ plainOf kind number dropped response ⌝ }
+// The report of reading a packet: its numbers, each in its place. Every caller has numbers that are those of what they tell.
+pub fn reported(t: Told) -> Report
+    requires { ⌜ Tells t (t .dropped) (t .response) ⌝ }
+    ensures { λ r. ⌜ r ≡ reportOf (telling t) (t .dropped) (t .response) ⌝ }
 {
     Report {
-        kind,
-        number,
-        dropped,
-        response,
-        context: 0,
-        source: 0,
-        cos_or_letter: 0,
-        stream_or_mailbox: 0,
-        length: 0,
+        kind: t.kind,
+        number: t.number,
+        dropped: flag(t.dropped),
+        response: t.response,
+        context: t.context,
+        source: t.source,
+        cos_or_letter: t.cos_or_letter,
+        stream_or_mailbox: t.stream_or_mailbox,
+        length: t.length,
     }
-}
-
-// The report of an answer.
-fn saying(answer: Answer, dropped: usize, response: usize) -> Report
-    ensures { λ r. ⌜ r ≡ sayingOf (said answer) dropped response ⌝ }
-{
-    match answer {
-        Answer::Held => plain(1, 0, dropped, response),
-        Answer::Delivered {
-            context,
-            flow,
-            stream,
-            length,
-        } => Report {
-            kind: 2,
-            number: 0,
-            dropped,
-            response,
-            context,
-            source: flow.source,
-            cos_or_letter: flow.cos,
-            stream_or_mailbox: stream,
-            length,
-        },
-        Answer::Message {
-            context,
-            source,
-            letter,
-            mailbox,
-            length,
-        } => Report {
-            kind: 3,
-            number: 0,
-            dropped,
-            response,
-            context,
-            source,
-            cos_or_letter: letter,
-            stream_or_mailbox: mailbox,
-            length,
-        },
-        Answer::Refused(number) => plain(0, number, dropped, response),
-    }
-}
-
-// The report of reading a packet.
-pub fn reported(reading: Reading) -> Report
-    ensures { λ r. ⌜ r ≡ reportOf (said (reading .answer)) (reading .dropped) (reading .response) ⌝ }
-{
-    let answer = reading.answer;
-    saying(answer, flag(reading.dropped), reading.response)
 }
 
 // Writes a report as words, from `at` on. Every caller has room for them.

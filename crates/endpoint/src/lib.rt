@@ -47,9 +47,6 @@ pub fn read(
     ensures { λ r. ⌜ ReadPromise (lent (desk (now (state .entry)) (now («stream_memory» .entry)) (now («message_memory» .entry)) (now (response .entry))) (now (packet .entry)))
         r (desk (now (state .exit)) (now («stream_memory» .exit)) (now («message_memory» .exit)) (now (response .exit))) ⌝ }
 {
-    let number = reading::lent_refusal(state, stream_memory, message_memory, response);
-    if number != 0 {
-        return reading::refused(number);
-    }
-    reading::step(state, stream_memory, message_memory, response, packet)
+    let told = reading::read(state, stream_memory, message_memory, response, packet);
+    answers::reading_of(told)
 }

@@ -6,8 +6,10 @@ use mathlib.Core.Bool.{Bool, false, not, _||_}
 use lib.Dec.{eqb, ltb}
 use lib.ListN.{length}
 use borrow.Author.Tests.{eq-eqb, le-ltb, eqb-true, ltb-false, not-false}
-use Rattle.answers.specs.Answers.{Said}
-use Rattle.answers.specs.declared.Reading.{Reading}
+use Rattle.answers.specs.Answers.{Said, refused}
+use Rattle.answers.specs.declared.Told.{Told}
+use Rattle.answers.specs.Told.{toldOf, telling, Tells}
+use Rattle.answers.proofs.Telling.{told-says, told-dropped, told-response, told-tells-whole}
 use Rattle.tables.specs.Refusals.{all}
 use Rattle.responses.specs.Type13.{responseSize}
 use Rattle.contexts.specs.State.{streamContexts}
@@ -19,23 +21,43 @@ use Rattle.message_rooms.specs.Placing as messageRoom
 use Rattle.message_rooms.specs.Placing.{messageMemoryBytes}
 use Rattle.reading.specs.Desk.{Desk, stateOn, withStreams, withMessages}
 use Rattle.reading.specs.Table.{Lent, wrongSizes}
-use Rattle.reading.specs.Read.{settled, refusing, ofStream, ofMessage, reading, ReadPromise}
-use Rattle.reading.specs.Inside.{Refusal}
+use Rattle.reading.specs.Read.{settled, refusing, ofStream, ofMessage, reading}
+use Rattle.reading.specs.Inside.{ToldPromise}
 
 -- a refusal that changes nothing
-pub refusal-promised : (x : Lent) (number : ℕ) (r : Reading) → Refusal number r → refusing x number all ≡ reading x → ReadPromise x r (x .desk)
-refusal-promised x number r f e = rw (f .answer, f .drop, f .silent) e
+pub refusal-promised : (x : Lent) (number : ℕ) (t : Told) → t ≡ toldOf (refused number) false 0 → refusing x number all ≡ reading x → ToldPromise x t (x .desk)
+refusal-promised x number t f e =
+    record {
+      promised = rw (told-says t (refused number) false 0 f, told-dropped t (refused number) false 0 f, told-response t (refused number) false 0 f) e;
+      numbers = told-tells-whole t (refused number) false 0 f;
+    }
 
 -- what a step leaves in the words
-pub stream-settled : (x : Lent) (says : Said) (dropped : Bool) (words memory : List ℕ) (j : streamRoom.Joined) → length words ≡ stateWords
+stream-settled : (x : Lent) (says : Said) (dropped : Bool) (words memory : List ℕ) (j : streamRoom.Joined) → length words ≡ stateWords
     → streamRoom.joining says dropped (stateOf words) memory ≡ j → settled says dropped 0 (withStreams (x .desk) words memory) ≡ ofStream x j
 stream-settled x says dropped words memory j z e =
     ap (λ (w : List ℕ). settled says dropped 0 (withStreams (x .desk) w memory)) (sym (words-of words z)) ∙ ap (ofStream x) e
 
-pub message-settled : (x : Lent) (says : Said) (words memory response : List ℕ) (j : messageRoom.MessageJoined) → length words ≡ stateWords
+message-settled : (x : Lent) (says : Said) (words memory response : List ℕ) (j : messageRoom.MessageJoined) → length words ≡ stateWords
     → messageRoom.messageJoining says (stateOf words) memory response ≡ j → settled says false responseSize (withMessages (x .desk) words memory response) ≡ ofMessage x j
 message-settled x says words memory response j z e =
     ap (λ (w : List ℕ). settled says false responseSize (withMessages (x .desk) w memory response)) (sym (words-of words z)) ∙ ap (ofMessage x) e
+
+-- and with the numbers that tell it
+pub stream-promised : (x : Lent) (t : Told) (words memory : List ℕ) (j : streamRoom.Joined) → length words ≡ stateWords
+    → (streamRoom.joining (telling t) (t .dropped) (stateOf words) memory ≡ j) × Tells t (t .dropped) 0 → ofStream x j ≡ reading x
+    → ToldPromise x t (withStreams (x .desk) words memory)
+stream-promised x t words memory j z k e =
+    let response = told-response t (telling t) (t .dropped) 0 (k .1) in
+    record { promised = rw response (stream-settled x (telling t) (t .dropped) words memory j z (k .0) ∙ e); numbers = told-tells-whole t (telling t) (t .dropped) 0 (k .1) }
+
+pub message-promised : (x : Lent) (t : Told) (words memory response : List ℕ) (j : messageRoom.MessageJoined) → length words ≡ stateWords
+    → (messageRoom.messageJoining (telling t) (stateOf words) memory response ≡ j) × Tells t false responseSize → ofMessage x j ≡ reading x
+    → ToldPromise x t (withMessages (x .desk) words memory response)
+message-promised x t words memory response j z k e =
+    let written = told-response t (telling t) false responseSize (k .1) in
+    let dropped = told-dropped t (telling t) false responseSize (k .1) in
+    record { promised = rw (written, dropped) (message-settled x (telling t) words memory response j z (k .0) ∙ e); numbers = told-tells-whole t (telling t) false responseSize (k .1) }
 
 -- row 12 passed
 pub sizes-right : (d : Desk) → length (d .streamMemory) ≡ streamContexts * stateOn d .setup .room → length (d .messageMemory) ≡ messageMemoryBytes → responseSize ≤ length (d .response)

@@ -3,20 +3,21 @@ use Prim.Native.Nat.{ℕ, _≤_, _*_}
 use mathlib.Core.Path.{_≡_}
 use mathlib.Core.Bool.{false}
 use lib.ListN.{length}
-use Rattle.answers.specs.Answers.{said, refused}
-use Rattle.answers.specs.declared.Reading.{Reading}
+use Rattle.answers.specs.declared.Told.{Told}
+use Rattle.answers.specs.Told.{telling, Tells}
 use Rattle.responses.specs.Type13.{responseSize}
 use Rattle.contexts.specs.State.{streamContexts}
 use Rattle.contexts.specs.Words.{stateWords}
 use Rattle.refusal19.specs.Refusal19.{namedBy19}
 use Rattle.message_rooms.specs.Placing.{messageMemoryBytes}
 use Rattle.reading.specs.Desk.{Desk, stateOn}
+use Rattle.reading.specs.Table.{Lent}
+use Rattle.reading.specs.Read.{settled, reading}
 
--- an answer that refuses, drops nothing and writes no response
-pub record Refusal (number : ℕ) (r : Reading) : Type 0 where
-  pub answer : said (r .answer) ≡ refused number
-  pub drop : r .dropped ≡ false
-  pub silent : r .response ≡ 0
+-- the promise of reading, of an answer as numbers
+pub record ToldPromise (x : Lent) (t : Told) (after : Desk) : Type 0 where
+  pub promised : settled (telling t) (t .dropped) (t .response) after ≡ reading x
+  pub numbers : Tells t (t .dropped) (t .response)
 
 -- rows 19 and 12 passed, the response buffer aside: what a run over many packets keeps
 pub record Fit (d : Desk) : Type 0 where

@@ -6,9 +6,13 @@ use mathlib.Core.Bool.{Bool, true, false, _||_}
 use native.Mathlib.Omega.{arith}
 use native.Mathlib.Nat.{zero-add, suc-mul, mul-le-mul-right}
 use lib.ListN.{length, take, drop}
+use lib.Dec.{ltb}
 use lib.Seq.{set-out}
 use Rattle.lists.specs.Bytes.{word, written}
-use Rattle.answers.specs.Answers.{Said, held}
+use Rattle.answers.specs.Answers.{Said, held, refused}
+use Rattle.answers.specs.declared.Told.{Told}
+use Rattle.answers.specs.Told.{toldOf, telling, Tells}
+use Rattle.answers.proofs.Telling.{told-says, told-dropped, told-tells-own}
 use Rattle.wire.specs.declared.Flow.{Flow}
 use Rattle.wire.specs.Segment.{Segment}
 use Rattle.wire.specs.Packet.{header, bit}
@@ -17,8 +21,8 @@ use Rattle.wire.proofs.Fields.{begins-is, ends-is, field-is, from-field}
 use Rattle.sizes.specs.Sizes.{dataLength}
 use Rattle.contexts.specs.declared.StreamContext.{StreamContext}
 use Rattle.contexts.specs.State.{State, withStream, closedStream, openStream, streamContexts}
-use Rattle.stream_rooms.specs.Placing.{joining, placed, dataOf}
-use Rattle.stream_rooms.specs.Inside.{Delivering, Fits}
+use Rattle.stream_rooms.specs.Placing.{Joined, joining, placed, dataOf}
+use Rattle.stream_rooms.specs.Inside.{Closing, Delivering, Fits}
 
 -- room n ends inside the memory
 pub room-ends : (n base count room : ℕ) → n < streamContexts → base + count ≤ room → n * room + base + count ≤ streamContexts * room
@@ -29,6 +33,19 @@ pub put-nowhere : (s : State) (n : ℕ) → length (s .streams) ≡ streamContex
 put-nowhere s n z h =
     ap (λ (l : List StreamContext). record { setup = s .setup; streams = l; messages = s .messages })
     (sym (set-out (s .streams) n closedStream (omega arith)))
+
+-- numbers of a refusal that closes
+pub closing-told : (s : State) {found number : ℕ} {dropped : Bool} {t : Told} {after : State} → t ≡ toldOf (refused number) dropped 0 → dropped ≡ ltb found streamContexts
+    → after ≡ withStream s found closedStream → Closing s found number (telling t) (t .dropped) after × Tells t (t .dropped) 0
+closing-told s e d w = (
+  record { answer = told-says _ (refused _) _ _ e; drop = told-dropped _ (refused _) _ _ e ∙ d; state = w },
+  told-tells-own _ (refused _) _ _ e,
+)
+
+-- what is said, by the numbers that were made of it
+pub joined-told : (says : Said) {dropped : Bool} {t : Told} {state : State} {memory : List ℕ} {j : Joined} → t ≡ toldOf says dropped 0 → joining says dropped state memory ≡ j
+    → (joining (telling t) (t .dropped) state memory ≡ j) × Tells t (t .dropped) 0
+joined-told says e k = (rw (told-says _ says _ _ e, told-dropped _ says _ _ e) k, told-tells-own _ says _ _ e)
 
 -- the store and the context make the placing
 module _ (s : State) (memory after p : List ℕ) (g : Segment) (n base stream count : ℕ) (f : Fits s g n base count)

@@ -1,13 +1,12 @@
 // What a type 9 segment does to one context and its room: its data stored, the context kept, delivered or closed.
-use answers::Answer;
-use answers::StreamAnswer;
+use answers::Told;
 use wire::Flow;
 ghost use mathlib.Core.Path.{_≡_};
 ghost use mathlib.Core.Bool.{true, false};
 ghost use Prim.Native.Nat.{_+_, _*_, _<_, _≤_};
 ghost use lib.ListN.{length};
 ghost use Rattle.lists.specs.Bytes.{written};
-ghost use Rattle.answers.specs.Answers.{said};
+ghost use Rattle.answers.specs.Told.{telling, Tells};
 ghost use Rattle.contexts.specs.Words.{stateOf, stateWords};
 ghost use Rattle.wire.specs.Type9.{segmentOf};
 ghost use Rattle.contexts.specs.State.{streamContexts, streamIn};
@@ -15,21 +14,15 @@ ghost use Rattle.stream_rooms.specs.Placing.{joining, placed, dataOf};
 ghost use Rattle.stream_rooms.specs.Inside.{Ready, Closing, Fields, Delivering, Fits, GoesOn};
 
 // A refusal that closes the flow's context, where it has one. Every caller has tested the state, and `found` is what was found.
-pub fn refused_closing(state: &mut [usize], found: usize, number: usize) -> StreamAnswer
+pub fn refused_closing(state: &mut [usize], found: usize, number: usize) -> Told
     requires { ⌜ (length (now state) ≡ stateWords) × (found ≤ streamContexts) ⌝ }
-    ensures { λ r. ⌜ Closing (stateOf (now (state .entry))) found number (said (r .answer)) (r .dropped) (stateOf (now (state .exit))) ⌝ }
+    ensures { λ r. ⌜ Closing (stateOf (now (state .entry))) found number (telling r) (r .dropped) (stateOf (now (state .exit))) × Tells r (r .dropped) 0 ⌝ }
 {
     if found < contexts::STREAM_CONTEXTS {
         contexts::close_stream(state, found);
-        return StreamAnswer {
-            answer: Answer::Refused(number),
-            dropped: true,
-        };
+        return answers::refusal(number, true, 0);
     }
-    StreamAnswer {
-        answer: Answer::Refused(number),
-        dropped: false,
-    }
+    answers::refusal(number, false, 0)
 }
 
 // The PDU of context n is delivered, `total` bytes of it, and the context freed.
@@ -40,19 +33,21 @@ fn deliver(
     stream: usize,
     total: usize,
     dropped: bool,
-) -> StreamAnswer
+) -> Told
     requires { ⌜ (n < streamContexts) × (length (now state) ≡ stateWords) ⌝ }
-    ensures { λ r. ⌜ Delivering (stateOf (now (state .entry))) n flow stream total dropped (said (r .answer)) (r .dropped) (stateOf (now (state .exit))) ⌝ }
+    ensures { λ r. ⌜ Delivering (stateOf (now (state .entry))) n flow stream total dropped (telling r) (r .dropped) (stateOf (now (state .exit))) × Tells r (r .dropped) 0 ⌝ }
 {
     contexts::close_stream(state, n);
-    StreamAnswer {
-        answer: Answer::Delivered {
-            context: n,
-            flow,
-            stream,
-            length: total,
-        },
+    Told {
+        kind: 2,
+        number: 0,
         dropped,
+        response: 0,
+        context: n,
+        source: flow.source,
+        cos_or_letter: flow.cos,
+        stream_or_mailbox: stream,
+        length: total,
     }
 }
 
@@ -86,11 +81,11 @@ pub fn begin_room(
     n: usize,
     count: usize,
     dropped: bool,
-) -> StreamAnswer
+) -> Told
     requires { ⌜ Ready (now state) (now memory) (now packet) (segmentOf (now packet)) ⌝ }
     requires { ⌜ (Fields (now packet) flags from flow) × (segmentOf (now packet) .begins ≡ true) × Fits (stateOf (now state)) (segmentOf (now packet)) n 0 count ⌝ }
-    ensures { λ r. ⌜ joining (said (r .answer)) (r .dropped) (stateOf (now (state .exit))) (now (memory .exit))
-        ≡ placed (stateOf (now (state .entry))) (now (memory .entry)) (now (packet .entry)) (segmentOf (now (packet .entry))) n 0 (segmentOf (now (packet .entry)) .field) dropped ⌝ }
+    ensures { λ r. ⌜ (joining (telling r) (r .dropped) (stateOf (now (state .exit))) (now (memory .exit))
+        ≡ placed (stateOf (now (state .entry))) (now (memory .entry)) (now (packet .entry)) (segmentOf (now (packet .entry))) n 0 (segmentOf (now (packet .entry)) .field) dropped) × Tells r (r .dropped) 0 ⌝ }
 {
     store_data(state, memory, packet, from, n, 0, count);
     let stream = lists::word_at(packet, wire::HEADER + 2);
@@ -98,10 +93,7 @@ pub fn begin_room(
         return deliver(state, n, flow, stream, count, dropped);
     }
     contexts::keep_stream(state, n, flow, stream, count);
-    StreamAnswer {
-        answer: Answer::Held,
-        dropped,
-    }
+    answers::holding(dropped, 0)
 }
 
 // A continuation: its data go behind the `held` bytes that the PDU has, and the context, which is the flow's own, holds them too.
@@ -113,18 +105,15 @@ pub fn hold_room(
     n: usize,
     held: usize,
     count: usize,
-) -> StreamAnswer
+) -> Told
     requires { ⌜ Ready (now state) (now memory) (now packet) (segmentOf (now packet)) ⌝ }
     requires { ⌜ (from ≡ segmentOf (now packet) .from) × GoesOn (stateOf (now state)) (segmentOf (now packet)) n held count false ⌝ }
-    ensures { λ r. ⌜ joining (said (r .answer)) (r .dropped) (stateOf (now (state .exit))) (now (memory .exit))
-        ≡ placed (stateOf (now (state .entry))) (now (memory .entry)) (now (packet .entry)) (segmentOf (now (packet .entry))) n held (streamIn (stateOf (now (state .entry))) n .stream) false ⌝ }
+    ensures { λ r. ⌜ (joining (telling r) (r .dropped) (stateOf (now (state .exit))) (now (memory .exit))
+        ≡ placed (stateOf (now (state .entry))) (now (memory .entry)) (now (packet .entry)) (segmentOf (now (packet .entry))) n held (streamIn (stateOf (now (state .entry))) n .stream) false) × Tells r (r .dropped) 0 ⌝ }
 {
     store_data(state, memory, packet, from, n, held, count);
     contexts::hold(state, n, held + count);
-    StreamAnswer {
-        answer: Answer::Held,
-        dropped: false,
-    }
+    answers::holding(false, 0)
 }
 
 // An end: the PDU is whole with its data, and delivered.
@@ -137,11 +126,11 @@ pub fn end_room(
     n: usize,
     held: usize,
     count: usize,
-) -> StreamAnswer
+) -> Told
     requires { ⌜ Ready (now state) (now memory) (now packet) (segmentOf (now packet)) ⌝ }
     requires { ⌜ (from ≡ segmentOf (now packet) .from) × (flow ≡ segmentOf (now packet) .flow) × GoesOn (stateOf (now state)) (segmentOf (now packet)) n held count true ⌝ }
-    ensures { λ r. ⌜ joining (said (r .answer)) (r .dropped) (stateOf (now (state .exit))) (now (memory .exit))
-        ≡ placed (stateOf (now (state .entry))) (now (memory .entry)) (now (packet .entry)) (segmentOf (now (packet .entry))) n held (streamIn (stateOf (now (state .entry))) n .stream) false ⌝ }
+    ensures { λ r. ⌜ (joining (telling r) (r .dropped) (stateOf (now (state .exit))) (now (memory .exit))
+        ≡ placed (stateOf (now (state .entry))) (now (memory .entry)) (now (packet .entry)) (segmentOf (now (packet .entry))) n held (streamIn (stateOf (now (state .entry))) n .stream) false) × Tells r (r .dropped) 0 ⌝ }
 {
     store_data(state, memory, packet, from, n, held, count);
     let stream = contexts::stream_of(state, n);

@@ -17,10 +17,19 @@ begun s = run (desk (s .args .state .now) (s .args .stream-memory .now) (s .args
 abbrev start-of : tie.After-step → tie.Start
 start-of c = c .before .before .before .before .before .before .before .before .before .before .before
 
+-- the report's words end inside the buffer
 mul-put : tie.Need-mul-put
 mul-put c =
     let s = start-of (c .before .before .before .before .before .before .before .before .before .before) in
     omega (arith, s .pre .space .answers)
+
+put-requires : tie.Need-put-requires
+put-requires c κs =
+    let s = start-of (c .before .before .before .before .before .before .before .before .before .before) in
+    omega (arith, s .pre .space .answers)
+
+reported-requires : tie.Need-reported-requires
+reported-requires c κs = c .before .before .before .before .before .before .before .before .step .ensures .numbers
 
 returns : tie.Need-returns
 returns c =
@@ -40,6 +49,6 @@ read-packet-spec =
     tie.close
     (tie.spec
     (λ c. search needs) (λ c. search needs) (λ c. search needs) (λ c. search needs) (λ c. search needs) (λ c κs. search needs)
-    (λ c κs. search needs)
-    mul-put (λ c κs. search needs)
+    reported-requires
+    mul-put put-requires
     (λ c. search needs) (λ c. search needs) (λ c. search needs) (λ c. search needs) (λ c. search needs) returns)

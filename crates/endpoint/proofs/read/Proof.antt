@@ -1,36 +1,21 @@
--- `endpoint::read` meets its contract: rows 19 and 12, then what the step below promises.
-use mathlib.Core.Path.{sym, _∙_}
+-- `endpoint::read` meets its contract: what the reading below promises, its numbers as an answer.
 use borrow.Author.Needs.{needs}
 use Rattle.reading.specs.Desk.{desk}
-use Rattle.reading.specs.Table.{Lent, lent}
-use Rattle.reading.proofs.Lent.{lent-ready}
-use Rattle.reading.proofs.Laws.{refusal-promised}
-use Rattle.reading.proofs.Rows.{refused-lent}
+use Rattle.reading.specs.Table.{lent}
+use Rattle.endpoint.proofs.Laws.{as-reading}
 use Rattle.endpoint.proofs.read.Statement.{statement}
 use Rattle.endpoint.proofs.read.Tie as tie
 
--- everything lent, from behind the test
-abbrev lent-to : tie.After-lent-refusal → Lent
-lent-to c =
-    let s = c .before .before .before .before .before .before .before .before .before .before in
-    lent (desk (s .args .state .now) (s .args .stream-memory .now) (s .args .message-memory .now) (s .args .response .now)) (s .args .packet .now)
-
--- 19 or 12
 returns : tie.Need-returns
 returns c =
-    let test = c .before in
-    let at-lent = test .before in
-    refusal-promised (lent-to at-lent) (at-lent .lent-refusal .result) _ (c .refused .ensures) (refused-lent (lent-to at-lent) _ (at-lent .lent-refusal .ensures) (test .if1 .taken))
-
--- all that is lent is as it should be
-step-requires : tie.Need-step-requires
-step-requires c κs =
-    let test = c .before .before .before .before in
-    lent-ready (lent-to (test .before) .desk) (sym (test .before .lent-refusal .ensures) ∙ test .if1 .left)
+    let at-read = c .before .before .before .before .before .before .before .before .before in
+    let s = at-read .before .before .before .before .before .before .before .before .before .before .args in
+    let t = at-read .read in
+    as-reading (lent (desk (s .state .now) (s .stream-memory .now) (s .message-memory .now) (s .response .now)) (s .packet .now)) (t .result) (c .reading-of .result)
+    (desk (t .last .0) (t .last .1 .0) (t .last .1 .1 .0) (t .last .1 .1 .1 .0)) (t .ensures) (c .reading-of .ensures)
 
 pub read-spec : {M : Type 1} → statement M
 read-spec =
     tie.close
     (tie.spec
-    (λ c κs. search needs) (λ c κs. search needs) (λ c. search needs) (λ c. search needs) (λ c. search needs) (λ c. search needs) returns
-    step-requires (λ c. search needs) (λ c. search needs) (λ c. search needs) (λ c. search needs) (λ c. search needs))
+    (λ c κs. search needs) (λ c κs. search needs) (λ c. search needs) (λ c. search needs) (λ c. search needs) (λ c. search needs) returns)

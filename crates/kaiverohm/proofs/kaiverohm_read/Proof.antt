@@ -1,4 +1,4 @@
--- `kaiverohm_read` meets its contract: what `endpoint::read` promises, its answer as a report.
+-- `kaiverohm_read` meets its contract: what `reading::read` promises, its numbers as a report.
 use borrow.Author.Needs.{needs}
 use Rattle.reading.specs.Desk.{desk}
 use Rattle.reading.specs.Table.{lent}
@@ -14,9 +14,12 @@ returns c =
     handed (lent (desk (s .state .now) (s .stream-memory .now) (s .message-memory .now) (s .response .now)) (s .packet .now)) (t .result) _
     (desk (t .last .0) (t .last .1 .0) (t .last .1 .1 .0) (t .last .1 .1 .1 .0)) (t .ensures) (c .reported .ensures)
 
+reported-requires : tie.Need-reported-requires
+reported-requires c κs = c .before .before .before .before .before .before .before .before .read .ensures .numbers
+
 pub kaiverohm-read-spec : {M : Type 1} → statement M
 kaiverohm-read-spec =
     tie.close
     (tie.spec
-    (λ c κs. search needs) (λ c κs. search needs)
+    (λ c κs. search needs) reported-requires
     (λ c. search needs) (λ c. search needs) (λ c. search needs) (λ c. search needs) returns)

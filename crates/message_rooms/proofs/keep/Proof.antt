@@ -1,8 +1,10 @@
 -- `message_rooms::keep` meets its contract: delivered where all are marked, else kept.
 use Prim.Native.Nat.{_≤_}
-use mathlib.Core.Path.{sym, _∙_}
+use mathlib.Core.Path.{refl, sym, _∙_}
 use native.Mathlib.Omega.{arith}
 use borrow.Author.Needs.{needs}
+use Rattle.answers.specs.Answers.{held}
+use Rattle.answers.proofs.Telling.{told-says, told-tells}
 use Rattle.sizes.proofs.Laws.{bytes-le}
 use Rattle.message_rooms.proofs.Laws.{product-le}
 use Rattle.message_rooms.proofs.keep.Statement.{statement}
@@ -36,18 +38,22 @@ returns c =
     let test = at-test at-bytes in
     let all = sym (test .before .all-marked .ensures) ∙ test .if1 .taken in
     let at-close = at-bytes .before .before .before .before in
-    record {
-      answer = rw (at-bytes .before .mailbox-of .ensures, at-bytes .bytes-of .ensures, all);
-      state = rw all (at-close .close-message .ensures);
-    }
+    (
+      record {
+        answer = rw (at-bytes .before .mailbox-of .ensures, at-bytes .bytes-of .ensures, all);
+        state = rw all (at-close .close-message .ensures);
+      },
+      refl,
+    )
 
 -- kept
 returns-2 : tie.Need-returns-2
 returns-2 c =
-    let at-keep = c .before .before in
+    let at-keep = c .before .before .before in
     let test = at-keep .before .before in
     let some = sym (test .before .all-marked .ensures) ∙ test .if1 .left in
-    record { answer = rw some; state = rw some (at-keep .keep-message .ensures) }
+    let t = c .holding .ensures in
+    (record { answer = told-says _ held _ _ t ∙ rw some; state = rw some (at-keep .keep-message .ensures) }, told-tells _ held _ _ t)
 
 pub keep-spec : {M : Type 1} → statement M
 keep-spec =
@@ -55,4 +61,4 @@ keep-spec =
     (tie.spec
     (λ c. search needs) (λ c. search needs) (λ c κs. search needs)
     (λ c κs. search needs) (λ c κs. search needs) (λ c κs. search needs) length-le length-fits (λ c. search needs) returns
-    (λ c κs. search needs) (λ c. search needs) returns-2)
+    (λ c κs. search needs) (λ c κs. search needs) (λ c. search needs) returns-2)

@@ -22,7 +22,8 @@ returns c =
     let at-message = at-take .before .before .before .before in
     let s = entry at-message in
     let stepped = messageStepped (stateOf (s .args .state .now)) (s .args .memory .now) (s .args .response .now) (s .args .packet .now) in
-    at-take .take .ensures ∙ ap stepped (at-message .message-of .ensures)
+    let t = at-take .take .ensures in
+    (t .0 ∙ ap stepped (at-message .message-of .ensures), t .1)
 
 pub step-spec : {M : Type 1} → statement M
 step-spec = tie.close (tie.spec (λ c κs. search needs) take-requires (λ c. search needs) (λ c. search needs) (λ c. search needs) returns)

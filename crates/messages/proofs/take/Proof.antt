@@ -34,7 +34,8 @@ returns : tie.Need-returns
 returns c =
     let at-refuse = c .before .before in
     let test = at-refuse .before .before in
-    step-refused _ _ _ _ _ _ (test .before .judge .ensures) (test .if1 .taken) (at-refuse .refuse .ensures)
+    let t = at-refuse .refuse .ensures in
+    (step-refused _ _ _ _ _ _ (test .before .judge .ensures) (test .if1 .taken) (t .0), t .1)
 
 -- a single-segment message
 take-alone-requires : tie.Need-take-alone-requires
@@ -66,7 +67,8 @@ returns-3 c =
     let test = at-status .before .before in
     let at-choose = test .before .before in
     let fine = judged-fine (past-form (past-kind at-choose)) in
-    chosen-refused _ _ _ _ _ fine _ (at-choose .choose .ensures) _ (test .if3 .taken) (at-status .status-of .ensures) (at-refuse .refuse2 .ensures)
+    let t = at-refuse .refuse2 .ensures in
+    (chosen-refused _ _ _ _ _ fine _ (at-choose .choose .ensures) _ (test .if3 .taken) (at-status .status-of .ensures) (t .0), t .1)
 
 place-requires : tie.Need-place-requires
 place-requires c κs =
@@ -82,7 +84,8 @@ returns-4 c =
     let test = at-place .before .before .before .before in
     let at-choose = test .before .before in
     let fine = judged-fine (past-form (past-kind at-choose)) in
-    chosen-placed _ _ _ _ _ fine _ (at-choose .choose .ensures) (test .if3 .left) (at-place .place .ensures)
+    let t = at-place .place .ensures in
+    (chosen-placed _ _ _ _ _ fine _ (at-choose .choose .ensures) (test .if3 .left) (t .0), t .1)
 
 pub take-spec : {M : Type 1} → statement M
 take-spec =

@@ -1,6 +1,6 @@
 -- `messages::take_alone` meets its contract: the lowest free context, or none is free.
 use Prim.Native.Nat.{ℕ}
-use mathlib.Core.Path.{ap, _∙_}
+use mathlib.Core.Path.{refl, ap, _∙_}
 use native.Mathlib.Omega.{arith}
 use lib.ListN.{length-take, length-drop}
 use borrow.Author.Needs.{needs}
@@ -21,7 +21,8 @@ returns c =
     let at-refuse = c .before .before in
     let test = at-refuse .before .before in
     let at-free = test .before in
-    alone-none _ _ _ _ _ (entry at-free .pre .1 .0 .rows) (entry at-free .pre .1 .1) (rw (← at-free .free-message .ensures) (test .if1 .taken)) (at-refuse .refuse .ensures)
+    let t = at-refuse .refuse .ensures in
+    (alone-none _ _ _ _ _ (entry at-free .pre .1 .0 .rows) (entry at-free .pre .1 .1) (rw (← at-free .free-message .ensures) (test .if1 .taken)) (t .0), t .1)
 
 -- the store ends inside the room
 store-requires : tie.Need-store-requires
@@ -44,8 +45,8 @@ returns-2 c =
     let rep = s .args .response .now in
     let p = s .args .packet .now in
     let m = s .args .m in
-    taking st mem rep p m _ _ _ _ _ (c .mailbox-of .ensures) (at-close .close-message .ensures) (at-store .store .ensures) (at-done .done .ensures)
-    ∙ (ap (deliveredAtOnce st mem rep p m) free ∙ alone-taken st mem rep p m (s .pre .1 .0 .rows) (s .pre .1 .1) (rw (← free) (test .if1 .left)))
+    (taking st mem rep p m _ _ _ _ _ (c .mailbox-of .ensures) (at-close .close-message .ensures) (at-store .store .ensures) (at-done .done .ensures)
+    ∙ (ap (deliveredAtOnce st mem rep p m) free ∙ alone-taken st mem rep p m (s .pre .1 .0 .rows) (s .pre .1 .1) (rw (← free) (test .if1 .left))), refl)
 
 pub take-alone-spec : {M : Type 1} → statement M
 take-alone-spec =

@@ -17,7 +17,7 @@ use Rattle.reading.specs.Read.{reading}
 use Rattle.reading.specs.Inside.{ReadyToRead}
 use Rattle.reading.proofs.Packets.{stream-parsed, message-parsed, message-small}
 use Rattle.reading.proofs.Rows.{byParsed, by-packet}
-use Rattle.reading.proofs.Laws.{refusal-promised, sizes-right, stream-settled, message-settled}
+use Rattle.reading.proofs.Laws.{refusal-promised, sizes-right, stream-promised, message-promised}
 use Rattle.reading.proofs.step.Statement.{statement}
 use Rattle.reading.proofs.step.Tie as tie
 
@@ -52,7 +52,7 @@ is-refused c = is-number (c .before) ∙ rw (lt-ltb _ _ (c .if1 .taken))
 returns : tie.Need-returns
 returns c =
     let at-head = c .before .before in
-    refusal-promised (lent-to at-head) _ _ (c .refused .ensures) (sym (by-head at-head ∙ ap (byParsed (lent-to at-head)) (is-refused (c .before))))
+    refusal-promised (lent-to at-head) _ _ (c .refusal .ensures) (sym (by-head at-head ∙ ap (byParsed (lent-to at-head)) (is-refused (c .before))))
 
 -- ---- type 9
 
@@ -73,7 +73,7 @@ returns-2 c =
     let at-head = test .before .before in
     let x = lent-to at-head in
     let t = at-step .step in
-    stream-settled x _ _ (t .last .0) (t .last .1 .0) _ (t .kept .0 ∙ ready at-head .fit .whole) (t .ensures) ∙ sym (by-head at-head ∙ ap (byParsed x) (is-9 test))
+    stream-promised x (t .result) (t .last .0) (t .last .1 .0) _ (t .kept .0 ∙ ready at-head .fit .whole) (t .ensures) (sym (by-head at-head ∙ ap (byParsed x) (is-9 test)))
 
 -- ---- type 11
 
@@ -99,7 +99,7 @@ returns-3 c =
     let at-head = test .before .before in
     let x = lent-to at-head in
     let t = at-step .step2 in
-    message-settled x _ (t .last .0) (t .last .1 .0) (t .last .1 .1 .0) _ (t .kept .0 ∙ ready at-head .fit .whole) (t .ensures) ∙ sym (by-head at-head ∙ ap (byParsed x) (is-11 test))
+    message-promised x (t .result) (t .last .0) (t .last .1 .0) (t .last .1 .1 .0) _ (t .kept .0 ∙ ready at-head .fit .whole) (t .ensures) (sym (by-head at-head ∙ ap (byParsed x) (is-11 test)))
 
 pub step-spec : {M : Type 1} → statement M
 step-spec =

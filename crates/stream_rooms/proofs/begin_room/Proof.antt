@@ -1,7 +1,8 @@
 -- `stream_rooms::begin_room` meets its contract: the data are stored, and a single is delivered, a start kept.
 use native.Mathlib.Omega.{arith}
 use borrow.Author.Needs.{needs}
-use Rattle.stream_rooms.proofs.Laws.{ends-by, start-from, start-field, single, start}
+use Rattle.answers.specs.Answers.{held}
+use Rattle.stream_rooms.proofs.Laws.{joined-told, ends-by, start-from, start-field, single, start}
 use Rattle.stream_rooms.proofs.begin_room.Statement.{statement}
 use Rattle.stream_rooms.proofs.begin_room.Tie as tie
 
@@ -31,19 +32,20 @@ returns c =
     let at-store = store (test .before) in
     let s = entry at-store in
     let fields = s .pre .1 .0 in
-    single _ _ _ _ _ _ _ (s .pre .1 .2) (at-store .store-data .ensures) _ (start-field _ (s .pre .1 .1) (test .before .before .word-at .ensures .0))
-    (ends-by _ (fields .flag-bits) (test .before .bit .ensures) (test .if1 .taken)) (fields .sender) (at-deliver .deliver .ensures)
+    let t = at-deliver .deliver .ensures in
+    (single _ _ _ _ _ _ _ (s .pre .1 .2) (at-store .store-data .ensures) _ (start-field _ (s .pre .1 .1) (test .before .before .word-at .ensures .0))
+    (ends-by _ (fields .flag-bits) (test .before .bit .ensures) (test .if1 .taken)) (fields .sender) (t .0), t .1)
 
 -- a start
 returns-2 : tie.Need-returns-2
 returns-2 c =
-    let at-keep = c .before .before in
+    let at-keep = c .before .before .before in
     let test = at-keep .before .before in
     let at-store = store (test .before) in
     let s = entry at-store in
     let fields = s .pre .1 .0 in
-    start _ _ _ _ _ _ _ (s .pre .1 .2) (at-store .store-data .ensures) _ (start-field _ (s .pre .1 .1) (test .before .before .word-at .ensures .0))
-    (ends-by _ (fields .flag-bits) (test .before .bit .ensures) (test .if1 .left)) (fields .sender) (at-keep .keep-stream .ensures)
+    joined-told held (c .holding .ensures) (start _ _ _ _ _ _ _ (s .pre .1 .2) (at-store .store-data .ensures) _ (start-field _ (s .pre .1 .1) (test .before .before .word-at .ensures .0))
+    (ends-by _ (fields .flag-bits) (test .before .bit .ensures) (test .if1 .left)) (fields .sender) (at-keep .keep-stream .ensures))
 
 pub begin-room-spec : {M : Type 1} → statement M
 begin-room-spec =
@@ -51,4 +53,4 @@ begin-room-spec =
     (tie.spec
     store-data-requires (λ c. search needs) word-at-requires (λ c κs. search needs)
     (λ c κs. search needs) (λ c. search needs) (λ c. search needs) returns
-    (λ c κs. search needs) (λ c. search needs) (λ c. search needs) returns-2)
+    (λ c κs. search needs) (λ c κs. search needs) (λ c. search needs) (λ c. search needs) returns-2)

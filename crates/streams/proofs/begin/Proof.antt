@@ -1,5 +1,7 @@
 -- `streams::begin` meets its contract: the flow's own context from its beginning, else the lowest free one, else none.
 use borrow.Author.Needs.{needs}
+use Rattle.answers.specs.Answers.{refused}
+use Rattle.stream_rooms.proofs.Laws.{joined-told}
 use Rattle.streams.proofs.Laws.{start-fits, begin-own, begin-free, begin-none}
 use Rattle.streams.proofs.begin.Statement.{statement}
 use Rattle.streams.proofs.begin.Tie as tie
@@ -26,7 +28,8 @@ returns c =
     let test = at-room .before .before .before in
     let s = entry (test .before) in
     let begins = s .pre .1 .1 in
-    begin-own _ _ _ _ (begins .start) (begins .passed) (s .pre .0 .good) (test .if1 .taken) (at-room .begin-room .ensures)
+    let t = at-room .begin-room .ensures in
+    (begin-own _ _ _ _ (begins .start) (begins .passed) (s .pre .0 .good) (test .if1 .taken) (t .0), t .1)
 
 -- the lowest free one
 begin-room-requires-2 : tie.Need-begin-room-requires-2
@@ -43,15 +46,17 @@ returns-2 c =
     let own = no-own (test .before) in
     let s = entry (own .before) in
     let begins = s .pre .1 .1 in
-    begin-free _ _ _ _ (begins .start) (begins .passed) (s .pre .0 .good) (own .if1 .left) (test .before .free-stream .ensures) (test .if2 .taken) (at-room .begin-room2 .ensures)
+    let t = at-room .begin-room2 .ensures in
+    (begin-free _ _ _ _ (begins .start) (begins .passed) (s .pre .0 .good) (own .if1 .left) (test .before .free-stream .ensures) (test .if2 .taken) (t .0), t .1)
 
 -- 10: none is free
 returns-3 : tie.Need-returns-3
 returns-3 c =
-    let own = no-own (c .before) in
+    let test = c .before in
+    let own = no-own (test .before) in
     let s = entry (own .before) in
     let begins = s .pre .1 .1 in
-    begin-none _ _ _ _ (begins .start) (begins .passed) (s .pre .0 .good) (own .if1 .left) (c .before .free-stream .ensures) (c .if2 .left)
+    joined-told (refused 10) (c .refusal .ensures) (begin-none _ _ _ _ (begins .start) (begins .passed) (s .pre .0 .good) (own .if1 .left) (test .before .free-stream .ensures) (test .if2 .left))
 
 pub begin-spec : {M : Type 1} → statement M
 begin-spec =
@@ -59,4 +64,4 @@ begin-spec =
     (tie.spec
     begin-room-requires (λ c. search needs) (λ c. search needs) returns
     (λ c κs. search needs) begin-room-requires-2 (λ c. search needs) (λ c. search needs) returns-2
-    (λ c. search needs) returns-3)
+    (λ c κs. search needs) (λ c. search needs) returns-3)

@@ -1,9 +1,10 @@
 -- `streams::go_on` meets its contract: rows 8 and 9, then an end by its length, a continuation behind what the context holds.
 use native.Mathlib.Omega.{arith}
 use borrow.Author.Needs.{needs}
+use Rattle.answers.specs.Answers.{refused}
 use Rattle.wire.specs.Type9.{segmentOf}
 use Rattle.contexts.proofs.Words.{sixteen}
-use Rattle.stream_rooms.proofs.Laws.{ends-by}
+use Rattle.stream_rooms.proofs.Laws.{joined-told, ends-by}
 use Rattle.streams.proofs.Laws.{total-le, own-flow, no-length, go-closed, go-passes, go-placed}
 use Rattle.streams.proofs.go_on.Statement.{statement}
 use Rattle.streams.proofs.go_on.Tie as tie
@@ -24,8 +25,9 @@ fits c = c .before
 -- 8: the flow is not open
 returns : tie.Need-returns
 returns c =
-    let s = c .before .before .before .before in
-    go-closed _ _ _ _ (s .pre .1 .1 .start) (s .pre .1 .1 .passed) (c .if1 .taken)
+    let test = c .before in
+    let s = test .before .before .before .before in
+    joined-told (refused 8) (c .refusal .ensures) (go-closed _ _ _ _ (s .pre .1 .1 .start) (s .pre .1 .1 .passed) (test .if1 .taken))
 
 -- what the context holds is at most R, and the data at most the MTU
 add-total : tie.Need-add-total
@@ -47,8 +49,9 @@ returns-2 c =
     let at-room = test .before in
     let opened = is-open (own at-room) in
     let s = entry opened in
-    go-passes _ _ _ _ (s .pre .1 .1 .start) (s .pre .1 .1 .passed) (opened .if1 .left) (own at-room .held-of .ensures) (at-room .room .ensures) (omega (arith, test .if2 .taken))
-    (at-close .refused-closing .ensures)
+    let t = at-close .refused-closing .ensures in
+    (go-passes _ _ _ _ (s .pre .1 .1 .start) (s .pre .1 .1 .passed) (opened .if1 .left) (own at-room .held-of .ensures) (at-room .room .ensures) (omega (arith, test .if2 .taken))
+    (t .0), t .1)
 
 -- an end
 end-requires : tie.Need-end-requires
@@ -106,14 +109,15 @@ returns-4 c =
     let opened = is-open (own at-room) in
     let s = entry opened in
     let on = s .pre .1 .1 in
-    go-placed _ _ _ _ (on .start) (on .passed) (opened .if1 .left) (own at-room .held-of .ensures) (at-room .room .ensures) (within .if2 .left)
-    (no-length (segmentOf (s .args .packet .now)) _ (ends-by _ (s .pre .1 .0 .flag-bits) (test .before .bit .ensures) (test .if3 .left))) (at-hold .hold-room .ensures)
+    let t = at-hold .hold-room .ensures in
+    (go-placed _ _ _ _ (on .start) (on .passed) (opened .if1 .left) (own at-room .held-of .ensures) (at-room .room .ensures) (within .if2 .left)
+    (no-length (segmentOf (s .args .packet .now)) _ (ends-by _ (s .pre .1 .0 .flag-bits) (test .before .bit .ensures) (test .if3 .left))) (t .0), t .1)
 
 pub go-on-spec : {M : Type 1} → statement M
 go-on-spec =
     tie.close
     (tie.spec
-    returns
+    (λ c κs. search needs) returns
     (λ c κs. search needs) add-total (λ c κs. search needs)
     refused-closing-requires (λ c. search needs) returns-2
     (λ c κs. search needs) end-requires (λ c. search needs) (λ c. search needs) returns-3

@@ -101,7 +101,8 @@ returns c =
     let test = at-close .before .before in
     let at-found = test .before .before in
     let f = fields at-found in
-    step-malformed _ _ _ _ (found-is at-found) (malformed-by _ (f .flag-bits) (f .data-from) refl (test .before .is-wrong-form .ensures) (test .if1 .taken)) (at-close .refused-closing .ensures)
+    let t = at-close .refused-closing .ensures in
+    (step-malformed _ _ _ _ (found-is at-found) (malformed-by _ (f .flag-bits) (f .data-from) refl (test .before .is-wrong-form .ensures) (test .if1 .taken)) (t .0), t .1)
 
 data-length-requires : tie.Need-data-length-requires
 data-length-requires c κs =
@@ -121,8 +122,9 @@ returns-2 c =
     let at-mtu = test .before .before in
     let at-found = found-at (test .before) in
     let f = fields at-found in
-    step-missized _ _ _ _ (well-formed (past-6 (test .before))) (data-by _ (f .flag-bits) (f .data-from) refl (at-mtu .before .before .data-length .ensures)) (at-mtu .mtu .ensures) (found-is at-found)
-    (size-by _ (f .flag-bits) (at-mtu .before .before .data-length .result) (at-mtu .mtu .result) (test .before .is-wrong-size .ensures) (test .if2 .taken)) (at-close .refused-closing2 .ensures)
+    let t = at-close .refused-closing2 .ensures in
+    (step-missized _ _ _ _ (well-formed (past-6 (test .before))) (data-by _ (f .flag-bits) (f .data-from) refl (at-mtu .before .before .data-length .ensures)) (at-mtu .mtu .ensures) (found-is at-found)
+    (size-by _ (f .flag-bits) (at-mtu .before .before .data-length .result) (at-mtu .mtu .result) (test .before .is-wrong-size .ensures) (test .if2 .taken)) (t .0), t .1)
 
 -- a start or single
 begin-requires : tie.Need-begin-requires

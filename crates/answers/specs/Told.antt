@@ -1,0 +1,55 @@
+-- The answer to a packet as numbers, as the steps hand it up. A report for C has the same numbers in the same order.
+use Prim.Native.Nat.{ℕ}
+use mathlib.Core.Path.{_≡_}
+use mathlib.Core.Bool.{Bool, cond}
+use lib.Dec.{eqb}
+use Rattle.wire.specs.declared.Flow.{Flow}
+use Rattle.answers.specs.Answers.{Said, held, delivered, message, refused}
+use Rattle.answers.specs.declared.Told.{Told}
+
+-- numbers that carry no PDU and no message
+abbrev pub plainTold : ℕ → ℕ → Bool → ℕ → Told
+plainTold kind number dropped response = record {
+  kind = kind;
+  number = number;
+  dropped = dropped;
+  response = response;
+  context = 0;
+  source = 0;
+  «cos_or_letter» = 0;
+  «stream_or_mailbox» = 0;
+  length = 0;
+}
+
+-- numbers that carry one
+abbrev pub carryingTold : ℕ → Bool → ℕ → ℕ → ℕ → ℕ → ℕ → ℕ → Told
+carryingTold kind dropped response context source cosOrLetter streamOrMailbox size = record {
+  kind = kind;
+  number = 0;
+  dropped = dropped;
+  response = response;
+  context = context;
+  source = source;
+  «cos_or_letter» = cosOrLetter;
+  «stream_or_mailbox» = streamOrMailbox;
+  length = size;
+}
+
+-- the numbers of what reading says, whether it dropped an open PDU, and how many bytes of response it wrote
+abbrev pub toldOf : Said → Bool → ℕ → Told
+toldOf (refused number) dropped response = plainTold 0 number dropped response
+toldOf held dropped response = plainTold 1 0 dropped response
+toldOf (delivered context flow stream size) dropped response = carryingTold 2 dropped response context (flow .source) (flow .cos) stream size
+toldOf (message context source letter mailbox size) dropped response = carryingTold 3 dropped response context source letter mailbox size
+
+-- and back: what they tell
+abbrev pub telling : Told → Said
+telling t =
+    cond (eqb (t .kind) 0) (refused (t .number))
+    (cond (eqb (t .kind) 1) held
+    (cond (eqb (t .kind) 2) (delivered (t .context) (record { source = t .source; cos = t .«cos_or_letter» }) (t .«stream_or_mailbox») (t .length))
+    (message (t .context) (t .source) (t .«cos_or_letter») (t .«stream_or_mailbox») (t .length))))
+
+-- numbers that are those of what they tell: each is set, and those that carry nothing are 0
+abbrev pub Tells : Told → Bool → ℕ → Type 0
+Tells t dropped response = t ≡ toldOf (telling t) dropped response
