@@ -3,8 +3,8 @@ use Prim.Native.Nat.{ℕ}
 use mathlib.Core.Path.{_≡_, refl, ap, ap₂, sym, _∙_}
 use mathlib.Core.Bool.{Bool}
 use Rattle.answers.specs.Answers.{Said, held, delivered, message, refused}
-use Rattle.answers.specs.declared.Told.{Told}
-use Rattle.answers.specs.Told.{toldOf, telling, Tells}
+use Rattle.answers.specs.declared.Figures.{Figures}
+use Rattle.answers.specs.Figures.{toldOf, telling, AllSet}
 
 tells-back : (s : Said) (dropped : Bool) (response : ℕ) → telling (toldOf s dropped response) ≡ s
 tells-back (refused _) _ _ = refl
@@ -25,21 +25,21 @@ response-back (delivered _ _ _ _) _ _ = refl
 response-back (message _ _ _ _ _) _ _ = refl
 
 -- numbers that were made of something tell it
-module _ (t : Told) (s : Said) (dropped : Bool) (response : ℕ) (e : t ≡ toldOf s dropped response) where
+module _ (t : Figures) (s : Said) (dropped : Bool) (response : ℕ) (e : t ≡ toldOf s dropped response) where
   pub told-says : telling t ≡ s
   told-says = ap telling e ∙ tells-back s dropped response
 
   pub told-dropped : t .dropped ≡ dropped
-  told-dropped = ap (λ (u : Told). u .dropped) e ∙ dropped-back s dropped response
+  told-dropped = ap (λ (u : Figures). u .dropped) e ∙ dropped-back s dropped response
 
   pub told-response : t .response ≡ response
-  told-response = ap (λ (u : Told). u .response) e ∙ response-back s dropped response
+  told-response = ap (λ (u : Figures). u .response) e ∙ response-back s dropped response
 
-  pub told-tells : Tells t dropped response
+  pub told-tells : AllSet t dropped response
   told-tells = e ∙ rw told-says
 
-  pub told-tells-own : Tells t (t .dropped) response
+  pub told-tells-own : AllSet t (t .dropped) response
   told-tells-own = e ∙ rw (told-says, told-dropped)
 
-  pub told-tells-whole : Tells t (t .dropped) (t .response)
+  pub told-tells-whole : AllSet t (t .dropped) (t .response)
   told-tells-whole = e ∙ rw (told-says, told-dropped, told-response)

@@ -1,4 +1,4 @@
 pub mod Answers
 pub mod Once
 pub mod Stands
-pub mod Told
+pub mod Figures

@@ -3,7 +3,7 @@
 use wire::Flow;
 ghost use mathlib.Core.Path.{_≡_};
 ghost use Rattle.answers.specs.Answers.{said, refused, held};
-ghost use Rattle.answers.specs.Told.{telling, plainTold, toldOf};
+ghost use Rattle.answers.specs.Figures.{telling, plainTold, toldOf};
 
 // The answer to a packet.
 pub enum Answer {
@@ -24,9 +24,9 @@ pub enum Answer {
     Refused(usize),
 }
 
-// The same as numbers, by value, which is how the steps hand it up: specs/Told.antt sets out the numbers. `dropped`, whether the packet closed an
+// The same as numbers, by value, which is how the steps hand it up: specs/Figures.antt sets out the numbers. `dropped`, whether the packet closed an
 // open stream context undelivered; `response`, how many bytes of response were written.
-pub struct Told {
+pub struct Figures {
     pub kind: usize,
     pub number: usize,
     pub dropped: bool,
@@ -65,10 +65,10 @@ pub enum Written {
 }
 
 // What carries no PDU and no message.
-fn plain(kind: usize, number: usize, dropped: bool, response: usize) -> Told
+fn plain(kind: usize, number: usize, dropped: bool, response: usize) -> Figures
     ensures { λ r. ⌜ r ≡ plainTold kind number dropped response ⌝ }
 {
-    Told {
+    Figures {
         kind,
         number,
         dropped,
@@ -82,21 +82,21 @@ fn plain(kind: usize, number: usize, dropped: bool, response: usize) -> Told
 }
 
 // A refusal.
-pub fn refusal(number: usize, dropped: bool, response: usize) -> Told
+pub fn refusal(number: usize, dropped: bool, response: usize) -> Figures
     ensures { λ r. ⌜ r ≡ toldOf (refused number) dropped response ⌝ }
 {
     plain(0, number, dropped, response)
 }
 
 // A segment that is held.
-pub fn holding(dropped: bool, response: usize) -> Told
+pub fn holding(dropped: bool, response: usize) -> Figures
     ensures { λ r. ⌜ r ≡ toldOf held dropped response ⌝ }
 {
     plain(1, 0, dropped, response)
 }
 
 // The answer that these numbers tell.
-fn answer_of(t: Told) -> Answer
+fn answer_of(t: Figures) -> Answer
     ensures { λ r. ⌜ said r ≡ telling t ⌝ }
 {
     if t.kind == 0 {
@@ -127,7 +127,7 @@ fn answer_of(t: Told) -> Answer
 }
 
 // The reading that these numbers tell.
-pub fn reading_of(t: Told) -> Reading
+pub fn reading_of(t: Figures) -> Reading
     ensures { λ r. ⌜ (said (r .answer) ≡ telling t) × (r .dropped ≡ t .dropped) × (r .response ≡ t .response) ⌝ }
 {
     let dropped = t.dropped;

@@ -9,8 +9,8 @@ use lib.Seq.{drop-drop}
 use borrow.Rule.Slice.PartMut.{midOf, putMid}
 use Rattle.lists.specs.Bytes.{written}
 use Rattle.lists.proofs.Written.{written-is}
-use Rattle.answers.specs.declared.Told.{Told}
-use Rattle.answers.specs.Told.{telling}
+use Rattle.answers.specs.declared.Figures.{Figures}
+use Rattle.answers.specs.Figures.{telling}
 use Rattle.contexts.specs.State.{Setup, streamContexts}
 use Rattle.reading.specs.Desk.{Desk, stateOn, withResponse}
 use Rattle.reading.specs.Table.{lent}
@@ -49,7 +49,7 @@ module _ (r : Run) (ready : ReadyToRun r 1) where
   slot-length = ap length slot-is ∙ simp (length-take, length-drop) (omega (arith, ready .space .replies))
 
   -- what reading left: in its memories, in its slot, and with the report beside it
-  module _ (packet : List ℕ) (small : getD packet 5 0 < 256) (t : Told) (after : Desk) (promise : ToldPromise (lent lentDesk packet) t after) where
+  module _ (packet : List ℕ) (small : getD packet 5 0 < 256) (t : Figures) (after : Desk) (promise : ToldPromise (lent lentDesk packet) t after) where
     as-defined : settled (telling t) (t .dropped) (t .response) after ≡ readIn r packet
     as-defined = promise .promised ∙ ap (λ (s : List ℕ). reading (lent (withResponse (r .desk) s) packet)) slot-is
 

@@ -8,13 +8,13 @@ use lib.ListN.{length, set}
 use Rattle.lists.specs.Bytes.{written}
 use Rattle.lists.proofs.Written.{stores}
 use Rattle.answers.specs.Answers.{Said, held, delivered, message, refused}
-use Rattle.answers.specs.declared.Told.{Told}
-use Rattle.answers.specs.Told.{toldOf, telling, Tells}
+use Rattle.answers.specs.declared.Figures.{Figures}
+use Rattle.answers.specs.Figures.{toldOf, telling, AllSet}
 use Rattle.c_reports.specs.declared.Report.{Report}
 use Rattle.c_reports.specs.Reports.{flagOf, reportOf, reportWords, wordsOfReport}
 
 -- the report with these numbers
-abbrev asReport : Told → ℕ → Report
+abbrev asReport : Figures → ℕ → Report
 asReport t flag = record {
   kind = t .kind;
   number = t .number;
@@ -42,5 +42,5 @@ reported-back held _ _ = refl
 reported-back (delivered _ _ _ _) _ _ = refl
 reported-back (message _ _ _ _ _) _ _ = refl
 
-pub numbers-reported : (t : Told) {flag : ℕ} → flag ≡ flagOf (t .dropped) → Tells t (t .dropped) (t .response) → asReport t flag ≡ reportOf (telling t) (t .dropped) (t .response)
-numbers-reported t f e = ap (asReport t) f ∙ (ap (λ (u : Told). asReport u (flagOf (t .dropped))) e ∙ reported-back (telling t) (t .dropped) (t .response))
+pub numbers-reported : (t : Figures) {flag : ℕ} → flag ≡ flagOf (t .dropped) → AllSet t (t .dropped) (t .response) → asReport t flag ≡ reportOf (telling t) (t .dropped) (t .response)
+numbers-reported t f e = ap (asReport t) f ∙ (ap (λ (u : Figures). asReport u (flagOf (t .dropped))) e ∙ reported-back (telling t) (t .dropped) (t .response))

@@ -1,13 +1,13 @@
 // The answer to a packet as a report of numbers, which C can take: as a struct, and as words of a lent buffer.
 use answers::Abandoned;
 use answers::Begun;
-use answers::Told;
+use answers::Figures;
 use answers::Written;
 ghost use mathlib.Core.Path.{_≡_};
 ghost use Prim.Native.Nat.{_+_, _≤_};
 ghost use lib.ListN.{length};
 ghost use Rattle.answers.specs.Answers.{saidOfSetup, saidOfAbandon, saidOfWriter};
-ghost use Rattle.answers.specs.Told.{telling, Tells};
+ghost use Rattle.answers.specs.Figures.{telling, AllSet};
 ghost use Rattle.lists.specs.Bytes.{written};
 ghost use Rattle.c_reports.specs.Reports.{flagOf, reportOf, reportWords, wordsOfReport};
 ghost use Rattle.c_reports.specs.Reports.{numbersOfSetup, numbersOfAbandon, numbersOfWriter};
@@ -39,8 +39,8 @@ fn flag(b: bool) -> usize
 }
 
 // The report of reading a packet: its numbers, each in its place. Every caller has numbers that are those of what they tell.
-pub fn reported(t: Told) -> Report
-    requires { ⌜ Tells t (t .dropped) (t .response) ⌝ }
+pub fn reported(t: Figures) -> Report
+    requires { ⌜ AllSet t (t .dropped) (t .response) ⌝ }
     ensures { λ r. ⌜ r ≡ reportOf (telling t) (t .dropped) (t .response) ⌝ }
 {
     Report {

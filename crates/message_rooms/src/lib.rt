@@ -1,11 +1,11 @@
 // What a type 11 segment does to one context and its room: its data stored, the context kept or delivered, the response written.
-use answers::Told;
+use answers::Figures;
 use wire::MessageSegment;
 ghost use mathlib.Core.Path.{_≡_};
 ghost use mathlib.Core.Bool.{false};
 ghost use Prim.Native.Nat.{_+_, _<_, _≤_};
 ghost use lib.ListN.{length};
-ghost use Rattle.answers.specs.Told.{telling, Tells};
+ghost use Rattle.answers.specs.Figures.{telling, AllSet};
 ghost use Rattle.wire.specs.Packet.{header};
 ghost use Rattle.responses.specs.Type13.{responseSize, DONE, answered};
 ghost use Rattle.contexts.specs.State.{messageContexts};
@@ -20,9 +20,9 @@ pub const ROOM: usize = 4096;
 pub const MEMORY: usize = contexts::MESSAGE_CONTEXTS * ROOM;
 
 // A refusal: its response is written, and nothing else. Every caller has a buffer for it, a packet with its head and a status.
-pub fn refuse(response: &mut [u8], packet: &[u8], number: usize, status: u8) -> Told
+pub fn refuse(response: &mut [u8], packet: &[u8], number: usize, status: u8) -> Figures
     requires { ⌜ (responseSize ≤ length (now response)) × (header + 2 ≤ length (now packet)) × (status < 16) ⌝ }
-    ensures { λ r. ⌜ Replied (now (response .entry)) (now (packet .entry)) number status (telling r) (now (response .exit)) × Tells r false responseSize ⌝ }
+    ensures { λ r. ⌜ Replied (now (response .entry)) (now (packet .entry)) number status (telling r) (now (response .exit)) × AllSet r false responseSize ⌝ }
 {
     responses::respond(response, packet, status);
     answers::refusal(number, false, responses::SIZE)
@@ -37,14 +37,14 @@ pub fn done(response: &mut [u8], packet: &[u8])
 }
 
 // Context n with these marks: delivered where all segments are in, else kept.
-fn keep(state: &mut [usize], m: MessageSegment, n: usize, marks: usize, last: usize) -> Told
+fn keep(state: &mut [usize], m: MessageSegment, n: usize, marks: usize, last: usize) -> Figures
     requires { ⌜ (n < messageContexts) × (length (now state) ≡ stateWords) ⌝ }
     requires { ⌜ (marks < 65536) × (last ≤ 256) × (m .msglen < 16) × (m .msgseg < 16) × (m .mbox < 4) ⌝ }
-    ensures { λ r. ⌜ MessageKept (stateOf (now (state .entry))) m n marks last (telling r) (stateOf (now (state .exit))) × Tells r false responseSize ⌝ }
+    ensures { λ r. ⌜ MessageKept (stateOf (now (state .entry))) m n marks last (telling r) (stateOf (now (state .exit))) × AllSet r false responseSize ⌝ }
 {
     if marks::all_marked(marks as u16, m.msglen + 1) {
         contexts::close_message(state, n);
-        return Told {
+        return Figures {
             kind: 3,
             number: 0,
             dropped: false,
@@ -81,12 +81,12 @@ pub fn place(
     n: usize,
     marks: usize,
     last: usize,
-) -> Told
+) -> Figures
     requires { ⌜ MessageReady (now state) (now memory) (now response) (now packet) m ⌝ }
     requires { ⌜ Sound m ⌝ }
     requires { ⌜ MessageFits m n marks last ⌝ }
     ensures { λ r. ⌜ (messageJoining (telling r) (stateOf (now (state .exit))) (now (memory .exit)) (now (response .exit))
-        ≡ messagePlaced (stateOf (now (state .entry))) (now (memory .entry)) (now (response .entry)) (now (packet .entry)) m n marks last) × Tells r false responseSize ⌝ }
+        ≡ messagePlaced (stateOf (now (state .entry))) (now (memory .entry)) (now (response .entry)) (now (packet .entry)) m n marks last) × AllSet r false responseSize ⌝ }
 {
     let size = sizes::bytes_of(m.ssize);
     let with_this = marks + marks::power(m.msgseg);

@@ -1,10 +1,10 @@
 // Type 11 packets from row 20 of the refusal table on, for a state that 19 does not name.
-use answers::Told;
+use answers::Figures;
 use wire::MessageSegment;
 ghost use mathlib.Core.Path.{_≡_};
 ghost use mathlib.Core.Bool.{true, false};
 ghost use Prim.Native.Nat.{_<_, _≤_};
-ghost use Rattle.answers.specs.Told.{telling, Tells};
+ghost use Rattle.answers.specs.Figures.{telling, AllSet};
 ghost use Rattle.wire.specs.Type11.{isSingle, messageOf};
 ghost use Rattle.responses.specs.Type13.{responseSize};
 ghost use Rattle.contexts.specs.State.{messageContext, messageContexts};
@@ -22,11 +22,11 @@ fn take_alone(
     response: &mut [u8],
     packet: &[u8],
     m: MessageSegment,
-) -> Told
+) -> Figures
     requires { ⌜ MessageReady (now state) (now memory) (now response) (now packet) m ⌝ }
     requires { ⌜ (Sound m) × (isSingle m ≡ true) ⌝ }
     ensures { λ r. ⌜ (messageJoining (telling r) (stateOf (now (state .exit))) (now (memory .exit)) (now (response .exit))
-        ≡ messageStepped (stateOf (now (state .entry))) (now (memory .entry)) (now (response .entry)) (now (packet .entry)) m) × Tells r false responseSize ⌝ }
+        ≡ messageStepped (stateOf (now (state .entry))) (now (memory .entry)) (now (response .entry)) (now (packet .entry)) m) × AllSet r false responseSize ⌝ }
 {
     let n = finding::free_message(state);
     if contexts::MESSAGE_CONTEXTS <= n {
@@ -36,7 +36,7 @@ fn take_alone(
     // it was free, but a given state may have other words than 0 in it
     contexts::close_message(state, n);
     message_rooms::done(response, packet);
-    Told {
+    Figures {
         kind: 3,
         number: 0,
         dropped: false,
@@ -140,10 +140,10 @@ fn take(
     response: &mut [u8],
     packet: &[u8],
     m: MessageSegment,
-) -> Told
+) -> Figures
     requires { ⌜ MessageReady (now state) (now memory) (now response) (now packet) m ⌝ }
     ensures { λ r. ⌜ (messageJoining (telling r) (stateOf (now (state .exit))) (now (memory .exit)) (now (response .exit))
-        ≡ messageStepped (stateOf (now (state .entry))) (now (memory .entry)) (now (response .entry)) (now (packet .entry)) m) × Tells r false responseSize ⌝ }
+        ≡ messageStepped (stateOf (now (state .entry))) (now (memory .entry)) (now (response .entry)) (now (packet .entry)) m) × AllSet r false responseSize ⌝ }
 {
     let number = rules::judge(m);
     if number != 0 {
@@ -160,10 +160,10 @@ fn take(
 }
 
 // A type 11 packet from row 20 on. Every caller has tested the state, the buffers' sizes and the packet's head.
-pub fn step(state: &mut [usize], memory: &mut [u8], response: &mut [u8], packet: &[u8]) -> Told
+pub fn step(state: &mut [usize], memory: &mut [u8], response: &mut [u8], packet: &[u8]) -> Figures
     requires { ⌜ MessageReady (now state) (now memory) (now response) (now packet) (messageOf (now packet)) ⌝ }
     ensures { λ r. ⌜ (messageJoining (telling r) (stateOf (now (state .exit))) (now (memory .exit)) (now (response .exit))
-        ≡ messageStepped (stateOf (now (state .entry))) (now (memory .entry)) (now (response .entry)) (now (packet .entry)) (messageOf (now (packet .entry)))) × Tells r false responseSize ⌝ }
+        ≡ messageStepped (stateOf (now (state .entry))) (now (memory .entry)) (now (response .entry)) (now (packet .entry)) (messageOf (now (packet .entry)))) × AllSet r false responseSize ⌝ }
 {
     let m = wire::message_of(packet);
     take(state, memory, response, packet, m)

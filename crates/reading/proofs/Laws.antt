@@ -7,8 +7,8 @@ use lib.Dec.{eqb, ltb}
 use lib.ListN.{length}
 use borrow.Author.Tests.{eq-eqb, le-ltb, eqb-true, ltb-false, not-false}
 use Rattle.answers.specs.Answers.{Said, refused}
-use Rattle.answers.specs.declared.Told.{Told}
-use Rattle.answers.specs.Told.{toldOf, telling, Tells}
+use Rattle.answers.specs.declared.Figures.{Figures}
+use Rattle.answers.specs.Figures.{toldOf, telling, AllSet}
 use Rattle.answers.proofs.Telling.{told-says, told-dropped, told-response, told-tells-whole}
 use Rattle.tables.specs.Refusals.{all}
 use Rattle.responses.specs.Type13.{responseSize}
@@ -25,7 +25,7 @@ use Rattle.reading.specs.Read.{settled, refusing, ofStream, ofMessage, r
 use Rattle.reading.specs.Inside.{ToldPromise}
 
 -- a refusal that changes nothing
-pub refusal-promised : (x : Lent) (number : ℕ) (t : Told) → t ≡ toldOf (refused number) false 0 → refusing x number all ≡ reading x → ToldPromise x t (x .desk)
+pub refusal-promised : (x : Lent) (number : ℕ) (t : Figures) → t ≡ toldOf (refused number) false 0 → refusing x number all ≡ reading x → ToldPromise x t (x .desk)
 refusal-promised x number t f e =
     record {
       promised = rw (told-says t (refused number) false 0 f, told-dropped t (refused number) false 0 f, told-response t (refused number) false 0 f) e;
@@ -44,15 +44,15 @@ message-settled x says words memory response j z e =
     ap (λ (w : List ℕ). settled says false responseSize (withMessages (x .desk) w memory response)) (sym (words-of words z)) ∙ ap (ofMessage x) e
 
 -- and with the numbers that tell it
-pub stream-promised : (x : Lent) (t : Told) (words memory : List ℕ) (j : streamRoom.Joined) → length words ≡ stateWords
-    → (streamRoom.joining (telling t) (t .dropped) (stateOf words) memory ≡ j) × Tells t (t .dropped) 0 → ofStream x j ≡ reading x
+pub stream-promised : (x : Lent) (t : Figures) (words memory : List ℕ) (j : streamRoom.Joined) → length words ≡ stateWords
+    → (streamRoom.joining (telling t) (t .dropped) (stateOf words) memory ≡ j) × AllSet t (t .dropped) 0 → ofStream x j ≡ reading x
     → ToldPromise x t (withStreams (x .desk) words memory)
 stream-promised x t words memory j z k e =
     let response = told-response t (telling t) (t .dropped) 0 (k .1) in
     record { promised = rw response (stream-settled x (telling t) (t .dropped) words memory j z (k .0) ∙ e); numbers = told-tells-whole t (telling t) (t .dropped) 0 (k .1) }
 
-pub message-promised : (x : Lent) (t : Told) (words memory response : List ℕ) (j : messageRoom.MessageJoined) → length words ≡ stateWords
-    → (messageRoom.messageJoining (telling t) (stateOf words) memory response ≡ j) × Tells t false responseSize → ofMessage x j ≡ reading x
+pub message-promised : (x : Lent) (t : Figures) (words memory response : List ℕ) (j : messageRoom.MessageJoined) → length words ≡ stateWords
+    → (messageRoom.messageJoining (telling t) (stateOf words) memory response ≡ j) × AllSet t false responseSize → ofMessage x j ≡ reading x
     → ToldPromise x t (withMessages (x .desk) words memory response)
 message-promised x t words memory response j z k e =
     let written = told-response t (telling t) false responseSize (k .1) in

@@ -3,8 +3,8 @@ use Prim.Native.Nat.{ℕ, _≤_, _*_}
 use mathlib.Core.Path.{_≡_}
 use mathlib.Core.Bool.{false}
 use lib.ListN.{length}
-use Rattle.answers.specs.declared.Told.{Told}
-use Rattle.answers.specs.Told.{telling, Tells}
+use Rattle.answers.specs.declared.Figures.{Figures}
+use Rattle.answers.specs.Figures.{telling, AllSet}
 use Rattle.responses.specs.Type13.{responseSize}
 use Rattle.contexts.specs.State.{streamContexts}
 use Rattle.contexts.specs.Words.{stateWords}
@@ -15,9 +15,9 @@ use Rattle.reading.specs.Table.{Lent}
 use Rattle.reading.specs.Read.{settled, reading}
 
 -- the promise of reading, of an answer as numbers
-pub record ToldPromise (x : Lent) (t : Told) (after : Desk) : Type 0 where
+pub record ToldPromise (x : Lent) (t : Figures) (after : Desk) : Type 0 where
   pub promised : settled (telling t) (t .dropped) (t .response) after ≡ reading x
-  pub numbers : Tells t (t .dropped) (t .response)
+  pub numbers : AllSet t (t .dropped) (t .response)
 
 -- rows 19 and 12 passed, the response buffer aside: what a run over many packets keeps
 pub record Fit (d : Desk) : Type 0 where

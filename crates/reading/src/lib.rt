@@ -1,5 +1,5 @@
 // Reading one packet, for a state and memories that rows 19 and 12 of the refusal table have passed; and row 12's test.
-use answers::Told;
+use answers::Figures;
 ghost use mathlib.Core.Path.{_≡_};
 ghost use mathlib.Core.Bool.{false};
 ghost use lib.ListN.{length};
@@ -54,7 +54,7 @@ pub fn step(
     message_memory: &mut [u8],
     response: &mut [u8],
     packet: &[u8],
-) -> Told
+) -> Figures
     requires { ⌜ ReadyToRead (desk (now state) (now «stream_memory») (now «message_memory») (now response)) ⌝ }
     ensures { λ r. ⌜ ToldPromise (lent (desk (now (state .entry)) (now («stream_memory» .entry)) (now («message_memory» .entry)) (now (response .entry))) (now (packet .entry)))
         r (desk (now (state .exit)) (now («stream_memory» .exit)) (now («message_memory» .exit)) (now (response .exit))) ⌝ }
@@ -76,7 +76,7 @@ pub fn read(
     message_memory: &mut [u8],
     response: &mut [u8],
     packet: &[u8],
-) -> Told
+) -> Figures
     ensures { λ r. ⌜ ToldPromise (lent (desk (now (state .entry)) (now («stream_memory» .entry)) (now («message_memory» .entry)) (now (response .entry))) (now (packet .entry)))
         r (desk (now (state .exit)) (now («stream_memory» .exit)) (now («message_memory» .exit)) (now (response .exit))) ⌝ }
 {

@@ -1,12 +1,12 @@
 // What a type 9 segment does to one context and its room: its data stored, the context kept, delivered or closed.
-use answers::Told;
+use answers::Figures;
 use wire::Flow;
 ghost use mathlib.Core.Path.{_≡_};
 ghost use mathlib.Core.Bool.{true, false};
 ghost use Prim.Native.Nat.{_+_, _*_, _<_, _≤_};
 ghost use lib.ListN.{length};
 ghost use Rattle.lists.specs.Bytes.{written};
-ghost use Rattle.answers.specs.Told.{telling, Tells};
+ghost use Rattle.answers.specs.Figures.{telling, AllSet};
 ghost use Rattle.contexts.specs.Words.{stateOf, stateWords};
 ghost use Rattle.wire.specs.Type9.{segmentOf};
 ghost use Rattle.contexts.specs.State.{streamContexts, streamIn};
@@ -14,9 +14,9 @@ ghost use Rattle.stream_rooms.specs.Placing.{joining, placed, dataOf};
 ghost use Rattle.stream_rooms.specs.Inside.{Ready, Closing, Fields, Delivering, Fits, GoesOn};
 
 // A refusal that closes the flow's context, where it has one. Every caller has tested the state, and `found` is what was found.
-pub fn refused_closing(state: &mut [usize], found: usize, number: usize) -> Told
+pub fn refused_closing(state: &mut [usize], found: usize, number: usize) -> Figures
     requires { ⌜ (length (now state) ≡ stateWords) × (found ≤ streamContexts) ⌝ }
-    ensures { λ r. ⌜ Closing (stateOf (now (state .entry))) found number (telling r) (r .dropped) (stateOf (now (state .exit))) × Tells r (r .dropped) 0 ⌝ }
+    ensures { λ r. ⌜ Closing (stateOf (now (state .entry))) found number (telling r) (r .dropped) (stateOf (now (state .exit))) × AllSet r (r .dropped) 0 ⌝ }
 {
     if found < contexts::STREAM_CONTEXTS {
         contexts::close_stream(state, found);
@@ -33,12 +33,12 @@ fn deliver(
     stream: usize,
     total: usize,
     dropped: bool,
-) -> Told
+) -> Figures
     requires { ⌜ (n < streamContexts) × (length (now state) ≡ stateWords) ⌝ }
-    ensures { λ r. ⌜ Delivering (stateOf (now (state .entry))) n flow stream total dropped (telling r) (r .dropped) (stateOf (now (state .exit))) × Tells r (r .dropped) 0 ⌝ }
+    ensures { λ r. ⌜ Delivering (stateOf (now (state .entry))) n flow stream total dropped (telling r) (r .dropped) (stateOf (now (state .exit))) × AllSet r (r .dropped) 0 ⌝ }
 {
     contexts::close_stream(state, n);
-    Told {
+    Figures {
         kind: 2,
         number: 0,
         dropped,
@@ -81,11 +81,12 @@ pub fn begin_room(
     n: usize,
     count: usize,
     dropped: bool,
-) -> Told
+) -> Figures
     requires { ⌜ Ready (now state) (now memory) (now packet) (segmentOf (now packet)) ⌝ }
     requires { ⌜ (Fields (now packet) flags from flow) × (segmentOf (now packet) .begins ≡ true) × Fits (stateOf (now state)) (segmentOf (now packet)) n 0 count ⌝ }
     ensures { λ r. ⌜ (joining (telling r) (r .dropped) (stateOf (now (state .exit))) (now (memory .exit))
-        ≡ placed (stateOf (now (state .entry))) (now (memory .entry)) (now (packet .entry)) (segmentOf (now (packet .entry))) n 0 (segmentOf (now (packet .entry)) .field) dropped) × Tells r (r .dropped) 0 ⌝ }
+        ≡ placed (stateOf (now (state .entry))) (now (memory .entry)) (now (packet .entry)) (segmentOf (now (packet .entry))) n 0 (segmentOf (now (packet .entry)) .field) dropped)
+        × AllSet r (r .dropped) 0 ⌝ }
 {
     store_data(state, memory, packet, from, n, 0, count);
     let stream = lists::word_at(packet, wire::HEADER + 2);
@@ -105,11 +106,12 @@ pub fn hold_room(
     n: usize,
     held: usize,
     count: usize,
-) -> Told
+) -> Figures
     requires { ⌜ Ready (now state) (now memory) (now packet) (segmentOf (now packet)) ⌝ }
     requires { ⌜ (from ≡ segmentOf (now packet) .from) × GoesOn (stateOf (now state)) (segmentOf (now packet)) n held count false ⌝ }
     ensures { λ r. ⌜ (joining (telling r) (r .dropped) (stateOf (now (state .exit))) (now (memory .exit))
-        ≡ placed (stateOf (now (state .entry))) (now (memory .entry)) (now (packet .entry)) (segmentOf (now (packet .entry))) n held (streamIn (stateOf (now (state .entry))) n .stream) false) × Tells r (r .dropped) 0 ⌝ }
+        ≡ placed (stateOf (now (state .entry))) (now (memory .entry)) (now (packet .entry)) (segmentOf (now (packet .entry))) n held (streamIn (stateOf (now (state .entry))) n .stream) false)
+        × AllSet r (r .dropped) 0 ⌝ }
 {
     store_data(state, memory, packet, from, n, held, count);
     contexts::hold(state, n, held + count);
@@ -126,11 +128,12 @@ pub fn end_room(
     n: usize,
     held: usize,
     count: usize,
-) -> Told
+) -> Figures
     requires { ⌜ Ready (now state) (now memory) (now packet) (segmentOf (now packet)) ⌝ }
     requires { ⌜ (from ≡ segmentOf (now packet) .from) × (flow ≡ segmentOf (now packet) .flow) × GoesOn (stateOf (now state)) (segmentOf (now packet)) n held count true ⌝ }
     ensures { λ r. ⌜ (joining (telling r) (r .dropped) (stateOf (now (state .exit))) (now (memory .exit))
-        ≡ placed (stateOf (now (state .entry))) (now (memory .entry)) (now (packet .entry)) (segmentOf (now (packet .entry))) n held (streamIn (stateOf (now (state .entry))) n .stream) false) × Tells r (r .dropped) 0 ⌝ }
+        ≡ placed (stateOf (now (state .entry))) (now (memory .entry)) (now (packet .entry)) (segmentOf (now (packet .entry))) n held (streamIn (stateOf (now (state .entry))) n .stream) false)
+        × AllSet r (r .dropped) 0 ⌝ }
 {
     store_data(state, memory, packet, from, n, held, count);
     let stream = contexts::stream_of(state, n);

@@ -1,8 +1,8 @@
 // Type 9 packets from row 6 of the refusal table on, for a state that 19 does not name.
-use answers::Told;
+use answers::Figures;
 use wire::Flow;
 ghost use mathlib.Core.Path.{_≡_};
-ghost use Rattle.answers.specs.Told.{telling, Tells};
+ghost use Rattle.answers.specs.Figures.{telling, AllSet};
 ghost use Rattle.wire.specs.Type9.{segmentOf};
 ghost use Rattle.contexts.specs.Words.{stateOf};
 ghost use Rattle.stream_rooms.specs.Placing.{joining};
@@ -20,11 +20,11 @@ fn begin(
     flow: Flow,
     found: usize,
     count: usize,
-) -> Told
+) -> Figures
     requires { ⌜ Ready (now state) (now memory) (now packet) (segmentOf (now packet)) ⌝ }
     requires { ⌜ (Fields (now packet) flags from flow) × BeginsPDU (stateOf (now state)) (segmentOf (now packet)) found count ⌝ }
     ensures { λ r. ⌜ (joining (telling r) (r .dropped) (stateOf (now (state .exit))) (now (memory .exit))
-        ≡ stepped (stateOf (now (state .entry))) (now (memory .entry)) (now (packet .entry)) (segmentOf (now (packet .entry)))) × Tells r (r .dropped) 0 ⌝ }
+        ≡ stepped (stateOf (now (state .entry))) (now (memory .entry)) (now (packet .entry)) (segmentOf (now (packet .entry)))) × AllSet r (r .dropped) 0 ⌝ }
 {
     if found < contexts::STREAM_CONTEXTS {
         return stream_rooms::begin_room(
@@ -66,11 +66,11 @@ fn end(
     found: usize,
     held: usize,
     count: usize,
-) -> Told
+) -> Figures
     requires { ⌜ Ready (now state) (now memory) (now packet) (segmentOf (now packet)) ⌝ }
     requires { ⌜ (from ≡ segmentOf (now packet) .from) × (flow ≡ segmentOf (now packet) .flow) × EndsPDU (stateOf (now state)) (segmentOf (now packet)) found held count ⌝ }
     ensures { λ r. ⌜ (joining (telling r) (r .dropped) (stateOf (now (state .exit))) (now (memory .exit))
-        ≡ stepped (stateOf (now (state .entry))) (now (memory .entry)) (now (packet .entry)) (segmentOf (now (packet .entry)))) × Tells r (r .dropped) 0 ⌝ }
+        ≡ stepped (stateOf (now (state .entry))) (now (memory .entry)) (now (packet .entry)) (segmentOf (now (packet .entry)))) × AllSet r (r .dropped) 0 ⌝ }
 {
     if held + count != sizes::pdu_length(lists::word_at(packet, wire::HEADER + 2)) {
         return stream_rooms::refused_closing(state, found, 11);
@@ -88,11 +88,11 @@ fn go_on(
     flow: Flow,
     found: usize,
     count: usize,
-) -> Told
+) -> Figures
     requires { ⌜ Ready (now state) (now memory) (now packet) (segmentOf (now packet)) ⌝ }
     requires { ⌜ (Fields (now packet) flags from flow) × ContinuesPDU (stateOf (now state)) (segmentOf (now packet)) found count ⌝ }
     ensures { λ r. ⌜ (joining (telling r) (r .dropped) (stateOf (now (state .exit))) (now (memory .exit))
-        ≡ stepped (stateOf (now (state .entry))) (now (memory .entry)) (now (packet .entry)) (segmentOf (now (packet .entry)))) × Tells r (r .dropped) 0 ⌝ }
+        ≡ stepped (stateOf (now (state .entry))) (now (memory .entry)) (now (packet .entry)) (segmentOf (now (packet .entry)))) × AllSet r (r .dropped) 0 ⌝ }
 {
     if contexts::STREAM_CONTEXTS <= found {
         return answers::refusal(8, false, 0);
@@ -109,10 +109,10 @@ fn go_on(
 }
 
 // A type 9 packet from row 6 on. Every caller has tested the state, the memory's size and the packet's head.
-pub fn step(state: &mut [usize], memory: &mut [u8], packet: &[u8]) -> Told
+pub fn step(state: &mut [usize], memory: &mut [u8], packet: &[u8]) -> Figures
     requires { ⌜ Ready (now state) (now memory) (now packet) (segmentOf (now packet)) ⌝ }
     ensures { λ r. ⌜ (joining (telling r) (r .dropped) (stateOf (now (state .exit))) (now (memory .exit))
-        ≡ stepped (stateOf (now (state .entry))) (now (memory .entry)) (now (packet .entry)) (segmentOf (now (packet .entry)))) × Tells r (r .dropped) 0 ⌝ }
+        ≡ stepped (stateOf (now (state .entry))) (now (memory .entry)) (now (packet .entry)) (segmentOf (now (packet .entry)))) × AllSet r (r .dropped) 0 ⌝ }
 {
     let flags = lists::wide(packet[wire::HEADER + 1]);
     let from = wire::data_from(flags);

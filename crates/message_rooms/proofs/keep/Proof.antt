@@ -37,8 +37,7 @@ returns c =
     let at-bytes = c .before in
     let test = at-test at-bytes in
     let all = sym (test .before .all-marked .ensures) ∙ test .if1 .taken in
-    let at-close = at-bytes .before .before .before .before in
-    (
+    let at-close = at-bytes .before .before .before .before in (
       record {
         answer = rw (at-bytes .before .mailbox-of .ensures, at-bytes .bytes-of .ensures, all);
         state = rw all (at-close .close-message .ensures);

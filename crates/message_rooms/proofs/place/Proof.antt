@@ -70,14 +70,16 @@ returns c =
     let at-power = at-store .before .before .before .before in
     let at-bytes = at-power .before in
     let s = entry at-bytes in
-    let kept = at-keep .keep .ensures in
-    (placing (stateOf (s .args .state .now)) _ _ _ (s .args .m) _ (s .args .marks) (s .args .last) (at-bytes .bytes-of .result) _ _ _ _ _ _
-    (at-bytes .bytes-of .ensures)
-    (ap (λ (x : ℕ). s .args .marks + x) (at-power .power .ensures .0))
-    (at-last .last-with .ensures)
-    (kept .0)
-    (at-store .store .ensures)
-    (at-done .done .ensures), kept .1)
+    let kept = at-keep .keep .ensures in (
+      placing (stateOf (s .args .state .now)) _ _ _ (s .args .m) _ (s .args .marks) (s .args .last) (at-bytes .bytes-of .result) _ _ _ _ _ _
+          (at-bytes .bytes-of .ensures)
+          (ap (λ (x : ℕ). s .args .marks + x) (at-power .power .ensures .0))
+          (at-last .last-with .ensures)
+          (kept .0)
+          (at-store .store .ensures)
+          (at-done .done .ensures),
+      kept .1,
+    )
 
 pub place-spec : {M : Type 1} → statement M
 place-spec =

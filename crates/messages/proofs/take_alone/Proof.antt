@@ -44,9 +44,11 @@ returns-2 c =
     let mem = s .args .memory .now in
     let rep = s .args .response .now in
     let p = s .args .packet .now in
-    let m = s .args .m in
-    (taking st mem rep p m _ _ _ _ _ (c .mailbox-of .ensures) (at-close .close-message .ensures) (at-store .store .ensures) (at-done .done .ensures)
-    ∙ (ap (deliveredAtOnce st mem rep p m) free ∙ alone-taken st mem rep p m (s .pre .1 .0 .rows) (s .pre .1 .1) (rw (← free) (test .if1 .left))), refl)
+    let m = s .args .m in (
+      taking st mem rep p m _ _ _ _ _ (c .mailbox-of .ensures) (at-close .close-message .ensures) (at-store .store .ensures) (at-done .done .ensures)
+          ∙ (ap (deliveredAtOnce st mem rep p m) free ∙ alone-taken st mem rep p m (s .pre .1 .0 .rows) (s .pre .1 .1) (rw (← free) (test .if1 .left))),
+      refl,
+    )
 
 pub take-alone-spec : {M : Type 1} → statement M
 take-alone-spec =

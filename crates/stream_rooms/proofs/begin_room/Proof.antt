@@ -32,9 +32,11 @@ returns c =
     let at-store = store (test .before) in
     let s = entry at-store in
     let fields = s .pre .1 .0 in
-    let t = at-deliver .deliver .ensures in
-    (single _ _ _ _ _ _ _ (s .pre .1 .2) (at-store .store-data .ensures) _ (start-field _ (s .pre .1 .1) (test .before .before .word-at .ensures .0))
-    (ends-by _ (fields .flag-bits) (test .before .bit .ensures) (test .if1 .taken)) (fields .sender) (t .0), t .1)
+    let t = at-deliver .deliver .ensures in (
+      single _ _ _ _ _ _ _ (s .pre .1 .2) (at-store .store-data .ensures) _ (start-field _ (s .pre .1 .1) (test .before .before .word-at .ensures .0))
+          (ends-by _ (fields .flag-bits) (test .before .bit .ensures) (test .if1 .taken)) (fields .sender) (t .0),
+      t .1,
+    )
 
 -- a start
 returns-2 : tie.Need-returns-2

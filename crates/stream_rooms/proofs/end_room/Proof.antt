@@ -16,9 +16,11 @@ returns c =
     let at-store = at-stream .before .before .before .before in
     let s = at-store .before .before .before .before .before .before in
     let goes = s .pre .1 .2 in
-    let t = at-deliver .deliver .ensures in
-    (ended _ _ _ _ _ _ _ _ _ (goes .fits) (at-store .store-data .ensures) _ (goes .kind) (s .pre .1 .1)
-    (of-stream (at-stream .stream-of .ensures) (t .0)), t .1)
+    let t = at-deliver .deliver .ensures in (
+      ended _ _ _ _ _ _ _ _ _ (goes .fits) (at-store .store-data .ensures) _ (goes .kind) (s .pre .1 .1)
+          (of-stream (at-stream .stream-of .ensures) (t .0)),
+      t .1,
+    )
 
 pub end-room-spec : {M : Type 1} → statement M
 end-room-spec =

@@ -41,9 +41,11 @@ returns c =
     let s = entry (at-length .before) in
     let ends = s .pre .1 .2 in
     let on = ends .continues in
-    let t = at-close .refused-closing .ensures in
-    (go-differs _ _ _ _ (on .start) (on .passed) (ends .here) (ends .so-far) refl (ends .behind)
-    (length-by _ (ends .kind) _ (at-length .before .word-at .ensures .0) (at-length .pdu-length .ensures) (rw (ne-eqb _ _ (test .if1 .taken)))) (t .0), t .1)
+    let t = at-close .refused-closing .ensures in (
+      go-differs _ _ _ _ (on .start) (on .passed) (ends .here) (ends .so-far) refl (ends .behind)
+          (length-by _ (ends .kind) _ (at-length .before .word-at .ensures .0) (at-length .pdu-length .ensures) (rw (ne-eqb _ _ (test .if1 .taken)))) (t .0),
+      t .1,
+    )
 
 -- whole
 end-room-requires : tie.Need-end-room-requires
@@ -71,9 +73,11 @@ returns-2 c =
     let s = entry (at-length .before) in
     let ends = s .pre .1 .2 in
     let on = ends .continues in
-    let t = at-room .end-room .ensures in
-    (go-placed _ _ _ _ (on .start) (on .passed) (ends .here) (ends .so-far) refl (ends .behind)
-    (length-by _ (ends .kind) _ (at-length .before .word-at .ensures .0) (at-length .pdu-length .ensures) (rw (eq-eqb _ _ (test .if1 .left)))) (t .0), t .1)
+    let t = at-room .end-room .ensures in (
+      go-placed _ _ _ _ (on .start) (on .passed) (ends .here) (ends .so-far) refl (ends .behind)
+          (length-by _ (ends .kind) _ (at-length .before .word-at .ensures .0) (at-length .pdu-length .ensures) (rw (eq-eqb _ _ (test .if1 .left)))) (t .0),
+      t .1,
+    )
 
 pub end-spec : {M : Type 1} → statement M
 end-spec =

@@ -49,9 +49,11 @@ returns-2 c =
     let at-room = test .before in
     let opened = is-open (own at-room) in
     let s = entry opened in
-    let t = at-close .refused-closing .ensures in
-    (go-passes _ _ _ _ (s .pre .1 .1 .start) (s .pre .1 .1 .passed) (opened .if1 .left) (own at-room .held-of .ensures) (at-room .room .ensures) (omega (arith, test .if2 .taken))
-    (t .0), t .1)
+    let t = at-close .refused-closing .ensures in (
+      go-passes _ _ _ _ (s .pre .1 .1 .start) (s .pre .1 .1 .passed) (opened .if1 .left) (own at-room .held-of .ensures) (at-room .room .ensures) (omega (arith, test .if2 .taken))
+          (t .0),
+      t .1,
+    )
 
 -- an end
 end-requires : tie.Need-end-requires
@@ -109,9 +111,11 @@ returns-4 c =
     let opened = is-open (own at-room) in
     let s = entry opened in
     let on = s .pre .1 .1 in
-    let t = at-hold .hold-room .ensures in
-    (go-placed _ _ _ _ (on .start) (on .passed) (opened .if1 .left) (own at-room .held-of .ensures) (at-room .room .ensures) (within .if2 .left)
-    (no-length (segmentOf (s .args .packet .now)) _ (ends-by _ (s .pre .1 .0 .flag-bits) (test .before .bit .ensures) (test .if3 .left))) (t .0), t .1)
+    let t = at-hold .hold-room .ensures in (
+      go-placed _ _ _ _ (on .start) (on .passed) (opened .if1 .left) (own at-room .held-of .ensures) (at-room .room .ensures) (within .if2 .left)
+          (no-length (segmentOf (s .args .packet .now)) _ (ends-by _ (s .pre .1 .0 .flag-bits) (test .before .bit .ensures) (test .if3 .left))) (t .0),
+      t .1,
+    )
 
 pub go-on-spec : {M : Type 1} → statement M
 go-on-spec =

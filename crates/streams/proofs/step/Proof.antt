@@ -122,9 +122,11 @@ returns-2 c =
     let at-mtu = test .before .before in
     let at-found = found-at (test .before) in
     let f = fields at-found in
-    let t = at-close .refused-closing2 .ensures in
-    (step-missized _ _ _ _ (well-formed (past-6 (test .before))) (data-by _ (f .flag-bits) (f .data-from) refl (at-mtu .before .before .data-length .ensures)) (at-mtu .mtu .ensures) (found-is at-found)
-    (size-by _ (f .flag-bits) (at-mtu .before .before .data-length .result) (at-mtu .mtu .result) (test .before .is-wrong-size .ensures) (test .if2 .taken)) (t .0), t .1)
+    let t = at-close .refused-closing2 .ensures in (
+      step-missized _ _ _ _ (well-formed (past-6 (test .before))) (data-by _ (f .flag-bits) (f .data-from) refl (at-mtu .before .before .data-length .ensures)) (at-mtu .mtu .ensures)
+          (found-is at-found) (size-by _ (f .flag-bits) (at-mtu .before .before .data-length .result) (at-mtu .mtu .result) (test .before .is-wrong-size .ensures) (test .if2 .taken)) (t .0),
+      t .1,
+    )
 
 -- a start or single
 begin-requires : tie.Need-begin-requires
