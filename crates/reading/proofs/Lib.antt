@@ -6,3 +6,4 @@ pub mod Response
 pub mod Spoken
 pub mod Computing
 pub mod Lent
+mod Parting

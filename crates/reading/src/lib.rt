@@ -69,7 +69,8 @@ pub fn step(
     messages::step(state, message_memory, response, packet)
 }
 
-// Reads one packet: rows 19 and 12, then the packet.
+// Reads one packet: rows 19 and 12, then the packet by its type, as the step above does. With the same lines in both, neither waits for a call before
+// a packet is refused by its head (docs/PERFORMANCE.md).
 pub fn read(
     state: &mut [usize],
     stream_memory: &mut [u8],
@@ -84,5 +85,12 @@ pub fn read(
     if number != 0 {
         return answers::refusal(number, false, 0);
     }
-    step(state, stream_memory, message_memory, response, packet)
+    let head = wire::head(packet, contexts::device(state));
+    if head < 9 {
+        return answers::refusal(head, false, 0);
+    }
+    if head == 9 {
+        return streams::step(state, stream_memory, packet);
+    }
+    messages::step(state, message_memory, response, packet)
 }
