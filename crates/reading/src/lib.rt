@@ -64,9 +64,9 @@ pub fn step(
         return answers::refusal(kind, false, 0);
     }
     if kind == 9 {
-        return streams::step(state, stream_memory, packet);
+        return stream_step::step(state, stream_memory, packet);
     }
-    messages::step(state, message_memory, response, packet)
+    message_step::step(state, message_memory, response, packet)
 }
 
 // Reads one packet: rows 19 and 12, then the packet by its type, as the step above does. With the same lines in both, neither waits for a call before
@@ -90,7 +90,7 @@ pub fn read(
         return answers::refusal(head, false, 0);
     }
     if head == 9 {
-        return streams::step(state, stream_memory, packet);
+        return stream_step::step(state, stream_memory, packet);
     }
-    messages::step(state, message_memory, response, packet)
+    message_step::step(state, message_memory, response, packet)
 }

@@ -1,17 +1,16 @@
-// What a type 9 segment does to one context and its room: its data stored, the context kept, delivered or closed.
+// What a type 9 segment does to one context and its room: its data stored, the PDU delivered, the context closed.
 use answers::Figures;
 use wire::Flow;
 ghost use mathlib.Core.Path.{_≡_};
-ghost use mathlib.Core.Bool.{true, false};
 ghost use Prim.Native.Nat.{_+_, _*_, _<_, _≤_};
 ghost use lib.ListN.{length};
 ghost use Rattle.lists.specs.Bytes.{written};
 ghost use Rattle.answers.specs.Figures.{telling, AllSet};
 ghost use Rattle.contexts.specs.Words.{stateOf, stateWords};
 ghost use Rattle.wire.specs.Type9.{segmentOf};
-ghost use Rattle.contexts.specs.State.{streamContexts, streamIn};
-ghost use Rattle.stream_rooms.specs.Placing.{joining, placed, dataOf};
-ghost use Rattle.stream_rooms.specs.Inside.{Ready, Closing, Fields, Delivering, Fits, GoesOn};
+ghost use Rattle.contexts.specs.State.{streamContexts};
+ghost use Rattle.stream_rooms.specs.Placing.{dataOf};
+ghost use Rattle.stream_rooms.specs.Inside.{Ready, Closing, Delivering, Fits};
 
 // A refusal that closes the flow's context, where it has one. Every caller has tested the state, and `found` is what was found.
 pub fn refused_closing(state: &mut [usize], found: usize, number: usize) -> Figures
@@ -26,7 +25,7 @@ pub fn refused_closing(state: &mut [usize], found: usize, number: usize) -> Figu
 }
 
 // The PDU of context n is delivered, `total` bytes of it, and the context freed.
-fn deliver(
+pub fn deliver(
     state: &mut [usize],
     n: usize,
     flow: Flow,
@@ -53,7 +52,7 @@ fn deliver(
 
 // The segment's `count` bytes of data go into room n behind `base` bytes: the part of the memory from there on is lent to the copying leaf.
 // Every caller has tested the state, the memory's size and that the data fit.
-fn store_data(
+pub fn store_data(
     state: &[usize],
     memory: &mut [u8],
     packet: &[u8],
@@ -68,74 +67,4 @@ fn store_data(
 {
     let to = from + count;
     lists::store(memory, n * contexts::room(state) + base, &packet[from..to]);
-}
-
-// A PDU begins in room n: a start is held there, a single delivered.
-pub fn begin_room(
-    state: &mut [usize],
-    memory: &mut [u8],
-    packet: &[u8],
-    flags: usize,
-    from: usize,
-    flow: Flow,
-    n: usize,
-    count: usize,
-    dropped: bool,
-) -> Figures
-    requires { ⌜ Ready (now state) (now memory) (now packet) (segmentOf (now packet)) ⌝ }
-    requires { ⌜ (Fields (now packet) flags from flow) × (segmentOf (now packet) .begins ≡ true) × Fits (stateOf (now state)) (segmentOf (now packet)) n 0 count ⌝ }
-    ensures { λ r. ⌜ (joining (telling r) (r .dropped) (stateOf (now (state .exit))) (now (memory .exit))
-        ≡ placed (stateOf (now (state .entry))) (now (memory .entry)) (now (packet .entry)) (segmentOf (now (packet .entry))) n 0 (segmentOf (now (packet .entry)) .field) dropped)
-        × AllSet r (r .dropped) 0 ⌝ }
-{
-    store_data(state, memory, packet, from, n, 0, count);
-    let stream = lists::word_at(packet, wire::HEADER + 2);
-    if wire::bit(flags, 64) {
-        return deliver(state, n, flow, stream, count, dropped);
-    }
-    contexts::keep_stream(state, n, flow, stream, count);
-    answers::holding(dropped, 0)
-}
-
-// A continuation: its data go behind the `held` bytes that the PDU has, and the context, which is the flow's own, holds them too.
-pub fn hold_room(
-    state: &mut [usize],
-    memory: &mut [u8],
-    packet: &[u8],
-    from: usize,
-    n: usize,
-    held: usize,
-    count: usize,
-) -> Figures
-    requires { ⌜ Ready (now state) (now memory) (now packet) (segmentOf (now packet)) ⌝ }
-    requires { ⌜ (from ≡ segmentOf (now packet) .from) × GoesOn (stateOf (now state)) (segmentOf (now packet)) n held count false ⌝ }
-    ensures { λ r. ⌜ (joining (telling r) (r .dropped) (stateOf (now (state .exit))) (now (memory .exit))
-        ≡ placed (stateOf (now (state .entry))) (now (memory .entry)) (now (packet .entry)) (segmentOf (now (packet .entry))) n held (streamIn (stateOf (now (state .entry))) n .stream) false)
-        × AllSet r (r .dropped) 0 ⌝ }
-{
-    store_data(state, memory, packet, from, n, held, count);
-    contexts::hold(state, n, held + count);
-    answers::holding(false, 0)
-}
-
-// An end: the PDU is whole with its data, and delivered.
-pub fn end_room(
-    state: &mut [usize],
-    memory: &mut [u8],
-    packet: &[u8],
-    from: usize,
-    flow: Flow,
-    n: usize,
-    held: usize,
-    count: usize,
-) -> Figures
-    requires { ⌜ Ready (now state) (now memory) (now packet) (segmentOf (now packet)) ⌝ }
-    requires { ⌜ (from ≡ segmentOf (now packet) .from) × (flow ≡ segmentOf (now packet) .flow) × GoesOn (stateOf (now state)) (segmentOf (now packet)) n held count true ⌝ }
-    ensures { λ r. ⌜ (joining (telling r) (r .dropped) (stateOf (now (state .exit))) (now (memory .exit))
-        ≡ placed (stateOf (now (state .entry))) (now (memory .entry)) (now (packet .entry)) (segmentOf (now (packet .entry))) n held (streamIn (stateOf (now (state .entry))) n .stream) false)
-        × AllSet r (r .dropped) 0 ⌝ }
-{
-    store_data(state, memory, packet, from, n, held, count);
-    let stream = contexts::stream_of(state, n);
-    deliver(state, n, flow, stream, held + count, false)
 }

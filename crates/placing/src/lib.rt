@@ -1,0 +1,81 @@
+// A segment's data go into a room, and its PDU is kept or delivered: a PDU begun, gone on with, ended.
+use answers::Figures;
+use wire::Flow;
+ghost use mathlib.Core.Path.{_≡_};
+ghost use mathlib.Core.Bool.{true, false};
+ghost use Rattle.answers.specs.Figures.{telling, AllSet};
+ghost use Rattle.contexts.specs.Words.{stateOf};
+ghost use Rattle.wire.specs.Type9.{segmentOf};
+ghost use Rattle.contexts.specs.State.{streamIn};
+ghost use Rattle.stream_rooms.specs.Placing.{joining, placed};
+ghost use Rattle.stream_rooms.specs.Inside.{Ready, Fields, Fits, GoesOn};
+
+// A PDU begins in room n: a start is held there, a single delivered.
+pub fn begin_room(
+    state: &mut [usize],
+    memory: &mut [u8],
+    packet: &[u8],
+    flags: usize,
+    from: usize,
+    flow: Flow,
+    n: usize,
+    count: usize,
+    dropped: bool,
+) -> Figures
+    requires { ⌜ Ready (now state) (now memory) (now packet) (segmentOf (now packet)) ⌝ }
+    requires { ⌜ (Fields (now packet) flags from flow) × (segmentOf (now packet) .begins ≡ true) × Fits (stateOf (now state)) (segmentOf (now packet)) n 0 count ⌝ }
+    ensures { λ r. ⌜ (joining (telling r) (r .dropped) (stateOf (now (state .exit))) (now (memory .exit))
+        ≡ placed (stateOf (now (state .entry))) (now (memory .entry)) (now (packet .entry)) (segmentOf (now (packet .entry))) n 0 (segmentOf (now (packet .entry)) .field) dropped)
+        × AllSet r (r .dropped) 0 ⌝ }
+{
+    stream_rooms::store_data(state, memory, packet, from, n, 0, count);
+    let stream = lists::word_at(packet, wire::HEADER + 2);
+    if wire::bit(flags, 64) {
+        return stream_rooms::deliver(state, n, flow, stream, count, dropped);
+    }
+    contexts::keep_stream(state, n, flow, stream, count);
+    answers::holding(dropped, 0)
+}
+
+// A continuation: its data go behind the `held` bytes that the PDU has, and the context, which is the flow's own, holds them too.
+pub fn hold_room(
+    state: &mut [usize],
+    memory: &mut [u8],
+    packet: &[u8],
+    from: usize,
+    n: usize,
+    held: usize,
+    count: usize,
+) -> Figures
+    requires { ⌜ Ready (now state) (now memory) (now packet) (segmentOf (now packet)) ⌝ }
+    requires { ⌜ (from ≡ segmentOf (now packet) .from) × GoesOn (stateOf (now state)) (segmentOf (now packet)) n held count false ⌝ }
+    ensures { λ r. ⌜ (joining (telling r) (r .dropped) (stateOf (now (state .exit))) (now (memory .exit))
+        ≡ placed (stateOf (now (state .entry))) (now (memory .entry)) (now (packet .entry)) (segmentOf (now (packet .entry))) n held (streamIn (stateOf (now (state .entry))) n .stream) false)
+        × AllSet r (r .dropped) 0 ⌝ }
+{
+    stream_rooms::store_data(state, memory, packet, from, n, held, count);
+    contexts::hold(state, n, held + count);
+    answers::holding(false, 0)
+}
+
+// An end: the PDU is whole with its data, and delivered.
+pub fn end_room(
+    state: &mut [usize],
+    memory: &mut [u8],
+    packet: &[u8],
+    from: usize,
+    flow: Flow,
+    n: usize,
+    held: usize,
+    count: usize,
+) -> Figures
+    requires { ⌜ Ready (now state) (now memory) (now packet) (segmentOf (now packet)) ⌝ }
+    requires { ⌜ (from ≡ segmentOf (now packet) .from) × (flow ≡ segmentOf (now packet) .flow) × GoesOn (stateOf (now state)) (segmentOf (now packet)) n held count true ⌝ }
+    ensures { λ r. ⌜ (joining (telling r) (r .dropped) (stateOf (now (state .exit))) (now (memory .exit))
+        ≡ placed (stateOf (now (state .entry))) (now (memory .entry)) (now (packet .entry)) (segmentOf (now (packet .entry))) n held (streamIn (stateOf (now (state .entry))) n .stream) false)
+        × AllSet r (r .dropped) 0 ⌝ }
+{
+    stream_rooms::store_data(state, memory, packet, from, n, held, count);
+    let stream = contexts::stream_of(state, n);
+    stream_rooms::deliver(state, n, flow, stream, held + count, false)
+}
