@@ -13,11 +13,11 @@ pub fn abandon_stream(state: &mut [usize], n: usize) -> Abandoned
     if contexts::STREAM_CONTEXTS <= n {
         return Abandoned::Refused(13);
     }
-    let c = contexts::stream_at(state, n);
+    let c = stream_contexts::stream_at(state, n);
     if c.live == 0 {
         return Abandoned::WasFree;
     }
-    contexts::close_stream(state, n);
+    stream_contexts::close_stream(state, n);
     Abandoned::Closed
 }
 
@@ -32,10 +32,10 @@ pub fn abandon_message(state: &mut [usize], n: usize) -> Abandoned
     if contexts::MESSAGE_CONTEXTS <= n {
         return Abandoned::Refused(13);
     }
-    let c = contexts::message_at(state, n);
+    let c = message_contexts::message_at(state, n);
     if c.live == 0 {
         return Abandoned::WasFree;
     }
-    contexts::close_message(state, n);
+    message_contexts::close_message(state, n);
     Abandoned::Closed
 }

@@ -27,31 +27,11 @@ pub fn begin(
         ≡ stepped (stateOf (now (state .entry))) (now (memory .entry)) (now (packet .entry)) (segmentOf (now (packet .entry)))) × AllSet r (r .dropped) 0 ⌝ }
 {
     if found < contexts::STREAM_CONTEXTS {
-        return placing::begin_room(
-            state,
-            memory,
-            packet,
-            flags,
-            from,
-            flow,
-            found,
-            count,
-            true,
-        );
+        return placing::begin_room(state, memory, packet, flags, from, flow, found, count, true);
     }
     let free = finding::free_stream(state);
     if free < contexts::STREAM_CONTEXTS {
-        return placing::begin_room(
-            state,
-            memory,
-            packet,
-            flags,
-            from,
-            flow,
-            free,
-            count,
-            false,
-        );
+        return placing::begin_room(state, memory, packet, flags, from, flow, free, count, false);
     }
     answers::refusal(10, false, 0)
 }

@@ -24,7 +24,7 @@ fn choose_open(state: &[usize], m: MessageSegment, found: usize) -> Chosen
     requires { ⌜ (found < messageContexts) × (found ≡ messageContext (stateOf (now state)) (m .source) (m .letter) (m .mbox)) ⌝ }
     ensures { λ r. ⌜ Chooses (stateOf (now (state .entry))) m r ⌝ }
 {
-    let c = contexts::message_at(state, found);
+    let c = message_contexts::message_at(state, found);
     if c.msglen != m.msglen {
         return refused_by(23);
     }

@@ -51,7 +51,7 @@ pub fn go_on(
     if contexts::STREAM_CONTEXTS <= found {
         return answers::refusal(8, false, 0);
     }
-    let held = contexts::held_of(state, found);
+    let held = stream_contexts::held_of(state, found);
     let total = held + count;
     if contexts::room(state) < total {
         return stream_rooms::refused_closing(state, found, 9);

@@ -12,8 +12,8 @@ fn is_of_flow(state: &[usize], n: usize, flow: Flow) -> bool
     requires { ⌜ (n < streamContexts) × (length (now state) ≡ stateWords) ⌝ }
     ensures { λ r. ⌜ r ≡ isOfFlow flow (streamIn (stateOf (now (state .entry))) n) ⌝ }
 {
-    if wire::same_flow(contexts::stream_flow(state, n), flow) {
-        return contexts::stream_live(state, n) != 0;
+    if wire::same_flow(stream_contexts::stream_flow(state, n), flow) {
+        return stream_contexts::stream_live(state, n) != 0;
     }
     false
 }
@@ -40,7 +40,7 @@ pub fn free_stream(state: &[usize]) -> usize
 {
     let mut i = 0;
     while i < contexts::STREAM_CONTEXTS {
-        if contexts::stream_live(state, i) == 0 {
+        if stream_contexts::stream_live(state, i) == 0 {
             return i;
         }
         i += 1;
@@ -55,7 +55,7 @@ pub fn find_message(state: &[usize], source: usize, letter: usize, mbox: usize) 
 {
     let mut i = 0;
     while i < contexts::MESSAGE_CONTEXTS {
-        if contexts::is_of_message(state, i, source, letter, mbox) {
+        if message_contexts::is_of_message(state, i, source, letter, mbox) {
             return i;
         }
         i += 1;
@@ -70,7 +70,7 @@ pub fn free_message(state: &[usize]) -> usize
 {
     let mut i = 0;
     while i < contexts::MESSAGE_CONTEXTS {
-        if contexts::message_live(state, i) == 0 {
+        if message_contexts::message_live(state, i) == 0 {
             return i;
         }
         i += 1;

@@ -16,7 +16,7 @@ fn any_bad_stream(state: &[usize], room: usize) -> bool
 {
     let mut i = 0;
     while i < contexts::STREAM_CONTEXTS {
-        if refusal19::bad_stream(contexts::stream_at(state, i), room) {
+        if refusal19::bad_stream(stream_contexts::stream_at(state, i), room) {
             return true;
         }
         i += 1;
@@ -31,7 +31,7 @@ fn any_bad_message(state: &[usize]) -> bool
 {
     let mut i = 0;
     while i < contexts::MESSAGE_CONTEXTS {
-        if refusal19::bad_message(contexts::message_at(state, i)) {
+        if refusal19::bad_message(message_contexts::message_at(state, i)) {
             return true;
         }
         i += 1;

@@ -43,7 +43,7 @@ fn keep(state: &mut [usize], m: MessageSegment, n: usize, marks: usize, last: us
     ensures { λ r. ⌜ MessageKept (stateOf (now (state .entry))) m n marks last (telling r) (stateOf (now (state .exit))) × AllSet r false responseSize ⌝ }
 {
     if marks::all_marked(marks as u16, m.msglen + 1) {
-        contexts::close_message(state, n);
+        message_contexts::close_message(state, n);
         return Figures {
             kind: 3,
             number: 0,
@@ -56,7 +56,7 @@ fn keep(state: &mut [usize], m: MessageSegment, n: usize, marks: usize, last: us
             length: m.msglen * sizes::bytes_of(m.ssize) + last,
         };
     }
-    contexts::keep_message(
+    message_contexts::keep_message(
         state,
         n,
         m.source,

@@ -31,7 +31,7 @@ fn take_alone(
     }
     lists::store(memory, n * message_rooms::ROOM, &packet[wire::HEADER + 2..]);
     // it was free, but a given state may have other words than 0 in it
-    contexts::close_message(state, n);
+    message_contexts::close_message(state, n);
     message_rooms::done(response, packet);
     Figures {
         kind: 3,

@@ -33,7 +33,7 @@ pub fn begin_room(
     if wire::bit(flags, 64) {
         return stream_rooms::deliver(state, n, flow, stream, count, dropped);
     }
-    contexts::keep_stream(state, n, flow, stream, count);
+    stream_contexts::keep_stream(state, n, flow, stream, count);
     answers::holding(dropped, 0)
 }
 
@@ -54,7 +54,7 @@ pub fn hold_room(
         × AllSet r (r .dropped) 0 ⌝ }
 {
     stream_rooms::store_data(state, memory, packet, from, n, held, count);
-    contexts::hold(state, n, held + count);
+    stream_contexts::hold(state, n, held + count);
     answers::holding(false, 0)
 }
 
@@ -76,6 +76,6 @@ pub fn end_room(
         × AllSet r (r .dropped) 0 ⌝ }
 {
     stream_rooms::store_data(state, memory, packet, from, n, held, count);
-    let stream = contexts::stream_of(state, n);
+    let stream = stream_contexts::stream_of(state, n);
     stream_rooms::deliver(state, n, flow, stream, held + count, false)
 }

@@ -18,7 +18,7 @@ pub fn refused_closing(state: &mut [usize], found: usize, number: usize) -> Figu
     ensures { λ r. ⌜ Closing (stateOf (now (state .entry))) found number (telling r) (r .dropped) (stateOf (now (state .exit))) × AllSet r (r .dropped) 0 ⌝ }
 {
     if found < contexts::STREAM_CONTEXTS {
-        contexts::close_stream(state, found);
+        stream_contexts::close_stream(state, found);
         return answers::refusal(number, true, 0);
     }
     answers::refusal(number, false, 0)
@@ -36,7 +36,7 @@ pub fn deliver(
     requires { ⌜ (n < streamContexts) × (length (now state) ≡ stateWords) ⌝ }
     ensures { λ r. ⌜ Delivering (stateOf (now (state .entry))) n flow stream total dropped (telling r) (r .dropped) (stateOf (now (state .exit))) × AllSet r (r .dropped) 0 ⌝ }
 {
-    contexts::close_stream(state, n);
+    stream_contexts::close_stream(state, n);
     Figures {
         kind: 2,
         number: 0,

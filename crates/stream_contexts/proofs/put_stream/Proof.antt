@@ -1,10 +1,10 @@
--- `contexts::put_stream` meets its contract: its words written are one row of the table, and touch no other.
+-- `stream_contexts::put_stream` meets its contract: its words written are one row of the table, and touch no other.
 use Rattle.contexts.proofs.Words.{stream-put}
 use lib.ListN.{length-set}
 use native.Mathlib.Omega.{arith}
 use borrow.Author.Needs.{needs}
-use Rattle.contexts.proofs.put_stream.Statement.{statement}
-use Rattle.contexts.proofs.put_stream.Tie as tie
+use Rattle.stream_contexts.proofs.put_stream.Statement.{statement}
+use Rattle.stream_contexts.proofs.put_stream.Tie as tie
 
 returns : tie.Need-returns
 returns c = stream-put _ (c .before .pre .1) _ (c .before .args .c) (c .before .pre .0)

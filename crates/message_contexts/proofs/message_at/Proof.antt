@@ -1,8 +1,8 @@
--- `contexts::message_at` meets its contract: its words are one row of the table.
+-- `message_contexts::message_at` meets its contract: its words are one row of the table.
 use Rattle.contexts.proofs.Words.{message-read}
 use borrow.Author.Needs.{needs}
-use Rattle.contexts.proofs.message_at.Statement.{statement}
-use Rattle.contexts.proofs.message_at.Tie as tie
+use Rattle.message_contexts.proofs.message_at.Statement.{statement}
+use Rattle.message_contexts.proofs.message_at.Tie as tie
 
 returns : tie.Need-returns
 returns c =

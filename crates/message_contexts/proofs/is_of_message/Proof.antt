@@ -1,11 +1,11 @@
--- `contexts::is_of_message` meets its contract: each return follows from the tests on the way, which read the words of the context's row.
+-- `message_contexts::is_of_message` meets its contract: each return follows from the tests on the way, which read the words of the context's row.
 use mathlib.Core.Path.{_∙_, ap}
 use borrow.Author.Needs.{needs}
 use Rattle.contexts.specs.State.{isOfMessage}
 use Rattle.contexts.proofs.Words.{message-read}
 use Rattle.contexts.proofs.OfMessage.{of-message, another-source, another-letter, another-mbox}
-use Rattle.contexts.proofs.is_of_message.Statement.{statement}
-use Rattle.contexts.proofs.is_of_message.Tie as tie
+use Rattle.message_contexts.proofs.is_of_message.Statement.{statement}
+use Rattle.message_contexts.proofs.is_of_message.Tie as tie
 
 -- one of the three is another
 returns : tie.Need-returns

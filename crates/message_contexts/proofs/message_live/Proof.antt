@@ -1,10 +1,10 @@
--- `contexts::message_live` meets its contract: its word is one of the context's row.
+-- `message_contexts::message_live` meets its contract: its word is one of the context's row.
 use mathlib.Core.Path.{ap}
 use Rattle.contexts.specs.declared.MessageContext.{MessageContext}
 use Rattle.contexts.proofs.Words.{message-read}
 use borrow.Author.Needs.{needs}
-use Rattle.contexts.proofs.message_live.Statement.{statement}
-use Rattle.contexts.proofs.message_live.Tie as tie
+use Rattle.message_contexts.proofs.message_live.Statement.{statement}
+use Rattle.message_contexts.proofs.message_live.Tie as tie
 
 returns : tie.Need-returns
 returns c =

@@ -1,10 +1,10 @@
--- `contexts::put_message` meets its contract: its words written are one row of the table, and touch no other.
+-- `message_contexts::put_message` meets its contract: its words written are one row of the table, and touch no other.
 use Rattle.contexts.proofs.Words.{message-put}
 use lib.ListN.{length-set}
 use native.Mathlib.Omega.{arith}
 use borrow.Author.Needs.{needs}
-use Rattle.contexts.proofs.put_message.Statement.{statement}
-use Rattle.contexts.proofs.put_message.Tie as tie
+use Rattle.message_contexts.proofs.put_message.Statement.{statement}
+use Rattle.message_contexts.proofs.put_message.Tie as tie
 
 returns : tie.Need-returns
 returns c = message-put _ (c .pre .1) _ (c .args .c) (c .pre .0)

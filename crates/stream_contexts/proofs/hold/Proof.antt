@@ -1,10 +1,10 @@
--- `contexts::hold` meets its contract: two words of the context's row are written, and those between stay.
+-- `stream_contexts::hold` meets its contract: two words of the context's row are written, and those between stay.
 use Rattle.contexts.proofs.Words.{stream-hold}
 use lib.ListN.{length-set}
 use native.Mathlib.Omega.{arith}
 use borrow.Author.Needs.{needs}
-use Rattle.contexts.proofs.hold.Statement.{statement}
-use Rattle.contexts.proofs.hold.Tie as tie
+use Rattle.stream_contexts.proofs.hold.Statement.{statement}
+use Rattle.stream_contexts.proofs.hold.Tie as tie
 
 returns : tie.Need-returns
 returns c = stream-hold _ (c .pre .1) _ (c .args .held) (c .pre .0)

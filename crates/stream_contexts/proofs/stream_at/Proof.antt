@@ -1,8 +1,8 @@
--- `contexts::stream_at` meets its contract: its words are one row of the table.
+-- `stream_contexts::stream_at` meets its contract: its words are one row of the table.
 use Rattle.contexts.proofs.Words.{stream-read}
 use borrow.Author.Needs.{needs}
-use Rattle.contexts.proofs.stream_at.Statement.{statement}
-use Rattle.contexts.proofs.stream_at.Tie as tie
+use Rattle.stream_contexts.proofs.stream_at.Statement.{statement}
+use Rattle.stream_contexts.proofs.stream_at.Tie as tie
 
 returns : tie.Need-returns
 returns c =
