@@ -51,7 +51,7 @@ fn read_packet(
 {
     let at = SLOT * count;
     let end = at + SLOT;
-    let told = reading::step(
+    let told = packets::step(
         state,
         stream_memory,
         message_memory,

@@ -25,7 +25,8 @@ use Rattle.c_reports.specs.declared.Report.{Report}
 use Rattle.c_reports.specs.Reports.{numbersOfSetup, numbersOfWriter, reportOf}
 use Rattle.c_places.specs.declared.Place.{Place}
 use Rattle.c_places.specs.Places.{StreamPlacePromise}
-use Rattle.demands.specs.Calls.{Fetches, room, none-held, none-message, none-refused, Reads, stop, call, Writes, written-all, write}
+use Rattle.calls.specs.Calls.{Fetches, room, none-held, none-message, none-refused, Reads, stop, call}
+use Rattle.demands.specs.Writes.{Writes, written-all, write}
 use Rattle.demands.specs.OfCalls.{SetUp}
 use Rattle.demands.proofs.OfCalls.{demand2-of-calls, demand3-of-calls}
 use Rattle.c_promises.specs.OfCalls.{bytesAt, FetchesFromC, at-place, nothing, ReadsFromC, no-more, one-more, CallsFromCAreReads, SetUpFromC}

@@ -23,8 +23,8 @@ use Rattle.sending.proofs.Measured.{length-is-measured}
 use Rattle.c_bursts.specs.Bursts.{Run, run, slot, lentIn, readIn, behind, Finished, answering, atEnd}
 use Rattle.c_bursts.specs.Inside.{Room}
 use Rattle.c_bursts.proofs.Tests.{has-room}
-use Rattle.demands.specs.Calls.{Fetches, none-held, none-message, none-refused, Reads, stop, call}
-use Rattle.demands.proofs.Calls.{fetched-is-delivered}
+use Rattle.calls.specs.Calls.{Fetches, none-held, none-message, none-refused, Reads, stop, call}
+use Rattle.calls.proofs.Calls.{fetched-is-delivered}
 use Rattle.demands.proofs.OfCalls.{demand3-of-calls}
 use Rattle.c_promises.specs.OfCalls.{allRead, Name, nameOf, namesIn, reportsIn, BurstReads, BurstIsReads, Demand3OfBursts}
 use Rattle.c_promises.proofs.Whole.{burst-is-calls}

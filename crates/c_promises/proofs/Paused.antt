@@ -25,7 +25,7 @@ use Rattle.c_bursts.specs.Bursts.{Finished, stopped, ran, roomFor, burstVerdict
 use Rattle.c_bursts.specs.Inside.{Room}
 use Rattle.c_bursts.proofs.Steps.{at-end, at-full, over-packet, stops, goes-on}
 use Rattle.c_bursts.proofs.Tests.{has-room}
-use Rattle.demands.specs.Calls.{Fetches, none-held, none-message, none-refused, Reads, stop}
+use Rattle.calls.specs.Calls.{Fetches, none-held, none-message, none-refused, Reads, stop}
 use Rattle.demands.proofs.OfCalls.{demand3-of-calls}
 use Rattle.c_promises.specs.OfCalls as stated
 use Rattle.c_promises.specs.OfCalls.{reportAt, lastReport, FetchesFromC, PausedCall, Bursts, PausedBurstsAreReads, Demand3OfPausedBursts}

@@ -16,7 +16,7 @@ use Rattle.reading.specs.Desk.{stateOn}
 use Rattle.reading.specs.Table.{Lent}
 use Rattle.reading.specs.Read.{reading}
 use Rattle.room_parts.specs.Parts.{Part, part, emptyPart, roomPart, streamRoom, messageRoom}
-use Rattle.demands.proofs.Rooms.{room-of-delivered}
+use Rattle.calls.proofs.Rooms.{room-of-delivered}
 use Rattle.c_reports.specs.declared.Report.{Report}
 use Rattle.c_reports.specs.Reports.{reportOf}
 use Rattle.c_places.specs.declared.Place.{Place}

@@ -24,7 +24,8 @@ use Rattle.flows.specs.Deliveries.{Delivery, delivery}
 use Rattle.flows.specs.Fresh.{Allowed, Lends, zeroDesk}
 use Rattle.sending.specs.Sending.{Sent, headingFor, Sending, packets, whole, FairPDU, Fair}
 use Rattle.sending.specs.Mixture.{smallSetup, mixture}
-use Rattle.demands.specs.Calls.{Reads, Writes}
+use Rattle.calls.specs.Calls.{Reads}
+use Rattle.demands.specs.Writes.{Writes}
 use Rattle.log_records.specs.Records.{records, recordsOf}
 use Rattle.log_records.specs.Written.{writtenLog, AllShort}
 use Rattle.c_reports.specs.declared.Numbers.{Numbers}

@@ -1,10 +1,6 @@
-pub mod Boxes
-pub mod Rooms
-pub mod Calls
 pub mod Writing
 pub mod Wider
 pub mod Demands
 pub mod OfCalls
 pub mod Witnesses
-pub mod Sixteen
 pub mod Impostors

@@ -14,7 +14,7 @@ use Rattle.flows.specs.Fresh.{Fresh}
 use Rattle.sending.specs.Sending.{packetCount}
 use Rattle.sending.proofs.Untold.{packetsFrom}
 use Rattle.demands.specs.OfCalls.{SetUpIsFresh, Demand2OfCalls, Demand3OfCalls, Demand3AnyLoss}
-use Rattle.demands.proofs.Calls.{calls-deliver}
+use Rattle.calls.proofs.Calls.{calls-deliver}
 use Rattle.demands.proofs.Writing.{calls-write, counted}
 use Rattle.demands.proofs.Demands.{ours-meets, one-PDU, fresh-delivers-whole}
 

@@ -30,7 +30,8 @@ use Rattle.sending.specs.Joint.{isJoint}
 use Rattle.sending.specs.Mixture.{smallSetup, mixture}
 use Rattle.sending.proofs.Decided.{each-by, fair-PDU, deciding}
 use Rattle.paper_examples.proofs.Computing.{computing}
-use Rattle.demands.specs.Calls.{Fetches, room, none-held, none-message, none-refused, Reads, stop, call, Writes, written-all, write}
+use Rattle.calls.specs.Calls.{Fetches, room, none-held, none-message, none-refused, Reads, stop, call}
+use Rattle.demands.specs.Writes.{Writes, written-all, write}
 use Rattle.demands.specs.OfCalls.{SetUp}
 use Rattle.demands.specs.Witnesses.{CallsNotEmpty, WritesNotEmpty, AllowedNotEmpty, FlowsNotEmpty, endLost, startLost, JointNotEmpty}
 use Rattle.demands.proofs.Demands.{zeros-fresh}

@@ -24,7 +24,7 @@ use Rattle.flows.specs.Fresh.{Allowed}
 use Rattle.sending.specs.Sending.{Sent, packetCount, headingFor, FairPDU}
 use Rattle.sending.specs.OfSendings.{packetAt}
 use Rattle.sending.proofs.Untold.{packetsFrom}
-use Rattle.demands.specs.Calls.{Writes, written-all, write}
+use Rattle.demands.specs.Writes.{Writes, written-all, write}
 use Rattle.demands.specs.Demands.{standsIn, writtenBy}
 
 -- a packet that is written into a buffer stands in its first bytes

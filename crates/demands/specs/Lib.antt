@@ -1,7 +1,5 @@
-pub mod Rooms
-pub mod Calls
+pub mod Writes
 pub mod Demands
 pub mod OfCalls
 pub mod Witnesses
-pub mod Sixteen
 pub mod Impostors

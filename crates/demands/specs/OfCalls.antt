@@ -15,7 +15,8 @@ use Rattle.flows.specs.Deliveries.{Delivery, delivery}
 use Rattle.flows.specs.Fresh.{Lends, Fresh}
 use Rattle.sending.specs.Sending.{Sent, Sending, packets, whole, FairPDU, FairlySent, OneLossEach, NoNeighboursLose, Fair}
 use Rattle.sending.specs.OfSendings.{firstTurns}
-use Rattle.demands.specs.Calls.{Reads, Writes}
+use Rattle.calls.specs.Calls.{Reads}
+use Rattle.demands.specs.Writes.{Writes}
 
 -- From fresh: `setup` said ready, for a device ID of 16 bits, and left the desk's words; and memories that 12 allows are lent, whatever is in them
 pub record SetUp (setup : Setup) (d : Desk) : Type 0 where

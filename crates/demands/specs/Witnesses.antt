@@ -16,7 +16,8 @@ use Rattle.sending.specs.Sending.{Sent, packets, FairPDU}
 use Rattle.sending.specs.Joint.{Pair, isJoint}
 use Rattle.sending.specs.Mixture.{smallSetup, five, six, mixture}
 use Rattle.paper_examples.specs.Table.{sourceOf, firstPDU, secondPDU}
-use Rattle.demands.specs.Calls.{Reads, Writes}
+use Rattle.calls.specs.Calls.{Reads}
+use Rattle.demands.specs.Writes.{Writes}
 use Rattle.demands.specs.OfCalls.{SetUp}
 
 -- every PDU that a room holds can be written, by as many calls as `segment_count` says

@@ -47,6 +47,6 @@ pub fn read(
     ensures { λ r. ⌜ ReadPromise (lent (desk (now (state .entry)) (now («stream_memory» .entry)) (now («message_memory» .entry)) (now (response .entry))) (now (packet .entry)))
         r (desk (now (state .exit)) (now («stream_memory» .exit)) (now («message_memory» .exit)) (now (response .exit))) ⌝ }
 {
-    let told = reading::read(state, stream_memory, message_memory, response, packet);
+    let told = packets::read(state, stream_memory, message_memory, response, packet);
     answers::reading_of(told)
 }

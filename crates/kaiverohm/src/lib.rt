@@ -46,7 +46,7 @@ pub extern "C" fn kaiverohm_read(
     ensures { λ r. ⌜ ReadFromCPromise (lent (desk (now (state .entry)) (now («stream_memory» .entry)) (now («message_memory» .entry)) (now (response .entry))) (now (packet .entry)))
         r (desk (now (state .exit)) (now («stream_memory» .exit)) (now («message_memory» .exit)) (now (response .exit))) ⌝ }
 {
-    let told = reading::read(state, stream_memory, message_memory, response, packet);
+    let told = packets::read(state, stream_memory, message_memory, response, packet);
     c_reports::reported(told)
 }
 

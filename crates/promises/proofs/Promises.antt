@@ -11,12 +11,12 @@ use Rattle.mailing.proofs.Desks.{others-leave-mail}
 use Rattle.mailing.proofs.Runs.{message-read-back-of-calls}
 use Rattle.mailing.proofs.Eleven.{mail-runs-not-empty}
 use Rattle.paper_examples.proofs.Table.{examples-hold}
-use Rattle.demands.proofs.Rooms.{room-of-delivered}
+use Rattle.calls.proofs.Rooms.{room-of-delivered}
 use Rattle.demands.proofs.Demands.{ours-meets, our-writer-meets, corollary3}
 use Rattle.demands.proofs.OfCalls.{demand2-of-calls, demand3-of-calls, demand3-any-loss}
 use Rattle.demands.proofs.Impostors.{impostors-break}
 use Rattle.demands.proofs.Witnesses.{calls-not-empty, allowed-not-empty, flows-not-empty, joint-not-empty}
-use Rattle.demands.proofs.Sixteen.{sixteen-at-once, sixteen-delivered}
+use Rattle.sixteen.proofs.Sixteen.{sixteen-at-once, sixteen-delivered}
 use Rattle.promises.specs.Statements.{Promises}
 use Rattle.promises.specs.Witnesses.{PremisesCanBeMet}
 use Rattle.promises.proofs.ByTable.{reading-by-table, head-by-table, setup-by-table, abandon-stream-by-table, abandon-message-by-table, writer-by-table}

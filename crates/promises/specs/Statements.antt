@@ -16,7 +16,7 @@ use Rattle.mailing.specs.Mail.{MailSegmentsReadBack}
 use Rattle.mailing.specs.ReadBack.{OthersLeaveMail}
 use Rattle.mailing.specs.OfCalls.{MessageReadBackOfCalls}
 use Rattle.paper_examples.specs.Table.{ExamplesHold}
-use Rattle.demands.specs.Rooms.{RoomOfDelivered}
+use Rattle.calls.specs.Rooms.{RoomOfDelivered}
 use Rattle.demands.specs.Demands.{OursMeets, OurWriterMeets}
 use Rattle.demands.specs.OfCalls.{Demand2OfCalls, Demand3OfCalls, Demand3AnyLoss, Corollary3}
 use Rattle.demands.specs.Impostors.{ImpostorsBreak}

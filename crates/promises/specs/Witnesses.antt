@@ -2,7 +2,7 @@
 use Rattle.sending.specs.Mixture.{MixtureIsFair, MixtureDelivered}
 use Rattle.mailing.specs.Eleven.{MailRunsNotEmpty}
 use Rattle.demands.specs.Witnesses.{CallsNotEmpty, AllowedNotEmpty, FlowsNotEmpty, JointNotEmpty}
-use Rattle.demands.specs.Sixteen.{SixteenAtOnce, SixteenDelivered}
+use Rattle.sixteen.specs.Sixteen.{SixteenAtOnce, SixteenDelivered}
 use Rattle.promises.specs.Ignored.{IgnoredNotEmpty}
 
 pub record PremisesCanBeMet : Type 0 where

@@ -6,4 +6,3 @@ pub mod Response
 pub mod Spoken
 pub mod Computing
 pub mod Lent
-mod Parting

@@ -45,13 +45,13 @@ fn write_fitting(
     let last = number + 1 == count;
     let from = number * mtu;
     let n = cutting::data_length(mtu, pdu.len(), from);
-    let front = cutting::head_length(first, last);
+    let front = segment_head::head_length(first, last);
     let length = front + n + n % 2;
     if out.len() < length {
         return Written::Refused(16);
     }
-    let field = cutting::field_of(first, heading.stream, pdu.len());
-    let head = cutting::head_of(heading, cutting::flags(first, last, n), field);
+    let field = segment_head::field_of(first, heading.stream, pdu.len());
+    let head = segment_head::head_of(heading, segment_head::flags(first, last, n), field);
     cutting::put(out, &head[..front], &pdu[from..from + n]);
     Written::Length(length)
 }

@@ -1,4 +1,4 @@
--- `kaiverohm_read` meets its contract: what `reading::read` promises, its numbers as a report.
+-- `kaiverohm_read` meets its contract: what `packets::read` promises, its numbers as a report.
 use borrow.Author.Needs.{needs}
 use Rattle.reading.specs.Desk.{desk}
 use Rattle.reading.specs.Table.{lent}
