@@ -1,31 +1,31 @@
 -- What the numbers of an answer tell is what was said.
 use Prim.Native.Nat.{ℕ}
-use mathlib.Core.Path.{_≡_, refl, ap, ap₂, sym, _∙_}
+use mathlib.Core.Path.{_≡_, refl, ap, _∙_}
 use mathlib.Core.Bool.{Bool}
 use Rattle.answers.specs.Answers.{Said, held, delivered, message, refused}
 use Rattle.answers.specs.declared.Figures.{Figures}
-use Rattle.answers.specs.Figures.{toldOf, telling, AllSet}
+use Rattle.answers.specs.Figures.{figuresOf, telling, AllSet}
 
-tells-back : (s : Said) (dropped : Bool) (response : ℕ) → telling (toldOf s dropped response) ≡ s
+tells-back : (s : Said) (dropped : Bool) (response : ℕ) → telling (figuresOf s dropped response) ≡ s
 tells-back (refused _) _ _ = refl
 tells-back held _ _ = refl
 tells-back (delivered _ _ _ _) _ _ = refl
 tells-back (message _ _ _ _ _) _ _ = refl
 
-dropped-back : (s : Said) (dropped : Bool) (response : ℕ) → toldOf s dropped response .dropped ≡ dropped
+dropped-back : (s : Said) (dropped : Bool) (response : ℕ) → figuresOf s dropped response .dropped ≡ dropped
 dropped-back (refused _) _ _ = refl
 dropped-back held _ _ = refl
 dropped-back (delivered _ _ _ _) _ _ = refl
 dropped-back (message _ _ _ _ _) _ _ = refl
 
-response-back : (s : Said) (dropped : Bool) (response : ℕ) → toldOf s dropped response .response ≡ response
+response-back : (s : Said) (dropped : Bool) (response : ℕ) → figuresOf s dropped response .response ≡ response
 response-back (refused _) _ _ = refl
 response-back held _ _ = refl
 response-back (delivered _ _ _ _) _ _ = refl
 response-back (message _ _ _ _ _) _ _ = refl
 
 -- numbers that were made of something tell it
-module _ (t : Figures) (s : Said) (dropped : Bool) (response : ℕ) (e : t ≡ toldOf s dropped response) where
+module _ (t : Figures) (s : Said) (dropped : Bool) (response : ℕ) (e : t ≡ figuresOf s dropped response) where
   pub told-says : telling t ≡ s
   told-says = ap telling e ∙ tells-back s dropped response
 

@@ -5,11 +5,12 @@ use mathlib.Core.Bool.{Bool, cond}
 use lib.Dec.{eqb}
 use Rattle.wire.specs.declared.Flow.{Flow}
 use Rattle.answers.specs.Answers.{Said, held, delivered, message, refused}
+use Rattle.answers.specs.Kinds.{refusedKind, heldKind, deliveredKind, messageKind}
 use Rattle.answers.specs.declared.Figures.{Figures}
 
 -- numbers that carry no PDU and no message
-abbrev pub plainTold : ℕ → ℕ → Bool → ℕ → Figures
-plainTold kind number dropped response = record {
+abbrev pub plainFigures : ℕ → ℕ → Bool → ℕ → Figures
+plainFigures kind number dropped response = record {
   kind = kind;
   number = number;
   dropped = dropped;
@@ -22,8 +23,8 @@ plainTold kind number dropped response = record {
 }
 
 -- numbers that carry one
-abbrev pub carryingTold : ℕ → Bool → ℕ → ℕ → ℕ → ℕ → ℕ → ℕ → Figures
-carryingTold kind dropped response context source cosOrLetter streamOrMailbox size = record {
+abbrev pub carryingFigures : ℕ → Bool → ℕ → ℕ → ℕ → ℕ → ℕ → ℕ → Figures
+carryingFigures kind dropped response context source cosOrLetter streamOrMailbox size = record {
   kind = kind;
   number = 0;
   dropped = dropped;
@@ -36,20 +37,20 @@ carryingTold kind dropped response context source cosOrLetter streamOrMailbox si
 }
 
 -- the numbers of what reading says, whether it dropped an open PDU, and how many bytes of response it wrote
-abbrev pub toldOf : Said → Bool → ℕ → Figures
-toldOf (refused number) dropped response = plainTold 0 number dropped response
-toldOf held dropped response = plainTold 1 0 dropped response
-toldOf (delivered context flow stream size) dropped response = carryingTold 2 dropped response context (flow .source) (flow .cos) stream size
-toldOf (message context source letter mailbox size) dropped response = carryingTold 3 dropped response context source letter mailbox size
+abbrev pub figuresOf : Said → Bool → ℕ → Figures
+figuresOf (refused number) dropped response = plainFigures refusedKind number dropped response
+figuresOf held dropped response = plainFigures heldKind 0 dropped response
+figuresOf (delivered context flow stream size) dropped response = carryingFigures deliveredKind dropped response context (flow .source) (flow .cos) stream size
+figuresOf (message context source letter mailbox size) dropped response = carryingFigures messageKind dropped response context source letter mailbox size
 
 -- and back: what they tell
 abbrev pub telling : Figures → Said
 telling t =
-    cond (eqb (t .kind) 0) (refused (t .number))
-    (cond (eqb (t .kind) 1) held
-    (cond (eqb (t .kind) 2) (delivered (t .context) (record { source = t .source; cos = t .«cos_or_letter» }) (t .«stream_or_mailbox») (t .length))
+    cond (eqb (t .kind) refusedKind) (refused (t .number))
+    (cond (eqb (t .kind) heldKind) held
+    (cond (eqb (t .kind) deliveredKind) (delivered (t .context) (record { source = t .source; cos = t .«cos_or_letter» }) (t .«stream_or_mailbox») (t .length))
     (message (t .context) (t .source) (t .«cos_or_letter») (t .«stream_or_mailbox») (t .length))))
 
 -- numbers that are those of what they tell: each is set, and those that carry nothing are 0
 abbrev pub AllSet : Figures → Bool → ℕ → Type 0
-AllSet t dropped response = t ≡ toldOf (telling t) dropped response
+AllSet t dropped response = t ≡ figuresOf (telling t) dropped response

@@ -3,7 +3,24 @@
 use wire::Flow;
 ghost use mathlib.Core.Path.{_≡_};
 ghost use Rattle.answers.specs.Answers.{said, refused, held};
-ghost use Rattle.answers.specs.Figures.{telling, plainTold, toldOf};
+ghost use Rattle.answers.specs.Figures.{telling, plainFigures, figuresOf};
+
+// The kinds of answers, of every call: specs/Kinds.antt.
+pub const REFUSED: usize = 0;
+
+pub const HELD: usize = 1;
+
+pub const DELIVERED: usize = 2;
+
+pub const MESSAGE: usize = 3;
+
+pub const READY: usize = 4;
+
+pub const CLOSED: usize = 5;
+
+pub const FREE: usize = 6;
+
+pub const WRITTEN: usize = 7;
 
 // The answer to a packet.
 pub enum Answer {
@@ -66,7 +83,7 @@ pub enum Written {
 
 // What carries no PDU and no message.
 fn plain(kind: usize, number: usize, dropped: bool, response: usize) -> Figures
-    ensures { λ r. ⌜ r ≡ plainTold kind number dropped response ⌝ }
+    ensures { λ r. ⌜ r ≡ plainFigures kind number dropped response ⌝ }
 {
     Figures {
         kind,
@@ -83,29 +100,29 @@ fn plain(kind: usize, number: usize, dropped: bool, response: usize) -> Figures
 
 // A refusal.
 pub fn refusal(number: usize, dropped: bool, response: usize) -> Figures
-    ensures { λ r. ⌜ r ≡ toldOf (refused number) dropped response ⌝ }
+    ensures { λ r. ⌜ r ≡ figuresOf (refused number) dropped response ⌝ }
 {
-    plain(0, number, dropped, response)
+    plain(REFUSED, number, dropped, response)
 }
 
 // A segment that is held.
 pub fn holding(dropped: bool, response: usize) -> Figures
-    ensures { λ r. ⌜ r ≡ toldOf held dropped response ⌝ }
+    ensures { λ r. ⌜ r ≡ figuresOf held dropped response ⌝ }
 {
-    plain(1, 0, dropped, response)
+    plain(HELD, 0, dropped, response)
 }
 
 // The answer that these numbers tell.
 fn answer_of(t: Figures) -> Answer
     ensures { λ r. ⌜ said r ≡ telling t ⌝ }
 {
-    if t.kind == 0 {
+    if t.kind == REFUSED {
         return Answer::Refused(t.number);
     }
-    if t.kind == 1 {
+    if t.kind == HELD {
         return Answer::Held;
     }
-    if t.kind == 2 {
+    if t.kind == DELIVERED {
         let flow = Flow {
             source: t.source,
             cos: t.cos_or_letter,

@@ -16,7 +16,7 @@ use Rattle.reading.specs.Desk.{Desk, stateOn, withResponse}
 use Rattle.reading.specs.Table.{lent}
 use Rattle.reading.specs.Read.{Settled, settled, reading}
 use Rattle.reading.specs.Good.{StillGood}
-use Rattle.reading.specs.Inside.{Fit, ToldPromise}
+use Rattle.reading.specs.Inside.{Fit, FiguresPromise}
 use Rattle.reading.proofs.Kept.{stays-good}
 use Rattle.c_reports.specs.declared.Report.{Report}
 use Rattle.c_reports.specs.Reports.{reportOf, reportWords, wordsOfReport}
@@ -49,7 +49,7 @@ module _ (r : Run) (ready : ReadyToRun r 1) where
   slot-length = ap length slot-is ∙ simp (length-take, length-drop) (omega (arith, ready .space .replies))
 
   -- what reading left: in its memories, in its slot, and with the report beside it
-  module _ (packet : List ℕ) (small : getD packet 5 0 < 256) (t : Figures) (after : Desk) (promise : ToldPromise (lent lentDesk packet) t after) where
+  module _ (packet : List ℕ) (small : getD packet 5 0 < 256) (t : Figures) (after : Desk) (promise : FiguresPromise (lent lentDesk packet) t after) where
     as-defined : settled (telling t) (t .dropped) (t .response) after ≡ readIn r packet
     as-defined = promise .promised ∙ ap (λ (s : List ℕ). reading (lent (withResponse (r .desk) s) packet)) slot-is
 

@@ -13,6 +13,7 @@ use Rattle.reading.specs.Read.{Settled, reading}
 use Rattle.log_records.specs.declared.Next.{Next}
 use Rattle.log_records.specs.declared.Next.the-variants.{Record, End, Bad}
 use Rattle.log_records.specs.Records.{nextRecord}
+use Rattle.answers.specs.Kinds.{deliveredKind, messageKind}
 use Rattle.c_reports.specs.declared.Report.{Report}
 use Rattle.c_reports.specs.Reports.{reportOf, reportWords, wordsOfReport}
 use Rattle.c_bursts.specs.declared.Burst.{Burst}
@@ -84,9 +85,9 @@ isFull = 3
 abbrev pub atDelivery : ℕ
 atDelivery = 4
 
--- whether the burst stops behind a packet: where the caller asked for it, and the packet delivers a PDU (kind 2) or a message (kind 3)
+-- whether the burst stops behind a packet: where the caller asked for it, and the packet delivers a PDU or a message
 unfoldable pub pauseOf : ℕ → ℕ → ℕ
-pauseOf pause kind = cond (eqb pause 0) 0 (cond (eqb kind 2) atDelivery (cond (eqb kind 3) atDelivery 0))
+pauseOf pause kind = cond (eqb pause 0) 0 (cond (eqb kind deliveredKind) atDelivery (cond (eqb kind messageKind) atDelivery 0))
 
 -- the run behind a step, and why it stops there; 0: it goes on
 pub record StepLeft : Type 0 where

@@ -70,10 +70,10 @@ fn pausing(pause: usize, kind: usize) -> usize
     if pause == 0 {
         return 0;
     }
-    if kind == 2 {
+    if kind == answers::DELIVERED {
         return DELIVERY;
     }
-    if kind == 3 {
+    if kind == answers::MESSAGE {
         return DELIVERY;
     }
     0

@@ -30,7 +30,8 @@ use Rattle.demands.specs.Writes.{Writes, written-all, write}
 use Rattle.demands.specs.OfCalls.{SetUp}
 use Rattle.demands.proofs.OfCalls.{demand2-of-calls, demand3-of-calls}
 use Rattle.c_promises.specs.OfCalls.{bytesAt, FetchesFromC, at-place, nothing, ReadsFromC, no-more, one-more, CallsFromCAreReads, SetUpFromC}
-use Rattle.c_promises.specs.OfCalls.{readyKind, writtenKind, WritesFromC, no-segment, one-segment, WritesFromCAreWrites, Demand2FromC, Demand3FromC}
+use Rattle.answers.specs.Kinds.{readyKind, writtenKind}
+use Rattle.c_promises.specs.OfCalls.{WritesFromC, no-segment, one-segment, WritesFromCAreWrites, Demand2FromC, Demand3FromC}
 
 -- ---- What is fetched
 

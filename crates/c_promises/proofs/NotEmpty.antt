@@ -30,7 +30,8 @@ use Rattle.paper_examples.proofs.Computing.{computing}
 use Rattle.demands.proofs.Writing.{counted, written-well}
 use Rattle.demands.proofs.Witnesses.{calls-not-empty}
 use Rattle.c_bursts.specs.Bursts.{roomFor, reportFor}
-use Rattle.c_promises.specs.OfCalls.{deliveredKind, readyKind, writtenKind, FetchesFromC, at-place, nothing, ReadsFromC, no-more, one-more}
+use Rattle.answers.specs.Kinds.{deliveredKind, readyKind, writtenKind}
+use Rattle.c_promises.specs.OfCalls.{FetchesFromC, at-place, nothing, ReadsFromC, no-more, one-more}
 use Rattle.c_promises.specs.OfCalls.{SetUpFromC, WritesFromC, no-segment, one-segment, CallsFromCNotEmpty, BurstNotEmpty}
 
 -- ---- Calls

@@ -21,7 +21,8 @@ use Rattle.c_reports.specs.declared.Report.{Report}
 use Rattle.c_reports.specs.Reports.{reportOf}
 use Rattle.c_places.specs.declared.Place.{Place}
 use Rattle.c_places.specs.Places.{placeOf, StreamPlacePromise, MessagePlacePromise}
-use Rattle.c_promises.specs.OfCalls.{PlacesInside, deliveredKind, messageKind, PlaceOfDelivered, RoomOfDeliveredFromC}
+use Rattle.answers.specs.Kinds.{deliveredKind, messageKind}
+use Rattle.c_promises.specs.OfCalls.{PlacesInside, PlaceOfDelivered, RoomOfDeliveredFromC}
 
 -- ---- Inside
 

@@ -35,22 +35,8 @@ use Rattle.c_places.specs.declared.Place.{Place}
 use Rattle.c_places.specs.Places.{placeOf, StreamPlacePromise, MessagePlacePromise}
 use Rattle.c_bursts.specs.declared.Burst.{Burst}
 use Rattle.c_bursts.specs.Bursts.{slotBytes, Run, run, reportFor, behind, stepLeft, atEnd, isFull, atDelivery, answering, stopped, Finished, roomFor, burstVerdict, readBurst, BurstPromise}
+use Rattle.answers.specs.Kinds.{deliveredKind, messageKind, readyKind, writtenKind}
 use Rattle.kaiverohm.specs.Exports.{SetupFromCPromise, ReadFromCPromise, AbandonStreamFromCPromise, AbandonMessageFromCPromise, WriteFromCPromise}
-
--- ---- The kinds of an answer that these statements name (c_reports/specs/Reports.antt has all): a PDU is delivered, a message is, a state is made, a segment
--- is written.
-
-abbrev pub deliveredKind : ℕ
-deliveredKind = 2
-
-abbrev pub messageKind : ℕ
-messageKind = 3
-
-abbrev pub readyKind : ℕ
-readyKind = 4
-
-abbrev pub writtenKind : ℕ
-writtenKind = 7
 
 -- ---- What a report says of the response is what reading wrote there.
 

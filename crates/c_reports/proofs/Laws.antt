@@ -9,7 +9,7 @@ use Rattle.lists.specs.Bytes.{written}
 use Rattle.lists.proofs.Written.{stores}
 use Rattle.answers.specs.Answers.{Said, held, delivered, message, refused}
 use Rattle.answers.specs.declared.Figures.{Figures}
-use Rattle.answers.specs.Figures.{toldOf, telling, AllSet}
+use Rattle.answers.specs.Figures.{figuresOf, telling, AllSet}
 use Rattle.c_reports.specs.declared.Report.{Report}
 use Rattle.c_reports.specs.Reports.{flagOf, reportOf, reportWords, wordsOfReport}
 
@@ -35,7 +35,7 @@ pub stored : (w : List ℕ) (at : ℕ) (r : Report) → at + reportWords ≤ len
 stored w at r h = simp towards-suc (stores w (wordsOfReport r) at h)
 
 -- the numbers of what was said are the report's, the flag as one of them
-reported-back : (says : Said) (dropped : Bool) (response : ℕ) → asReport (toldOf says dropped response) (flagOf dropped) ≡ reportOf says dropped response
+reported-back : (says : Said) (dropped : Bool) (response : ℕ) → asReport (figuresOf says dropped response) (flagOf dropped) ≡ reportOf says dropped response
 unfolding reportOf
 reported-back (refused _) _ _ = refl
 reported-back held _ _ = refl

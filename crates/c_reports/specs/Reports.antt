@@ -5,6 +5,7 @@ use mathlib.Core.Bool.{Bool, cond}
 use Rattle.lists.specs.Bytes.{byte}
 use Rattle.answers.specs.Answers.{Said, held, delivered, message, refused}
 use Rattle.answers.specs.Answers.{SetupSaid, ready, setupRefused, AbandonSaid, closed, free, abandonRefused, WriterSaid, wrote, writeRefused}
+use Rattle.answers.specs.Kinds.{refusedKind, heldKind, deliveredKind, messageKind, readyKind, closedKind, freeKind, writtenKind}
 use Rattle.c_reports.specs.declared.Report.{Report}
 use Rattle.c_reports.specs.declared.Numbers.{Numbers}
 
@@ -13,21 +14,17 @@ use Rattle.c_reports.specs.declared.Numbers.{Numbers}
 abbrev pub numbers : ℕ → ℕ → Numbers
 numbers kind number = record { kind = kind; number = number }
 
--- the kind of every refusal, of every call
-abbrev pub refusedKind : ℕ
-refusedKind = 0
-
 abbrev pub numbersOfSetup : SetupSaid → Numbers
-numbersOfSetup ready = numbers 4 0
+numbersOfSetup ready = numbers readyKind 0
 numbersOfSetup (setupRefused number) = numbers refusedKind number
 
 abbrev pub numbersOfAbandon : AbandonSaid → Numbers
-numbersOfAbandon closed = numbers 5 0
-numbersOfAbandon free = numbers 6 0
+numbersOfAbandon closed = numbers closedKind 0
+numbersOfAbandon free = numbers freeKind 0
 numbersOfAbandon (abandonRefused number) = numbers refusedKind number
 
 abbrev pub numbersOfWriter : WriterSaid → Numbers
-numbersOfWriter (wrote size) = numbers 7 size
+numbersOfWriter (wrote size) = numbers writtenKind size
 numbersOfWriter (writeRefused number) = numbers refusedKind number
 
 -- ---- the report of a packet
@@ -35,9 +32,9 @@ numbersOfWriter (writeRefused number) = numbers refusedKind number
 -- a number for each thing that reading says
 abbrev pub kindOf : Said → ℕ
 kindOf (refused number) = refusedKind
-kindOf held = 1
-kindOf (delivered context flow stream size) = 2
-kindOf (message context source letter mailbox size) = 3
+kindOf held = heldKind
+kindOf (delivered context flow stream size) = deliveredKind
+kindOf (message context source letter mailbox size) = messageKind
 
 abbrev pub flagOf : Bool → ℕ
 flagOf b = cond b 1 0

@@ -84,8 +84,14 @@ pub fn of_setup(begun: Begun) -> Numbers
     ensures { λ r. ⌜ r ≡ numbersOfSetup (saidOfSetup begun) ⌝ }
 {
     match begun {
-        Begun::Ready => Numbers { kind: 4, number: 0 },
-        Begun::Refused(number) => Numbers { kind: 0, number },
+        Begun::Ready => Numbers {
+            kind: answers::READY,
+            number: 0,
+        },
+        Begun::Refused(number) => Numbers {
+            kind: answers::REFUSED,
+            number,
+        },
     }
 }
 
@@ -94,9 +100,18 @@ pub fn of_abandon(abandoned: Abandoned) -> Numbers
     ensures { λ r. ⌜ r ≡ numbersOfAbandon (saidOfAbandon abandoned) ⌝ }
 {
     match abandoned {
-        Abandoned::Closed => Numbers { kind: 5, number: 0 },
-        Abandoned::WasFree => Numbers { kind: 6, number: 0 },
-        Abandoned::Refused(number) => Numbers { kind: 0, number },
+        Abandoned::Closed => Numbers {
+            kind: answers::CLOSED,
+            number: 0,
+        },
+        Abandoned::WasFree => Numbers {
+            kind: answers::FREE,
+            number: 0,
+        },
+        Abandoned::Refused(number) => Numbers {
+            kind: answers::REFUSED,
+            number,
+        },
     }
 }
 
@@ -106,9 +121,12 @@ pub fn of_writer(written: Written) -> Numbers
 {
     match written {
         Written::Length(length) => Numbers {
-            kind: 7,
+            kind: answers::WRITTEN,
             number: length,
         },
-        Written::Refused(number) => Numbers { kind: 0, number },
+        Written::Refused(number) => Numbers {
+            kind: answers::REFUSED,
+            number,
+        },
     }
 }

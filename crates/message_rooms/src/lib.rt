@@ -45,7 +45,7 @@ fn keep(state: &mut [usize], m: MessageSegment, n: usize, marks: usize, last: us
     if marks::all_marked(marks as u16, m.msglen + 1) {
         message_contexts::close_message(state, n);
         return Figures {
-            kind: 3,
+            kind: answers::MESSAGE,
             number: 0,
             dropped: false,
             response: responses::SIZE,

@@ -34,7 +34,7 @@ fn take_alone(
     message_contexts::close_message(state, n);
     message_rooms::done(response, packet);
     Figures {
-        kind: 3,
+        kind: answers::MESSAGE,
         number: 0,
         dropped: false,
         response: responses::SIZE,

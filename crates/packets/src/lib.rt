@@ -2,7 +2,7 @@
 use answers::Figures;
 ghost use Rattle.reading.specs.Desk.{desk};
 ghost use Rattle.reading.specs.Table.{lent};
-ghost use Rattle.reading.specs.Inside.{ReadyToRead, ToldPromise};
+ghost use Rattle.reading.specs.Inside.{ReadyToRead, FiguresPromise};
 
 // One packet. Every caller has tested the state and the memories; a run over many packets tests them once.
 pub fn step(
@@ -13,7 +13,7 @@ pub fn step(
     packet: &[u8],
 ) -> Figures
     requires { ⌜ ReadyToRead (desk (now state) (now «stream_memory») (now «message_memory») (now response)) ⌝ }
-    ensures { λ r. ⌜ ToldPromise (lent (desk (now (state .entry)) (now («stream_memory» .entry)) (now («message_memory» .entry)) (now (response .entry))) (now (packet .entry)))
+    ensures { λ r. ⌜ FiguresPromise (lent (desk (now (state .entry)) (now («stream_memory» .entry)) (now («message_memory» .entry)) (now (response .entry))) (now (packet .entry)))
         r (desk (now (state .exit)) (now («stream_memory» .exit)) (now («message_memory» .exit)) (now (response .exit))) ⌝ }
 {
     let kind = heads::head(packet, contexts::device(state));
@@ -35,7 +35,7 @@ pub fn read(
     response: &mut [u8],
     packet: &[u8],
 ) -> Figures
-    ensures { λ r. ⌜ ToldPromise (lent (desk (now (state .entry)) (now («stream_memory» .entry)) (now («message_memory» .entry)) (now (response .entry))) (now (packet .entry)))
+    ensures { λ r. ⌜ FiguresPromise (lent (desk (now (state .entry)) (now («stream_memory» .entry)) (now («message_memory» .entry)) (now (response .entry))) (now (packet .entry)))
         r (desk (now (state .exit)) (now («stream_memory» .exit)) (now («message_memory» .exit)) (now (response .exit))) ⌝ }
 {
     let number = reading::lent_refusal(state, stream_memory, message_memory, response);

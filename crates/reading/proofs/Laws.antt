@@ -8,7 +8,7 @@ use lib.ListN.{length}
 use borrow.Author.Tests.{eq-eqb, le-ltb, eqb-true, ltb-false, not-false}
 use Rattle.answers.specs.Answers.{Said, refused}
 use Rattle.answers.specs.declared.Figures.{Figures}
-use Rattle.answers.specs.Figures.{toldOf, telling, AllSet}
+use Rattle.answers.specs.Figures.{figuresOf, telling, AllSet}
 use Rattle.answers.proofs.Telling.{told-says, told-dropped, told-response, told-tells-whole}
 use Rattle.tables.specs.Refusals.{all}
 use Rattle.responses.specs.Type13.{responseSize}
@@ -22,10 +22,10 @@ use Rattle.message_rooms.specs.Placing.{messageMemoryBytes}
 use Rattle.reading.specs.Desk.{Desk, stateOn, withStreams, withMessages}
 use Rattle.reading.specs.Table.{Lent, wrongSizes}
 use Rattle.reading.specs.Read.{settled, refusing, ofStream, ofMessage, reading}
-use Rattle.reading.specs.Inside.{ToldPromise}
+use Rattle.reading.specs.Inside.{FiguresPromise}
 
 -- a refusal that changes nothing
-pub refusal-promised : (x : Lent) (number : ℕ) (t : Figures) → t ≡ toldOf (refused number) false 0 → refusing x number all ≡ reading x → ToldPromise x t (x .desk)
+pub refusal-promised : (x : Lent) (number : ℕ) (t : Figures) → t ≡ figuresOf (refused number) false 0 → refusing x number all ≡ reading x → FiguresPromise x t (x .desk)
 refusal-promised x number t f e =
     record {
       promised = rw (told-says t (refused number) false 0 f, told-dropped t (refused number) false 0 f, told-response t (refused number) false 0 f) e;
@@ -46,14 +46,14 @@ message-settled x says words memory response j z e =
 -- and with the numbers that tell it
 pub stream-promised : (x : Lent) (t : Figures) (words memory : List ℕ) (j : streamRoom.Joined) → length words ≡ stateWords
     → (streamRoom.joining (telling t) (t .dropped) (stateOf words) memory ≡ j) × AllSet t (t .dropped) 0 → ofStream x j ≡ reading x
-    → ToldPromise x t (withStreams (x .desk) words memory)
+    → FiguresPromise x t (withStreams (x .desk) words memory)
 stream-promised x t words memory j z k e =
     let response = told-response t (telling t) (t .dropped) 0 (k .1) in
     record { promised = rw response (stream-settled x (telling t) (t .dropped) words memory j z (k .0) ∙ e); numbers = told-tells-whole t (telling t) (t .dropped) 0 (k .1) }
 
 pub message-promised : (x : Lent) (t : Figures) (words memory response : List ℕ) (j : messageRoom.MessageJoined) → length words ≡ stateWords
     → (messageRoom.messageJoining (telling t) (stateOf words) memory response ≡ j) × AllSet t false responseSize → ofMessage x j ≡ reading x
-    → ToldPromise x t (withMessages (x .desk) words memory response)
+    → FiguresPromise x t (withMessages (x .desk) words memory response)
 message-promised x t words memory response j z k e =
     let written = told-response t (telling t) false responseSize (k .1) in
     let dropped = told-dropped t (telling t) false responseSize (k .1) in

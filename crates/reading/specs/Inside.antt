@@ -15,7 +15,7 @@ use Rattle.reading.specs.Table.{Lent}
 use Rattle.reading.specs.Read.{settled, reading}
 
 -- the promise of reading, of an answer as numbers
-pub record ToldPromise (x : Lent) (t : Figures) (after : Desk) : Type 0 where
+pub record FiguresPromise (x : Lent) (t : Figures) (after : Desk) : Type 0 where
   pub promised : settled (telling t) (t .dropped) (t .response) after ≡ reading x
   pub numbers : AllSet t (t .dropped) (t .response)
 

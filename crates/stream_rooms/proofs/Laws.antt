@@ -11,7 +11,7 @@ use lib.Seq.{set-out}
 use Rattle.lists.specs.Bytes.{word, written}
 use Rattle.answers.specs.Answers.{Said, held, refused}
 use Rattle.answers.specs.declared.Figures.{Figures}
-use Rattle.answers.specs.Figures.{toldOf, telling, AllSet}
+use Rattle.answers.specs.Figures.{figuresOf, telling, AllSet}
 use Rattle.answers.proofs.Telling.{told-says, told-dropped, told-tells-own}
 use Rattle.wire.specs.declared.Flow.{Flow}
 use Rattle.wire.specs.Segment.{Segment}
@@ -35,7 +35,7 @@ put-nowhere s n z h =
     (sym (set-out (s .streams) n closedStream (omega arith)))
 
 -- numbers of a refusal that closes
-pub closing-told : (s : State) {found number : ℕ} {dropped : Bool} {t : Figures} {after : State} → t ≡ toldOf (refused number) dropped 0 → dropped ≡ ltb found streamContexts
+pub closing-told : (s : State) {found number : ℕ} {dropped : Bool} {t : Figures} {after : State} → t ≡ figuresOf (refused number) dropped 0 → dropped ≡ ltb found streamContexts
     → after ≡ withStream s found closedStream → Closing s found number (telling t) (t .dropped) after × AllSet t (t .dropped) 0
 closing-told s e d w = (
   record { answer = told-says _ (refused _) _ _ e; drop = told-dropped _ (refused _) _ _ e ∙ d; state = w },
@@ -43,7 +43,7 @@ closing-told s e d w = (
 )
 
 -- what is said, by the numbers that were made of it
-pub joined-told : (says : Said) {dropped : Bool} {t : Figures} {state : State} {memory : List ℕ} {j : Joined} → t ≡ toldOf says dropped 0 → joining says dropped state memory ≡ j
+pub joined-told : (says : Said) {dropped : Bool} {t : Figures} {state : State} {memory : List ℕ} {j : Joined} → t ≡ figuresOf says dropped 0 → joining says dropped state memory ≡ j
     → (joining (telling t) (t .dropped) state memory ≡ j) × AllSet t (t .dropped) 0
 joined-told says e k = (rw (told-says _ says _ _ e, told-dropped _ says _ _ e) k, told-tells-own _ says _ _ e)
 

@@ -38,7 +38,7 @@ pub fn deliver(
 {
     stream_contexts::close_stream(state, n);
     Figures {
-        kind: 2,
+        kind: answers::DELIVERED,
         number: 0,
         dropped,
         response: 0,

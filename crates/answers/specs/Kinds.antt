@@ -1,0 +1,31 @@
+-- The kinds of answers as numbers, of every call (include/kaiverohm.h has them in this order).
+use Prim.Native.Nat.{ℕ}
+
+-- any call: a refusal
+abbrev pub refusedKind : ℕ
+refusedKind = 0
+
+-- reading a packet
+abbrev pub heldKind : ℕ
+heldKind = 1
+
+abbrev pub deliveredKind : ℕ
+deliveredKind = 2
+
+abbrev pub messageKind : ℕ
+messageKind = 3
+
+-- setup
+abbrev pub readyKind : ℕ
+readyKind = 4
+
+-- abandoning a context
+abbrev pub closedKind : ℕ
+closedKind = 5
+
+abbrev pub freeKind : ℕ
+freeKind = 6
+
+-- the segment writer
+abbrev pub writtenKind : ℕ
+writtenKind = 7
