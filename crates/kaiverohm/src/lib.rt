@@ -1,6 +1,8 @@
 // The endpoint for callers in C. Each function hands its arguments on and its answer back as numbers; none asks anything of its caller.
 // include/kaiverohm.h declares them.
 use c_bursts::Burst;
+use c_contexts::OpenMessage;
+use c_contexts::OpenStream;
 use c_places::Place;
 use c_reports::Numbers;
 use c_reports::Report;
@@ -12,6 +14,7 @@ ghost use Rattle.segments.specs.Writer.{CountPromise};
 ghost use Rattle.c_places.specs.Places.{StreamPlacePromise, MessagePlacePromise};
 ghost use Rattle.c_bursts.specs.Bursts.{BurstPromise};
 ghost use Rattle.kaiverohm.specs.Exports.{SetupFromCPromise, ReadFromCPromise, AbandonStreamFromCPromise, AbandonMessageFromCPromise, WriteFromCPromise};
+ghost use Rattle.kaiverohm.specs.Exports.{StreamContextFromCPromise, MessageContextFromCPromise};
 
 // The words of a state.
 #[no_mangle]
@@ -73,6 +76,22 @@ pub extern "C" fn kaiverohm_read_burst(
         burst,
         pause,
     )
+}
+
+// What stream context n holds.
+#[no_mangle]
+pub extern "C" fn kaiverohm_stream_context(state: &[usize], n: usize) -> OpenStream
+    ensures { λ r. ⌜ StreamContextFromCPromise (now (state .entry)) n r ⌝ }
+{
+    c_contexts::of_stream(endpoint::stream_context(state, n))
+}
+
+// What message context n holds.
+#[no_mangle]
+pub extern "C" fn kaiverohm_message_context(state: &[usize], n: usize) -> OpenMessage
+    ensures { λ r. ⌜ MessageContextFromCPromise (now (state .entry)) n r ⌝ }
+{
+    c_contexts::of_message(endpoint::message_context(state, n))
 }
 
 // Gives the PDU of stream context n up.
