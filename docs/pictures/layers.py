@@ -19,8 +19,8 @@ ROWS = [
     {"c_runs": (0, 2.4), "c_places": (2.4, 2.4), "printing": (4.8, 2), "log_run": (6.8, 2.2), "calls": (9.2, 1.4), "sixteen": (10.6, 1.4)},
     {"c_bursts": (0, 4.8), "log_pieces": (6.8, 2.2), "sending": (9.2, 1.4), "paper_examples": (10.6, 1.4)},
     {"endpoint": (0, 4.8), "segments": (4.8, 2), "log_reader": (6.8, 2.2), "flows": (9.2, 2.8)},
-    {"packets": (0, 2.4), "room_parts": (2.4, 1.2), "abandoning": (3.6, 1.2), "segment_head": (4.8, 2), "log_records": (6.8, 1.1), "log_lines": (7.9, 1.1)},
-    {"stream_step": (0, 1.6), "message_step": (1.6, 1.6), "reading": (3.2, 1.6), "c_reports": (4.8, 2)},
+    {"packets": (0, 1.6), "room_parts": (1.6, 1.6), "asking": (3.2, 1.6), "segment_head": (4.8, 2), "log_records": (6.8, 1.1), "log_lines": (7.9, 1.1)},
+    {"stream_step": (0, 1.2), "message_step": (1.2, 1.3), "reading": (2.5, 1), "abandoning": (3.5, 1.3), "c_reports": (4.8, 1), "c_contexts": (5.8, 1)},
     {"beginning": (0, 1.6), "continuing": (1.6, 1.6), "choosing": (3.2, 1.6)},
     {"placing": (0, 1.6), "streams": (1.6, 1.6), "messages": (3.2, 1.6)},
     {"stream_rooms": (0, 2.4), "message_rooms": (2.4, 2.4)},
@@ -33,7 +33,7 @@ ROWS = [
     {"lists": (0, 9)},
 ]
 HEADS = [(0, 4.8, "reading packets"), (4.8, 2, "writing segments"), (6.8, 2.2, "the log"), (9.2, 2.8, "theorems")]
-PUBLIC = {"endpoint", "abandoning", "room_parts", "segments", "log_records", "log_lines", "log_pieces", "log_run", "log_reader", "kaiverohm"}
+PUBLIC = {"endpoint", "abandoning", "asking", "room_parts", "segments", "log_records", "log_lines", "log_pieces", "log_run", "log_reader", "kaiverohm"}
 THEOREMS = {"promises", "c_promises", "demands", "calls", "sixteen", "sending", "mailing", "paper_examples", "flows", "streams", "messages", "tables"}
 PROGRAMS = {"racklog", "tour", "outside_logs", "outside_responses", "outside_segments"}
 
