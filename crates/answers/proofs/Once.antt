@@ -78,7 +78,7 @@ abandon-once = once saidOfAbandon abandonedOf abandon-back
 -- ---- asking after a context
 
 streamAskedOf : StreamContextSaid → StreamAsked
-streamAskedOf (streamOpen flow streamID held) = stream.Open flow streamID held
+streamAskedOf (streamOpen flow streamID size) = stream.Open flow streamID size
 streamAskedOf streamFree = stream.Free
 streamAskedOf (streamAskRefused number) = stream.Refused number
 

@@ -67,7 +67,7 @@ pub data StreamContextSaid : Type 0 where
   streamAskRefused : (number : ℕ) → StreamContextSaid
 
 abbrev pub saidOfStream : StreamAsked → StreamContextSaid
-saidOfStream (stream.Open flow streamID held) = streamOpen flow streamID held
+saidOfStream (stream.Open flow streamID size) = streamOpen flow streamID size
 saidOfStream stream.Free = streamFree
 saidOfStream (stream.Refused number) = streamAskRefused number
 
