@@ -315,7 +315,7 @@ struct kaiverohm_place kaiverohm_message_room(const uint64_t *state, size_t stat
 
 /* How many packets a PDU of that many bytes makes; 0 where the writer would
    refuse the MTU (18) or the length (14).
-   Promise: crates/segments/specs/Writer.antt, CountPromise. */
+   Promise: crates/writing/specs/Writer.antt, CountPromise. */
 uint64_t kaiverohm_segment_count(uint64_t mtu, uint64_t pdu_length);
 
 /* Writes segment `number`, from 0, of a PDU as a type 9 packet.

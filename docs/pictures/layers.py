@@ -16,16 +16,18 @@ ROWS = [
     {"c_promises": (9.2, 2.8)},
     {"tour": (0, 1.4), "outside_responses": (1.4, 2.2), "outside_segments": (3.6, 2.2), "racklog": (5.8, 1.4), "outside_logs": (7.2, 1.8), "promises": (9.2, 2.8)},
     {"kaiverohm": (0, 5.8), "log_print": (5.8, 3.2), "demands": (9.2, 1.4), "mailing": (10.6, 1.4)},
-    {"c_runs": (0, 2.4), "c_places": (2.4, 2.4), "printing": (4.8, 2), "log_run": (6.8, 2.2), "calls": (9.2, 1.4), "sixteen": (10.6, 1.4)},
-    {"c_bursts": (0, 4.8), "log_pieces": (6.8, 2.2), "sending": (9.2, 1.4), "paper_examples": (10.6, 1.4)},
-    {"endpoint": (0, 4.8), "segments": (4.8, 2), "log_reader": (6.8, 2.2), "flows": (9.2, 2.8)},
-    {"packets": (0, 1.6), "room_parts": (1.6, 1.6), "asking": (3.2, 1.6), "segment_head": (4.8, 2), "log_records": (6.8, 1.1), "log_lines": (7.9, 1.1)},
+    {"c_runs": (0, 1.6), "c_places": (1.6, 1.6), "c_answers": (3.2, 1.6), "printing": (4.8, 2), "log_run": (6.8, 2.2), "calls": (9.2, 1.4), "sixteen": (10.6, 1.4)},
+    {"c_loops": (0, 4.8), "segments": (4.8, 2), "log_pieces": (6.8, 2.2), "sending": (9.2, 1.4), "paper_examples": (10.6, 1.4)},
+    {"c_bursts": (0, 2.4), "endpoint": (2.4, 2.4), "fitting": (4.8, 2), "log_reader": (6.8, 2.2), "flows": (9.2, 2.8)},
+    {"packets": (0, 1.6), "room_parts": (1.6, 1.6), "asking": (3.2, 1.6), "segment_head": (4.8, 1.1), "writing": (5.9, 0.9), "log_records": (6.8, 1.1), "log_lines": (7.9, 1.1)},
     {"stream_step": (0, 1.2), "message_step": (1.2, 1.3), "reading": (2.5, 1), "abandoning": (3.5, 1.3), "c_reports": (4.8, 1), "c_contexts": (5.8, 1)},
-    {"beginning": (0, 1.6), "continuing": (1.6, 1.6), "choosing": (3.2, 1.6)},
+    {"continuing": (0, 1.6), "beginning": (1.6, 1.6), "choosing": (3.2, 1.6)},
+    {"ending": (0, 1.6)},
     {"placing": (0, 1.6), "streams": (1.6, 1.6), "messages": (3.2, 1.6)},
     {"stream_rooms": (0, 2.4), "message_rooms": (2.4, 2.4)},
-    {"lent_state": (0, 2.4), "finding": (2.4, 2.4)},
-    {"refusal19": (0, 1.2), "stream_contexts": (1.2, 1.8), "message_contexts": (3, 1.8)},
+    {"lent_state": (0, 1.4), "finding": (1.4, 1), "message_rules": (2.4, 1.3), "stream_rules": (3.7, 1.1)},
+    {"bad_streams": (0, 1.1), "bad_messages": (1.1, 1.3), "stream_contexts": (2.4, 1.2), "message_contexts": (3.6, 1.2)},
+    {"refusal19": (0, 4.8)},
     {"contexts": (0, 1), "marks": (1, 0.8), "rules": (1.8, 0.8), "heads": (2.6, 0.9), "responses": (3.5, 1.3), "cutting": (4.8, 2)},
     {"sizes": (0, 6.8), "answers": (9.2, 2.8)},
     {"wire": (0, 6.8)},
@@ -34,7 +36,7 @@ ROWS = [
 ]
 HEADS = [(0, 4.8, "reading packets"), (4.8, 2, "writing segments"), (6.8, 2.2, "the log"), (9.2, 2.8, "theorems")]
 PUBLIC = {"endpoint", "abandoning", "asking", "room_parts", "segments", "log_records", "log_lines", "log_pieces", "log_run", "log_reader", "kaiverohm"}
-THEOREMS = {"promises", "c_promises", "demands", "calls", "sixteen", "sending", "mailing", "paper_examples", "flows", "streams", "messages", "tables"}
+THEOREMS = {"promises", "c_promises", "demands", "calls", "sixteen", "sending", "mailing", "paper_examples", "flows", "streams", "messages", "rules", "refusal19", "writing", "tables"}
 PROGRAMS = {"racklog", "tour", "outside_logs", "outside_responses", "outside_segments"}
 
 WIDTH, ROW, TOP, LEFT, COLUMN = 900, 46, 48, 18, 72

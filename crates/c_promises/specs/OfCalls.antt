@@ -18,7 +18,7 @@ use Rattle.reading.specs.Table.{Lent, lent}
 use Rattle.reading.specs.Read.{reading}
 use Rattle.room_parts.specs.Parts.{part}
 use Rattle.cutting.specs.declared.Heading.{Heading}
-use Rattle.segments.specs.Writer.{CountPromise}
+use Rattle.writing.specs.Writer.{CountPromise}
 use Rattle.flows.specs.OneFlow.{pdu}
 use Rattle.flows.specs.Deliveries.{Delivery, delivery}
 use Rattle.flows.specs.Fresh.{Allowed, Lends, zeroDesk}

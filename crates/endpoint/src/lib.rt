@@ -30,7 +30,7 @@ pub fn setup(state: &mut [usize], device: u16, mtu: usize, room: usize) -> Begun
         contexts::clear(state);
         return Begun::Refused(18);
     }
-    if refusal19::bad_room(mtu, room) {
+    if bad_streams::bad_room(mtu, room) {
         contexts::clear(state);
         return Begun::Refused(19);
     }

@@ -9,7 +9,7 @@ use Rattle.reading.specs.Read.{reading}
 use Rattle.endpoint.specs.Calls.{setup}
 use Rattle.abandoning.specs.Abandoning.{abandonStream, abandonMessage}
 use Rattle.cutting.specs.declared.Heading.{Heading}
-use Rattle.segments.specs.Writer.{writing}
+use Rattle.writing.specs.Writer.{writing}
 use Rattle.c_reports.specs.declared.Numbers.{Numbers}
 use Rattle.c_reports.specs.declared.Report.{Report}
 use Rattle.c_reports.specs.Reports.{numbersOfSetup, numbersOfAbandon, numbersOfWriter}

@@ -28,7 +28,7 @@ use Rattle.answers.specs.Stands.{Stands}
 use Rattle.abandoning.specs.Abandoning.{abandonTable, abandonBy, abandonStream, abandonMessage}
 use Rattle.asking.specs.Asking.{heldInStream, heldInMessage, askStream, askMessage}
 use Rattle.cutting.specs.Cutting.{packetOf}
-use Rattle.segments.specs.Writer.{writerTable, wroteBy, writing}
+use Rattle.writing.specs.Writer.{writerTable, wroteBy, writing}
 use Rattle.promises.specs.ByTable.{ByTable, ReadingByTable, HeadByTable, SetupByTable, AbandonStreamByTable, AbandonMessageByTable, AskStreamByTable, AskMessageByTable, WriterByTable}
 
 -- ---- The law: an outcome made from the verdict, where a refusal's outcome refuses by its own number and an accepted one by none

@@ -13,7 +13,7 @@ use Rattle.answers.proofs.Once.{said-once, setup-once, abandon-once, stream-onc
 use Rattle.reading.specs.Read.{Settled}
 use Rattle.answers.specs.Stands.{Stands, stands}
 use Rattle.room_parts.specs.Parts.{Part, IsPart}
-use Rattle.segments.specs.Writer.{Wrote}
+use Rattle.writing.specs.Writer.{Wrote}
 use Rattle.promises.specs.Determinism.{OneRoom, OneOutcomeEach}
 
 -- a reading is its answer, whether it dropped a PDU, and its count

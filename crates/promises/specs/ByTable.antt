@@ -26,7 +26,7 @@ use Rattle.answers.specs.Answers.{StreamContextSaid, streamAskRefused, MessageC
 use Rattle.asking.specs.Asking.{heldInStream, heldInMessage, askStream, askMessage}
 use Rattle.cutting.specs.declared.Heading.{Heading}
 use Rattle.cutting.specs.Cutting.{packetOf}
-use Rattle.segments.specs.Writer.{Wrote, wroteOf, writerTable, writing}
+use Rattle.writing.specs.Writer.{Wrote, wroteOf, writerTable, writing}
 
 -- `refuses n o`: the outcome o refuses by number n; `refusing` is the table's last column, `accepting` what is left where no row's test holds
 pub record ByTable {O L : Type 0} (table : List (RowOf L)) (refuses : ℕ → O → Type 0) (refusing : ℕ → L → O) (accepting outcome : O) : Type 0 where

@@ -18,7 +18,7 @@ use Rattle.abandoning.specs.Abandoning.{AbandonStreamPromise, AbandonMessagePro
 use Rattle.asking.specs.Asking.{StreamContextPromise, MessageContextPromise}
 use Rattle.room_parts.specs.Parts.{StreamRoomPromise, MessageRoomPromise}
 use Rattle.cutting.specs.declared.Heading.{Heading}
-use Rattle.segments.specs.Writer.{WritePromise, CountPromise}
+use Rattle.writing.specs.Writer.{WritePromise, CountPromise}
 
 -- a room that is handed back: its place in the caller's memory and its bytes
 abbrev pub OneRoom : (RefT (List ℕ) → Type 0) → Type 0
