@@ -9,7 +9,6 @@
 #include <stdlib.h>
 #include <string.h>
 #include <sys/mman.h>
-#include <ucontext.h>
 #include <unistd.h>
 
 #include "kaiverohm.h"
@@ -211,12 +210,11 @@ static void lengths(void)
         struct kaiverohm_report r =
             lent(wrong[i][0], wrong[i][1], wrong[i][2], wrong[i][3], length);
         WANT(r.kind == KAIVEROHM_REFUSED && r.number == 12 && changed() == 0);
-        if (wrong[i][0] != WORDS)
-            continue;
-        /* A state that is none comes before the other buffers, and only for 147 words. */
-        state(WORDS)[1] = 33;
+        /* A state of another length comes first, then one that is none, then the other buffers. */
+        memset(state_end - sizeof kept.state, 0, sizeof kept.state);
         r = lent(wrong[i][0], wrong[i][1], wrong[i][2], wrong[i][3], length);
-        WANT(r.kind == KAIVEROHM_REFUSED && r.number == 19 && changed() == 0);
+        WANT(r.kind == KAIVEROHM_REFUSED && changed() == 0);
+        WANT(r.number == (wrong[i][0] == WORDS ? 19 : 12));
     }
     /* A longer response buffer is as good; the bytes behind the seventh stay. */
     fresh();
@@ -527,7 +525,16 @@ static void rooms_for_packets(void)
     BURST(64, REPORT - 1, EMPTY, 0, KAIVEROHM_BURST_FULL, 0, 0, 0);
     BURST(64, 0, EMPTY, 0, KAIVEROHM_BURST_FULL, 0, 0, 0);
     BURST(64, 0, "", 0, KAIVEROHM_BURST_END, 0, 0, 0);
+    /* a record that is none is bad before there is no room for it */
     BURST(64, 0, "\x05", 0, KAIVEROHM_BURST_BAD, 0, 0, 0);
+    BURST(REPLY, 27, "\x05", 0, KAIVEROHM_BURST_BAD, 0, 0, 0);
+    BURST(64, REPORT, EMPTY "\x05", 0, KAIVEROHM_BURST_BAD, 0, 1, 1);
+    BURST(64, REPORT, EMPTY "\x81\x00", 0, KAIVEROHM_BURST_BAD, 0, 1, 1);
+    /* reports of any length */
+    for (size_t words = 0; words <= 3 * REPORT; words++)
+        says(burst(64, words, EMPTY EMPTY EMPTY, 3, 0),
+             words < 3 * REPORT ? KAIVEROHM_BURST_FULL : KAIVEROHM_BURST_END, 0, words / REPORT,
+             words / REPORT, __LINE__);
     /* room for one */
     BURST(64, 2 * REPORT - 1, EMPTY EMPTY, 0, KAIVEROHM_BURST_FULL, 0, 1, 1);
     BURST(2 * SLOT - 1, 27, EMPTY EMPTY, 0, KAIVEROHM_BURST_FULL, 0, 1, 1);
@@ -591,6 +598,8 @@ static void lengths_of_bursts(void)
         size_t streams = STREAM_MEMORY + (i / 2 == 1 ? (size_t)more : 0);
         size_t memory = KAIVEROHM_MESSAGE_MEMORY + (i / 2 == 2 ? (size_t)more : 0);
         fresh();
+        if (i / 2 == 0) /* another length comes before a state that is none */
+            memset(state_end - sizeof kept.state, 0, sizeof kept.state);
         keep();
         struct kaiverohm_burst b = kaiverohm_read_burst(
             state(words), words, streams_end - streams, streams, messages_end - memory, memory,
@@ -699,6 +708,14 @@ static void rooms(void)
     keep();
     STREAM_ROOM(WORDS, s, 15, ROOM, 15 * ROOM, ROOM);
     STREAM_ROOM(WORDS, s, 15, 0, 15 * ROOM, 0);
+    /* no byte of context 0, and none refused, look the same; asking for one byte tells */
+    STREAM_ROOM(WORDS, s, 0, 0, 0, 0);
+    STREAM_ROOM(WORDS, s + 1, 0, 0, 0, 0);
+    STREAM_ROOM(WORDS, s, 0, 1, 0, 1);
+    STREAM_ROOM(WORDS, s + 1, 0, 1, 0, 0);
+    MESSAGE_ROOM(WORDS, m, 0, 0, 0, 0);
+    MESSAGE_ROOM(WORDS, m, 0, 1, 0, 1);
+    MESSAGE_ROOM(WORDS, m + 1, 0, 1, 0, 0);
     STREAM_ROOM(WORDS, s, 15, ROOM + 1, 0, 0);
     STREAM_ROOM(WORDS, s, 16, 1, 0, 0);
     STREAM_ROOM(WORDS, s - 1, 15, 1, 0, 0);
@@ -783,42 +800,6 @@ static void writer(void)
     WANT(kaiverohm_segment_count(UINT64_MAX - 3, 40) == 0);
 }
 
-/* ---- the stack: calls on one of their own, which is filled before */
-
-static uint8_t stack[32768];
-static ucontext_t outside, inside;
-
-static void calls(void)
-{
-    lent(WORDS, STREAM_MEMORY, KAIVEROHM_MESSAGE_MEMORY, REPLY, START("\x09"));
-    lent(WORDS, STREAM_MEMORY, KAIVEROHM_MESSAGE_MEMORY, REPLY,
-         MADE("\x1b\x01\x02\x00\x09\x1a\x01", 16));
-    burst(64, 27, MESSAGE MESSAGE, sizeof MESSAGE MESSAGE - 1, 0);
-    kaiverohm_abandon_stream(state(WORDS), WORDS, 0);
-    kaiverohm_abandon_message(state(WORDS), WORDS, 0);
-    struct kaiverohm_heading h = {
-        .destination = 1, .source = 2, .stream = 3, .cos = 4, .priority = 0
-    };
-    kaiverohm_write_segment(reports_end - 64, 64, h, MTU, packet_end - 100, 100, 3);
-}
-
-static void stacks(void)
-{
-    fresh();
-    memset(stack, 0xa7, sizeof stack);
-    WANT(getcontext(&inside) == 0);
-    inside.uc_stack.ss_sp = stack;
-    inside.uc_stack.ss_size = sizeof stack;
-    inside.uc_link = &outside;
-    makecontext(&inside, calls, 0);
-    WANT(swapcontext(&outside, &inside) == 0);
-    size_t used = sizeof stack;
-    while (stack[sizeof stack - used] == 0xa7)
-        used--;
-    printf("edges: at most %zu bytes of stack\n", used);
-    WANT(used <= 2048);
-}
-
 int main(void)
 {
     state_end = fenced(sizeof kept.state) + sizeof kept.state;
@@ -845,7 +826,6 @@ int main(void)
     abandons();
     rooms();
     writer();
-    stacks();
     printf("edges: %u checks\n", checks);
     return 0;
 }
