@@ -63,6 +63,12 @@ int main(void)
     };
     const size_t length = sizeof text - 1;
 
+    /* A header of another interface than the archive's would call it wrongly. */
+    if (kaiverohm_interface() != KAIVEROHM_INTERFACE) {
+        printf("this program was compiled with another header than the archive's\n");
+        return 1;
+    }
+
     struct kaiverohm_answer answer = kaiverohm_desk_setup(&desk, DEVICE, MTU, ROOM);
     if (answer.kind != KAIVEROHM_READY) {
         printf("setup refused: %s\n", kaiverohm_refusal_words(answer.number));

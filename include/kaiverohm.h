@@ -71,6 +71,11 @@ extern "C" {
 #define KAIVEROHM_VERSION_MAJOR 0
 #define KAIVEROHM_VERSION_MINOR 1
 
+/* It rises whenever a function, a struct or a constant of this file changes.
+   What is only added leaves it. kaiverohm_interface says the archive's: compare
+   the two once, before the first call. */
+#define KAIVEROHM_INTERFACE 1
+
 #define KAIVEROHM_STATE_WORDS 147      /* a state: 147 words of 8 bytes */
 #define KAIVEROHM_STREAM_CONTEXTS 16   /* stream memory: 16 rooms of R bytes */
 #define KAIVEROHM_MESSAGE_CONTEXTS 8   /* message memory: 8 rooms of 4,096 */
@@ -220,6 +225,11 @@ struct kaiverohm_heading {
     uint8_t cos;
     uint8_t priority; /* 0 to 3 */
 };
+
+/* The archive's interface. Where it is not KAIVEROHM_INTERFACE, this header and the
+   archive do not belong together: call nothing else.
+   Promise: crates/kaiverohm/specs/Exports.antt, InterfacePromise. */
+uint64_t kaiverohm_interface(void);
 
 /* The words of a state: 147.
    Promise: crates/endpoint/specs/Calls.antt, LengthPromise. */

@@ -206,7 +206,6 @@ static void stream_bytes(void)
     WANT(r.kind == KAIVEROHM_HELD && kaiverohm_desk_bytes(&desk, &r) == NULL);
     r = end_came(8, "\x7f\x7f");
     WANT(r.dropped == 1 && kaiverohm_desk_bytes(&desk, &r) == NULL);
-    packet[7] = 0;
     memcpy(packet, "\x19\x01\x02\x00\x09\x05\x42\x00\x22\x21\x22", 11);
     r = kaiverohm_desk_read(&desk, packet, 11);
     WANT(r.kind == KAIVEROHM_DELIVERED && r.context == 1 && r.length == MTU + 2);
@@ -231,6 +230,9 @@ static void message_bytes(void)
     WANT(r.response == KAIVEROHM_RESPONSE_BYTES && response[0] == 0x5d && response[2] == 9);
     const uint8_t *bytes = kaiverohm_desk_bytes(&desk, &r);
     WANT(bytes == messages + KAIVEROHM_MESSAGE_ROOM && bytes[0] == 1 && bytes[15] == 8);
+    r.kind = KAIVEROHM_HELD;
+    WANT(kaiverohm_desk_bytes(&desk, &r) == NULL);
+    r.kind = KAIVEROHM_MESSAGE;
     state[1] = 0;
     WANT(kaiverohm_desk_bytes(&desk, &r) == NULL);
 }

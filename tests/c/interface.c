@@ -68,8 +68,14 @@ _Static_assert(KAIVEROHM_BURST_REFUSED == 0 && KAIVEROHM_BURST_END == 1, "stops"
 _Static_assert(KAIVEROHM_BURST_BAD == 2 && KAIVEROHM_BURST_FULL == 3, "stops");
 _Static_assert(KAIVEROHM_BURST_DELIVERY == 4, "stops");
 
+/* All of this is interface 1. Where a line above or below has to change, and not
+   only one to be added, the number rises, here, in the header and in
+   crates/kaiverohm. */
+_Static_assert(KAIVEROHM_INTERFACE == 1, "interface");
+
 /* The types once more, as crates/kaiverohm/src/lib.rt has them: a pointer and
    a length for each slice. The compiler refuses a header that has others. */
+uint64_t kaiverohm_interface(void);
 uint64_t kaiverohm_state_length(void);
 struct kaiverohm_answer kaiverohm_setup(uint64_t *, size_t, uint16_t, uint64_t, uint64_t);
 struct kaiverohm_report kaiverohm_read(uint64_t *, size_t, uint8_t *, size_t, uint8_t *, size_t,
@@ -109,6 +115,7 @@ static int is(struct kaiverohm_answer a, uint64_t kind, uint64_t number)
 
 static void versions(void)
 {
+    WANT(kaiverohm_interface() == KAIVEROHM_INTERFACE);
     WANT(strcmp(KAIVEROHM_VERSION, TEXT(KAIVEROHM_VERSION_MAJOR) "." TEXT(KAIVEROHM_VERSION_MINOR))
          == 0);
 }

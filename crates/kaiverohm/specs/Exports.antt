@@ -15,6 +15,14 @@ use Rattle.c_reports.specs.declared.Report.{Report}
 use Rattle.c_reports.specs.Reports.{numbersOfSetup, numbersOfAbandon, numbersOfWriter}
 use Rattle.c_bursts.specs.Bursts.{reportFor}
 
+-- the interface: it rises whenever a function, a struct or a constant of include/kaiverohm.h changes, and additions leave it
+abbrev pub interface : ℕ
+interface = 1
+
+-- the promise of `kaiverohm_interface`
+abbrev pub InterfacePromise : ℕ → Type 0
+InterfacePromise r = r ≡ interface
+
 -- the promise of `kaiverohm_setup`
 pub record SetupFromCPromise (words : List ℕ) (device mtu room : ℕ) (r : Numbers) (after : List ℕ) : Type 0 where
   pub answer : r ≡ numbersOfSetup (setup words device mtu room .says)

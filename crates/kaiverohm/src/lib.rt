@@ -11,7 +11,16 @@ ghost use Rattle.endpoint.specs.Calls.{LengthPromise};
 ghost use Rattle.segments.specs.Writer.{CountPromise};
 ghost use Rattle.c_places.specs.Places.{StreamPlacePromise, MessagePlacePromise};
 ghost use Rattle.c_bursts.specs.Bursts.{BurstPromise};
+ghost use Rattle.kaiverohm.specs.Exports.{InterfacePromise};
 ghost use Rattle.kaiverohm.specs.Exports.{SetupFromCPromise, ReadFromCPromise, AbandonStreamFromCPromise, AbandonMessageFromCPromise, WriteFromCPromise};
+
+// The number of the interface: KAIVEROHM_INTERFACE of the header that belongs to this archive.
+#[no_mangle]
+pub extern "C" fn kaiverohm_interface() -> usize
+    ensures { λ r. ⌜ InterfacePromise r ⌝ }
+{
+    1
+}
 
 // The words of a state.
 #[no_mangle]
