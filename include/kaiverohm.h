@@ -294,6 +294,7 @@ struct kaiverohm_report kaiverohm_read(uint64_t *state, size_t state_words,
    burst:      records, each a length and that many packet bytes, read. A
                length below 128 is one byte. A longer one, below 16,384, is two:
                128 + length % 128, then length / 128, which is not 0.
+               kaiverohm_write_record writes one.
    pause:      0, or another number to stop behind each delivery.
    It reads packets until the end of the burst, a record that is none, the last
    packet that has 9 words of report and 8 bytes of response, or, with pause, a
@@ -381,6 +382,25 @@ struct kaiverohm_answer kaiverohm_write_segment(uint8_t *out, size_t out_length,
                                                 struct kaiverohm_heading heading, uint64_t mtu,
                                                 const uint8_t *pdu, size_t pdu_length,
                                                 uint64_t number);
+
+/* How many bytes the record of a packet of that many bytes has; 0 where no record
+   can hold the packet, which is over 16,383 bytes.
+   Promise: crates/log_writer/specs/Writing.antt, RecordLengthPromise. */
+uint64_t kaiverohm_record_length(uint64_t packet_length);
+
+/* Writes one record of a burst: the packet's length, then its bytes.
+
+   out:    room for the record: kaiverohm_record_length. Written from its
+           beginning; bytes behind the record stay.
+   packet: any bytes, read.
+   Answers WRITTEN and the record's length, behind which the next record goes; or
+   REFUSED, in this order, and all stays:
+     12  the packet has over 16,383 bytes.
+     16  out is shorter than the record.
+   Promises: crates/kaiverohm/specs/Exports.antt, WriteRecordFromCPromise; that it
+   reads back, crates/log_writer/specs/Writing.antt, RecordReadsBack. */
+struct kaiverohm_answer kaiverohm_write_record(uint8_t *out, size_t out_length,
+                                               const uint8_t *packet, size_t packet_length);
 
 /* ---- One struct for what is lent, and the same calls over it
 

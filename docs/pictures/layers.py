@@ -17,7 +17,7 @@ ROWS = [
     {"tour": (0, 1.4), "outside_responses": (1.4, 2.2), "outside_segments": (3.6, 2.2), "racklog": (5.8, 1.4), "outside_logs": (7.2, 1.8), "promises": (9.2, 2.8)},
     {"kaiverohm": (0, 5.8), "log_print": (5.8, 3.2), "demands": (9.2, 1.4), "mailing": (10.6, 1.4)},
     {"c_runs": (0, 2.4), "c_places": (2.4, 2.4), "printing": (4.8, 2), "log_run": (6.8, 2.2), "calls": (9.2, 1.4), "sixteen": (10.6, 1.4)},
-    {"c_bursts": (0, 4.8), "log_pieces": (6.8, 2.2), "sending": (9.2, 1.4), "paper_examples": (10.6, 1.4)},
+    {"c_bursts": (0, 4.8), "log_writer": (4.8, 2), "log_pieces": (6.8, 2.2), "sending": (9.2, 1.4), "paper_examples": (10.6, 1.4)},
     {"endpoint": (0, 4.8), "segments": (4.8, 2), "log_reader": (6.8, 2.2), "flows": (9.2, 2.8)},
     {"packets": (0, 2.4), "room_parts": (2.4, 1.2), "abandoning": (3.6, 1.2), "segment_head": (4.8, 2), "log_records": (6.8, 1.1), "log_lines": (7.9, 1.1)},
     {"stream_step": (0, 1.6), "message_step": (1.6, 1.6), "reading": (3.2, 1.6), "c_reports": (4.8, 2)},
@@ -33,7 +33,7 @@ ROWS = [
     {"lists": (0, 9)},
 ]
 HEADS = [(0, 4.8, "reading packets"), (4.8, 2, "writing segments"), (6.8, 2.2, "the log"), (9.2, 2.8, "theorems")]
-PUBLIC = {"endpoint", "abandoning", "room_parts", "segments", "log_records", "log_lines", "log_pieces", "log_run", "log_reader", "kaiverohm"}
+PUBLIC = {"endpoint", "abandoning", "room_parts", "segments", "log_records", "log_lines", "log_pieces", "log_run", "log_reader", "log_writer", "kaiverohm"}
 THEOREMS = {"promises", "c_promises", "demands", "calls", "sixteen", "sending", "mailing", "paper_examples", "flows", "streams", "messages", "tables"}
 PROGRAMS = {"racklog", "tour", "outside_logs", "outside_responses", "outside_segments"}
 

@@ -45,6 +45,7 @@ static uint8_t *fenced(size_t length)
 
 /* Where each buffer ends. A buffer of n bytes begins n bytes before it. */
 static uint8_t *state_end, *streams_end, *messages_end, *response_end, *packet_end, *reports_end;
+static uint8_t *records_end;
 
 enum { STATE = 1, STREAMS = 2, MESSAGES = 4, RESPONSE = 8 };
 
@@ -800,6 +801,70 @@ static void writer(void)
     WANT(kaiverohm_segment_count(UINT64_MAX - 3, 40) == 0);
 }
 
+/* ---- records: the header's own words for a length, and no byte beside it */
+
+enum { RECORD = KAIVEROHM_LARGEST_RECORDED + 2 };
+
+static int records(size_t out, size_t length)
+{
+    uint8_t *from = packet_end - length, *to = records_end - out;
+    for (size_t i = 0; i < length; i++)
+        from[i] = (uint8_t)(i % 251 + 3);
+    memset(records_end - RECORD - 8, 0xe5, RECORD + 8);
+    struct kaiverohm_answer a = kaiverohm_write_record(to, out, from, length);
+    size_t written = a.kind == KAIVEROHM_WRITTEN ? a.number : 0;
+    WANT(all(records_end - RECORD - 8, RECORD + 8 - out, 0xe5));
+    WANT(all(to + written, out - written, 0xe5));
+    if (a.kind != KAIVEROHM_WRITTEN) {
+        WANT(a.kind == KAIVEROHM_REFUSED && a.number != 0);
+        return -(int)a.number;
+    }
+    size_t front = length < 128 ? 1 : 2;
+    WANT(written == front + length && memcmp(to + front, from, length) == 0);
+    WANT(to[0] == (length < 128 ? length : 128 + length % 128));
+    WANT(length < 128 || to[1] == length / 128);
+    return (int)written;
+}
+
+static void record_writer(void)
+{
+    static const size_t lengths[] = { 0,     1,     2,     126,   127,
+                                      128,   129,   130,   255,   256,
+                                      257,   300,   383,   384,   511,
+                                      512,   4095,  4096,  8191,  8192,
+                                      16255, 16256, 16381, 16382, KAIVEROHM_LARGEST_RECORDED };
+    for (size_t i = 0; i < sizeof lengths / sizeof lengths[0]; i++) {
+        size_t length = lengths[i], record = length + (length < 128 ? 1 : 2);
+        WANT(kaiverohm_record_length(length) == record);
+        WANT(records(record, length) == (int)record);
+        WANT(records(RECORD, length) == (int)record);
+        WANT(records(record - 1, length) == -16);
+        WANT(records(0, length) == -16);
+    }
+    WANT(records(RECORD, KAIVEROHM_LARGEST_RECORDED + 1) == -12);
+    WANT(records(0, KAIVEROHM_LARGEST_RECORDED + 1) == -12);
+    WANT(records(0, MOST) == -12);
+    WANT(kaiverohm_record_length(KAIVEROHM_LARGEST_RECORDED + 1) == 0);
+    WANT(kaiverohm_record_length(FAR) == 0 && kaiverohm_record_length(FAR + 5) == 0);
+    WANT(kaiverohm_record_length(UINT64_MAX) == 0);
+}
+
+/* A record is read as the packet: whole, and the next one begins behind it. */
+static void records_read_back(void)
+{
+    fresh();
+    for (size_t length = 1; length < 300; length++) {
+        uint8_t bytes[2 * 302];
+        struct kaiverohm_answer a =
+            kaiverohm_write_record(bytes, sizeof bytes, packet_end - length, length);
+        memcpy(bytes + a.number, bytes, a.number);
+        says(burst(64, 27, (const char *)bytes, 2 * a.number, 0), KAIVEROHM_BURST_END, 0, 2,
+             2 * a.number, __LINE__);
+        says(burst(64, 27, (const char *)bytes, 2 * a.number - 1, 0), KAIVEROHM_BURST_BAD, 0, 1,
+             a.number, __LINE__);
+    }
+}
+
 int main(void)
 {
     state_end = fenced(sizeof kept.state) + sizeof kept.state;
@@ -808,6 +873,7 @@ int main(void)
     response_end = fenced(sizeof kept.response) + sizeof kept.response;
     packet_end = fenced(MOST) + MOST;
     reports_end = fenced(400) + 400;
+    records_end = fenced(RECORD + 8) + RECORD + 8;
     setups();
     lengths();
     states();
@@ -826,6 +892,8 @@ int main(void)
     abandons();
     rooms();
     writer();
+    record_writer();
+    records_read_back();
     printf("edges: %u checks\n", checks);
     return 0;
 }

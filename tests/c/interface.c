@@ -92,6 +92,8 @@ struct kaiverohm_place kaiverohm_message_room(const uint64_t *, size_t, uint64_t
 uint64_t kaiverohm_segment_count(uint64_t, uint64_t);
 struct kaiverohm_answer kaiverohm_write_segment(uint8_t *, size_t, struct kaiverohm_heading,
                                                 uint64_t, const uint8_t *, size_t, uint64_t);
+uint64_t kaiverohm_record_length(uint64_t);
+struct kaiverohm_answer kaiverohm_write_record(uint8_t *, size_t, const uint8_t *, size_t);
 
 /* An R where the memories differ in size. */
 enum { MTU = 32, ROOM = 1024, WORDS = KAIVEROHM_STATE_WORDS };
@@ -213,9 +215,10 @@ static uint8_t responses[3 * KAIVEROHM_SLOT_BYTES];
 
 static void record(const uint8_t *packet, size_t length)
 {
-    records[records_length++] = (uint8_t)length;
-    memcpy(records + records_length, packet, length);
-    records_length += length;
+    struct kaiverohm_answer a = kaiverohm_write_record(
+        records + records_length, sizeof records - records_length, packet, length);
+    WANT(is(a, KAIVEROHM_WRITTEN, kaiverohm_record_length(length)));
+    records_length += a.number;
 }
 
 static struct kaiverohm_burst read_records(size_t words, uint64_t pause)
@@ -230,6 +233,10 @@ static void burst(void)
     record(start, 41);
     record(message, 15);
     record(end, 17);
+    WANT(records_length == 42 + 16 + 18 && records[0] == 41 && records[42] == 15);
+    WANT(memcmp(records + 59, end, 17) == 0);
+    WANT(is(kaiverohm_write_record(records, 5, end, 5), KAIVEROHM_REFUSED, 16));
+    WANT(records[0] == 41 && records[1] == start[0]);
     struct kaiverohm_burst b = read_records(WORDS, 0);
     WANT(b.stop == KAIVEROHM_BURST_END && b.number == 0 && b.count == 3
          && b.next == records_length);

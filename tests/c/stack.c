@@ -58,6 +58,12 @@ static void read_burst(void)
     said = kaiverohm_desk_read_burst(&desk, reports, 4, burst, sizeof burst - 1, 0).count;
 }
 
+static void write_record(void)
+{
+    static uint8_t record[sizeof pdu + 2];
+    said = kaiverohm_write_record(record, sizeof record, pdu, sizeof pdu).kind;
+}
+
 static void find_room(void)
 {
     said = kaiverohm_desk_message_room(&desk, 0, 1).length;
@@ -83,6 +89,7 @@ static const struct {
     { "read, type 9", read_start, KAIVEROHM_HELD },
     { "read, type 11", read_segment, KAIVEROHM_HELD },
     { "read_burst", read_burst, 2 },
+    { "write_record", write_record, KAIVEROHM_WRITTEN },
     { "message_room", find_room, 1 },
     { "abandon_stream", abandon_stream, KAIVEROHM_CLOSED },
     { "abandon_message", abandon_message, KAIVEROHM_CLOSED },

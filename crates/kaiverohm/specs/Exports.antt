@@ -14,6 +14,7 @@ use Rattle.c_reports.specs.declared.Numbers.{Numbers}
 use Rattle.c_reports.specs.declared.Report.{Report}
 use Rattle.c_reports.specs.Reports.{numbersOfSetup, numbersOfAbandon, numbersOfWriter}
 use Rattle.c_bursts.specs.Bursts.{reportFor}
+use Rattle.log_writer.specs.Writing.{recording}
 
 -- the interface: it rises whenever a function, a struct or a constant of include/kaiverohm.h changes, and additions leave it
 abbrev pub interface : ℕ
@@ -47,5 +48,11 @@ pub record WriteFromCPromise (out : List ℕ) (h : Heading) (mtu : ℕ) (pdu : L
   pub answer : r ≡ numbersOfWriter (writing out h mtu pdu k .says)
   pub packet : after ≡ writing out h mtu pdu k .out
 
+-- the promise of `kaiverohm_write_record`
+pub record WriteRecordFromCPromise (out packet : List ℕ) (r : Numbers) (after : List ℕ) : Type 0 where
+  pub answer : r ≡ numbersOfWriter (recording out packet .says)
+  pub written-out : after ≡ recording out packet .out
+
 -- The others hand on what their callees promise: `LengthPromise` (endpoint/specs/Calls.antt), `CountPromise` (segments/specs/Writer.antt),
--- `StreamPlacePromise` and `MessagePlacePromise` (c_places/specs/Places.antt), `BurstPromise` (c_bursts/specs/Bursts.antt).
+-- `StreamPlacePromise` and `MessagePlacePromise` (c_places/specs/Places.antt), `BurstPromise` (c_bursts/specs/Bursts.antt),
+-- `RecordLengthPromise` (log_writer/specs/Writing.antt).
