@@ -34,8 +34,8 @@
    more than 2,048 bytes, but for one thing: in a program that is bound lazily the
    first call that reaches memcpy, and the first that reaches memset, also take
    what the dynamic linker needs to find them. That was over 3,200 bytes in all,
-   and it grows with the registers that a processor has. Link with -Wl,-z,now, or
-   statically, and no call takes more than the others.
+   and it grows with the registers that a processor has. Linked with -Wl,-z,now,
+   or statically, a first call takes no more than the others.
 
    'The paper' is the association's document 01, 'The rack endpoint and its
    rules'. Numbers of refusals are those of its table: enum kaiverohm_refusal has
@@ -419,8 +419,9 @@ struct kaiverohm_desk {
     size_t response_length;
 };
 
-/* What a desk begins with, from four arrays. The first three have to be arrays: a
-   pointer in the place of one is refused by 12. */
+/* What a desk begins with, from four arrays. A pointer in the place of one would
+   count as 8 bytes: the first three are then refused by 12, and the fourth has
+   room for one response. */
 #define KAIVEROHM_DESK(STATE, STREAMS, MESSAGES, RESPONSE) \
     { \
         (STATE), sizeof(STATE) / sizeof((STATE)[0]), (STREAMS), sizeof(STREAMS), (MESSAGES), \

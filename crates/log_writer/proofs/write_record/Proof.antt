@@ -1,5 +1,6 @@
 -- `log_writer::write_record` meets its contract: each way out is one of the table's, and the first group or both are the length's bytes.
-use mathlib.Core.Path.{_≡_, ap, sym, _∙_}
+use Prim.Native.Nat.{ℕ}
+use mathlib.Core.Path.{ap, _∙_}
 use native.Mathlib.Omega.{arith}
 use lib.ListN.{take, length-take}
 use borrow.Author.Needs.{needs}
@@ -36,7 +37,7 @@ returns-3 c =
     let fronted = enough .before in
     let front = fronted .front-of .ensures .0 in
     whole _ _ _ (fronted .before .if1 .left) front _ _ _ (enough .if2 .left)
-    (ap (λ (n : _). take n (grouped .groups-of .result)) front ∙ grouped .groups-of .ensures .0) (copied .copy .ensures) (stored .store .ensures)
+    (ap (λ (n : ℕ). take n (grouped .groups-of .result)) front ∙ grouped .groups-of .ensures .0) (copied .copy .ensures) (stored .store .ensures)
 
 pub write-record-spec : {M : Type 1} → statement M
 write-record-spec =
