@@ -10,16 +10,24 @@
 enum { DEVICE = 1, MTU = 32, ROOM = 1024, AT_ONCE = 4 };
 
 static uint64_t state[KAIVEROHM_STATE_WORDS];
-static uint8_t streams[KAIVEROHM_STREAM_CONTEXTS * ROOM];
+static uint8_t streams[KAIVEROHM_STREAM_MEMORY(ROOM)];
 static uint8_t messages[KAIVEROHM_MESSAGE_MEMORY];
+static uint8_t response[AT_ONCE * KAIVEROHM_SLOT_BYTES];
+static const struct kaiverohm_desk desk = KAIVEROHM_DESK(state, streams, messages, response);
+
+/* Header and archive belong together, and the desk is set up. */
+static int begin(void)
+{
+    return kaiverohm_interface() == KAIVEROHM_INTERFACE
+           && kaiverohm_desk_setup(&desk, DEVICE, MTU, ROOM).kind == KAIVEROHM_READY;
+}
+
 static struct kaiverohm_report reports[AT_ONCE];
-static uint8_t responses[AT_ONCE * KAIVEROHM_SLOT_BYTES];
 
 static uint8_t burst[1024];
 static size_t length;
 
-/* The segments of a PDU as records: here each is under 128 bytes, so its length
-   is one byte. */
+/* The segments of a PDU, each as a record of the burst. */
 static void add(uint16_t source, uint16_t stream, const char *text)
 {
     const struct kaiverohm_heading heading = {
@@ -27,45 +35,36 @@ static void add(uint16_t source, uint16_t stream, const char *text)
     };
     const size_t size = strlen(text);
     for (uint64_t k = 0; k < kaiverohm_segment_count(MTU, size); k++) {
-        struct kaiverohm_answer a =
-            kaiverohm_write_segment(burst + length + 1, sizeof burst - length - 1, heading, MTU,
-                                    (const uint8_t *)text, size, k);
-        if (a.kind != KAIVEROHM_WRITTEN)
-            return;
-        burst[length] = (uint8_t)a.number;
-        length += 1 + a.number;
+        uint8_t packet[KAIVEROHM_LARGEST_PACKET];
+        uint64_t written = kaiverohm_write_segment(packet, sizeof packet, heading, MTU,
+                                                   (const uint8_t *)text, size, k)
+                               .number;
+        length +=
+            kaiverohm_write_record(burst + length, sizeof burst - length, packet, written).number;
     }
 }
 
-static void take(struct kaiverohm_report r)
+static void take(const struct kaiverohm_report *r)
 {
-    struct kaiverohm_place p =
-        kaiverohm_stream_room(state, KAIVEROHM_STATE_WORDS, sizeof streams, r.context, r.length);
-    printf("board %" PRIu64 ", stream %" PRIu64 ": %.*s\n", r.source, r.stream_or_mailbox,
-           (int)p.length, (const char *)streams + p.offset);
-}
-
-static struct kaiverohm_burst read_from(size_t at)
-{
-    return kaiverohm_read_burst(state, KAIVEROHM_STATE_WORDS, streams, sizeof streams, messages,
-                                sizeof messages, responses, sizeof responses, (uint64_t *)reports,
-                                AT_ONCE * KAIVEROHM_REPORT_WORDS, burst + at, length - at, 1);
+    printf("board %" PRIu64 ", stream %" PRIu64 ": %.*s\n", r->source, r->stream_or_mailbox,
+           (int)r->length, (const char *)kaiverohm_desk_bytes(&desk, r));
 }
 
 int main(void)
 {
-    if (kaiverohm_setup(state, KAIVEROHM_STATE_WORDS, DEVICE, MTU, ROOM).kind != KAIVEROHM_READY)
+    if (!begin())
         return 1;
     add(2, 7, "Wheel 7, left: 412 echoes, no crack found.");
     add(3, 40, "Wheel 8, left: 398 echoes, one at 31 mm.");
     add(2, 8, "Wheel 7, right: 405 echoes, no crack found.");
     size_t at = 0;
     for (;;) {
-        struct kaiverohm_burst b = read_from(at);
+        struct kaiverohm_burst b =
+            kaiverohm_desk_read_burst(&desk, reports, AT_ONCE, burst + at, length - at, 1);
         printf("%" PRIu64 " packets\n", b.count);
         at += b.next;
         if (b.stop == KAIVEROHM_BURST_DELIVERY)
-            take(reports[b.count - 1]);
+            take(&reports[b.count - 1]);
         else if (b.stop != KAIVEROHM_BURST_FULL)
             return b.stop != KAIVEROHM_BURST_END;
     }

@@ -6,44 +6,45 @@
 
 #include "kaiverohm.h"
 
-enum { DEVICE = 1, MTU = 32, ROOM = 2048 };
+enum { DEVICE = 1, MTU = 32, ROOM = 1024 };
 
 /* All that an endpoint keeps. These may stand anywhere in memory that is the
    endpoint's alone; an array of uint64_t begins at a multiple of 8. */
 static uint64_t state[KAIVEROHM_STATE_WORDS];
-static uint8_t streams[KAIVEROHM_STREAM_CONTEXTS * ROOM];
+static uint8_t streams[KAIVEROHM_STREAM_MEMORY(ROOM)];
 static uint8_t messages[KAIVEROHM_MESSAGE_MEMORY];
 static uint8_t response[KAIVEROHM_RESPONSE_BYTES];
 
-static void print_part(const uint8_t *memory, struct kaiverohm_place place)
+/* Each is written down once, here; every call takes them from it. */
+static const struct kaiverohm_desk desk = KAIVEROHM_DESK(state, streams, messages, response);
+
+/* The bytes that a report delivers are in our own memory. The next packet may write over them. */
+static void print_bytes(const struct kaiverohm_report *report)
 {
-    fwrite(memory + place.offset, 1, place.length, stdout);
+    const uint8_t *bytes = kaiverohm_desk_bytes(&desk, report);
+    if (bytes != NULL)
+        fwrite(bytes, 1, report->length, stdout);
     printf("\n");
 }
 
 /* What a board does with a packet that came. Answers whether it was accepted. */
 static int packet_came(const uint8_t *packet, size_t length)
 {
-    struct kaiverohm_report report =
-        kaiverohm_read(state, KAIVEROHM_STATE_WORDS, streams, sizeof streams, messages,
-                       sizeof messages, response, sizeof response, packet, length);
+    struct kaiverohm_report report = kaiverohm_desk_read(&desk, packet, length);
 
     switch (report.kind) {
     case KAIVEROHM_HELD: printf("held\n"); break;
     case KAIVEROHM_DELIVERED:
-        /* Its bytes are in our own memory. The next packet may write over them. */
         printf("delivered, source %" PRIu64 ", cos %" PRIu64 ", stream %" PRIu64 "\n",
                report.source, report.cos_or_letter, report.stream_or_mailbox);
-        print_part(streams, kaiverohm_stream_room(state, KAIVEROHM_STATE_WORDS, sizeof streams,
-                                                  report.context, report.length));
+        print_bytes(&report);
         break;
     case KAIVEROHM_MESSAGE:
         printf("message, source %" PRIu64 ", letter %" PRIu64 ", mailbox %" PRIu64 "\n",
                report.source, report.cos_or_letter, report.stream_or_mailbox);
-        print_part(messages, kaiverohm_message_room(state, KAIVEROHM_STATE_WORDS, sizeof messages,
-                                                    report.context, report.length));
+        print_bytes(&report);
         break;
-    default: printf("refused: %" PRIu64 "\n", report.number); break;
+    default: printf("refused: %s\n", kaiverohm_refusal_words(report.number)); break;
     }
     /* A packet, refused or not, may have given an unfinished PDU of its flow up. */
     if (report.dropped)
@@ -62,10 +63,15 @@ int main(void)
     };
     const size_t length = sizeof text - 1;
 
-    struct kaiverohm_answer answer =
-        kaiverohm_setup(state, KAIVEROHM_STATE_WORDS, DEVICE, MTU, ROOM);
+    /* A header of another interface than the archive's would call it wrongly. */
+    if (kaiverohm_interface() != KAIVEROHM_INTERFACE) {
+        printf("this program was compiled with another header than the archive's\n");
+        return 1;
+    }
+
+    struct kaiverohm_answer answer = kaiverohm_desk_setup(&desk, DEVICE, MTU, ROOM);
     if (answer.kind != KAIVEROHM_READY) {
-        printf("setup refused: %" PRIu64 "\n", answer.number);
+        printf("setup refused: %s\n", kaiverohm_refusal_words(answer.number));
         return 1;
     }
 
@@ -80,7 +86,7 @@ int main(void)
         answer = kaiverohm_write_segment(packet, sizeof packet, heading, MTU, (const uint8_t *)text,
                                          length, k);
         if (answer.kind != KAIVEROHM_WRITTEN) {
-            printf("writer refused: %" PRIu64 "\n", answer.number);
+            printf("writer refused: %s\n", kaiverohm_refusal_words(answer.number));
             return 1;
         }
         printf("packet %" PRIu64 ", %" PRIu64 " bytes: ", k, answer.number);

@@ -10,9 +10,17 @@
 enum { DEVICE = 1, MTU = 32, ROOM = 1024, SEGMENT = 8 };
 
 static uint64_t state[KAIVEROHM_STATE_WORDS];
-static uint8_t streams[KAIVEROHM_STREAM_CONTEXTS * ROOM];
+static uint8_t streams[KAIVEROHM_STREAM_MEMORY(ROOM)];
 static uint8_t messages[KAIVEROHM_MESSAGE_MEMORY];
 static uint8_t response[KAIVEROHM_RESPONSE_BYTES];
+static const struct kaiverohm_desk desk = KAIVEROHM_DESK(state, streams, messages, response);
+
+/* Header and archive belong together, and the desk is set up. */
+static int begin(void)
+{
+    return kaiverohm_interface() == KAIVEROHM_INTERFACE
+           && kaiverohm_desk_setup(&desk, DEVICE, MTU, ROOM).kind == KAIVEROHM_READY;
+}
 
 /* Segment k of a message of three segments of 8 bytes, from board 2, letter 1,
    mbox 2: byte 5 is msglen and ssize, byte 6 letter, mbox and msgseg. */
@@ -36,19 +44,16 @@ static const char *status(void)
 static void came(const char *text, unsigned k)
 {
     uint8_t packet[7 + SEGMENT];
-    struct kaiverohm_report r =
-        kaiverohm_read(state, KAIVEROHM_STATE_WORDS, streams, sizeof streams, messages,
-                       sizeof messages, response, sizeof response, packet, make(packet, text, k));
+    struct kaiverohm_report r = kaiverohm_desk_read(&desk, packet, make(packet, text, k));
     printf("segment %u: ", k);
     if (r.kind == KAIVEROHM_HELD)
         printf("held");
     else if (r.kind == KAIVEROHM_REFUSED)
         printf("refused %" PRIu64, r.number);
     else {
-        struct kaiverohm_place p = kaiverohm_message_room(state, KAIVEROHM_STATE_WORDS,
-                                                          sizeof messages, r.context, r.length);
-        printf("'%.*s' from %" PRIu64 ", letter %" PRIu64 ", mailbox %" PRIu64, (int)p.length,
-               (const char *)messages + p.offset, r.source, r.cos_or_letter, r.stream_or_mailbox);
+        printf("'%.*s' from %" PRIu64 ", letter %" PRIu64 ", mailbox %" PRIu64, (int)r.length,
+               (const char *)kaiverohm_desk_bytes(&desk, &r), r.source, r.cos_or_letter,
+               r.stream_or_mailbox);
     }
     /* The response is a whole packet. It is we who send it. */
     if (r.response)
@@ -60,8 +65,7 @@ static void came(const char *text, unsigned k)
 static void abandon(uint64_t source, uint64_t letter, uint64_t mbox)
 {
     for (uint64_t n = 0; n < KAIVEROHM_MESSAGE_CONTEXTS; n++) {
-        struct kaiverohm_open_message m =
-            kaiverohm_message_context(state, KAIVEROHM_STATE_WORDS, n);
+        struct kaiverohm_open_message m = kaiverohm_desk_message_context(&desk, n);
         if (m.kind != KAIVEROHM_OPEN || m.source != source || m.letter != letter || m.mbox != mbox)
             continue;
         printf("context %" PRIu64 " has segments", n);
@@ -69,14 +73,14 @@ static void abandon(uint64_t source, uint64_t letter, uint64_t mbox)
             if (m.marks >> k & 1)
                 printf(" %u", k);
         printf(" of 0 to %" PRIu64 ", %" PRIu64 " bytes each. Abandoned\n", m.msglen, m.size);
-        kaiverohm_abandon_message(state, KAIVEROHM_STATE_WORDS, n);
+        kaiverohm_desk_abandon_message(&desk, n);
     }
 }
 
 int main(void)
 {
     static const char worn[] = "tread worn by 2 mm on 7L", ok[] = "bearing 7L cool, quiet. ";
-    if (kaiverohm_setup(state, KAIVEROHM_STATE_WORDS, DEVICE, MTU, ROOM).kind != KAIVEROHM_READY)
+    if (!begin())
         return 1;
     printf("in any order:\n");
     came(worn, 2);

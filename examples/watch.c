@@ -10,9 +10,17 @@
 enum { DEVICE = 1, MTU = 32, ROOM = 1024, LONGEST = 3 };
 
 static uint64_t state[KAIVEROHM_STATE_WORDS];
-static uint8_t streams[KAIVEROHM_STREAM_CONTEXTS * ROOM];
+static uint8_t streams[KAIVEROHM_STREAM_MEMORY(ROOM)];
 static uint8_t messages[KAIVEROHM_MESSAGE_MEMORY];
 static uint8_t response[KAIVEROHM_RESPONSE_BYTES];
+static const struct kaiverohm_desk desk = KAIVEROHM_DESK(state, streams, messages, response);
+
+/* Header and archive belong together, and the desk is set up. */
+static int begin(void)
+{
+    return kaiverohm_interface() == KAIVEROHM_INTERFACE
+           && kaiverohm_desk_setup(&desk, DEVICE, MTU, ROOM).kind == KAIVEROHM_READY;
+}
 
 /* What was open in each context when we last looked, and since when. */
 static struct kaiverohm_open_stream seen[KAIVEROHM_STREAM_CONTEXTS];
@@ -28,7 +36,7 @@ static int same_pdu(struct kaiverohm_open_stream a, struct kaiverohm_open_stream
 
 static void look(uint64_t n, unsigned now)
 {
-    struct kaiverohm_open_stream s = kaiverohm_stream_context(state, KAIVEROHM_STATE_WORDS, n);
+    struct kaiverohm_open_stream s = kaiverohm_desk_stream_context(&desk, n);
     if (!same_pdu(seen[n], s))
         since[n] = now;
     seen[n] = s;
@@ -37,7 +45,7 @@ static void look(uint64_t n, unsigned now)
     printf("  context %" PRIu64 " is open too long: source %" PRIu64 ", cos %" PRIu64
            ", stream %" PRIu64 ", %" PRIu64 " bytes held. Abandoned: this scan is missing\n",
            n, s.source, s.cos, s.stream, s.held);
-    kaiverohm_abandon_stream(state, KAIVEROHM_STATE_WORDS, n);
+    kaiverohm_desk_abandon_stream(&desk, n);
     seen[n].kind = KAIVEROHM_WAS_FREE;
 }
 
@@ -51,9 +59,7 @@ static void came(unsigned now, uint16_t source, uint16_t stream, uint64_t segmen
     uint8_t packet[KAIVEROHM_LARGEST_PACKET];
     struct kaiverohm_answer written =
         kaiverohm_write_segment(packet, sizeof packet, heading, MTU, pdu, sizeof pdu, segment);
-    struct kaiverohm_report r =
-        kaiverohm_read(state, KAIVEROHM_STATE_WORDS, streams, sizeof streams, messages,
-                       sizeof messages, response, sizeof response, packet, written.number);
+    struct kaiverohm_report r = kaiverohm_desk_read(&desk, packet, written.number);
     static const char *const words[] = { "refused", "held", "delivered", "message" };
     printf("%u: board %d, stream %d, segment %" PRIu64 ": %s\n", now, source, stream, segment,
            words[r.kind]);
@@ -63,7 +69,7 @@ static void came(unsigned now, uint16_t source, uint16_t stream, uint64_t segmen
 
 int main(void)
 {
-    if (kaiverohm_setup(state, KAIVEROHM_STATE_WORDS, DEVICE, MTU, ROOM).kind != KAIVEROHM_READY)
+    if (!begin())
         return 1;
     came(0, 2, 7, 0);
     came(1, 3, 40, 0);

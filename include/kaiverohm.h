@@ -28,32 +28,28 @@
 
    The code is for x86-64 with the System V calling convention. It uses the SSE2
    registers and the red zone, as programs may and an interrupt handler often
-   may not. No call took more than 2,048 bytes of stack (tests/c/edges.c): that
-   is measured, and no proof bounds it.
+   may not.
+
+   The stack is measured (tests/c/stack.c), and no proof bounds it. No call took
+   more than 2,048 bytes, but for one thing: in a program that is bound lazily the
+   first call that reaches memcpy, and the first that reaches memset, also take
+   what the dynamic linker needs to find them. That was over 3,200 bytes in all,
+   and it grows with the registers that a processor has. Linked with -Wl,-z,now,
+   or statically, a first call takes no more than the others.
 
    'The paper' is the association's document 01, 'The rack endpoint and its
-   rules'. Numbers of refusals are those of its table. 'All stays' means: no
-   byte of any buffer changes.
-
-     1  too short to have a whole head     13  no such context
-     2  device IDs not of 16 bits          14  a PDU of 0 or over 65,536 bytes
-     3  for another device                 15  the PDU has no such segment
-     4  neither type 9 nor type 11         16  out is shorter than the packet
-     5  type 9 with an extended header     17  the priority is over 3
-     6  type 9: no data, odd, or O wrong   18  the MTU is not allowed
-     7  type 9: wrong size for the MTU     19  the state is none
-     8  nothing of its flow is under way   20  ssize is reserved
-     9  the PDU is longer than a room      21  segment of the wrong length
-    10  all 16 stream contexts in use      22  segment number past the last
-    11  end: not as many bytes as it says  23  other msglen or ssize than before
-    12  a buffer of the wrong size         24  the segment is there already
-                                           25  all 8 message contexts in use
+   rules'. Numbers of refusals are those of its table: enum kaiverohm_refusal has
+   their names, kaiverohm_refusal_words their words. 'All stays' means: no byte of
+   any buffer changes.
 
    'The state is none' means that row 19 of the table names it: its MTU or R is
    out of range, or an open context has numbers that cannot be. It was never set
    up, or somebody wrote over it.
 
-   In the project, docs/REFUSALS.md has these in full and in their order,
+   A caller who keeps one endpoint writes its buffers down once, in a struct
+   kaiverohm_desk, and uses the calls at the end of this file.
+
+   In the project, docs/REFUSALS.md has the refusals in full and in their order,
    docs/DECISIONS.md what was decided where the paper is open. Promises are in
    crates/: each function names its file and its promise. */
 
@@ -72,6 +68,13 @@ extern "C" {
 #endif
 
 #define KAIVEROHM_VERSION "0.1"
+#define KAIVEROHM_VERSION_MAJOR 0
+#define KAIVEROHM_VERSION_MINOR 1
+
+/* It rises whenever a function, a struct or a constant of this file changes.
+   What is only added leaves it. kaiverohm_interface says the archive's: compare
+   the two once, before the first call. */
+#define KAIVEROHM_INTERFACE 1
 
 #define KAIVEROHM_STATE_WORDS 147      /* a state: 147 words of 8 bytes */
 #define KAIVEROHM_STREAM_CONTEXTS 16   /* stream memory: 16 rooms of R bytes */
@@ -84,8 +87,20 @@ extern "C" {
 #define KAIVEROHM_REPORT_WORDS 9       /* a report in a burst: 9 words */
 #define KAIVEROHM_SLOT_BYTES 8         /* a response in a burst: 8 bytes */
 
+/* The bytes of a packet in a record: 0 to 16,383. */
+#define KAIVEROHM_LARGEST_RECORDED 16383
+
+/* An MTU: a multiple of 4, from 32 to 256. R: from the MTU to 65,536. */
+#define KAIVEROHM_SMALLEST_MTU 32
+#define KAIVEROHM_LARGEST_MTU 256
+#define KAIVEROHM_MTU_STEP 4
+#define KAIVEROHM_LARGEST_ROOM 65536
+
+/* The bytes of a stream memory with rooms of R bytes. */
+#define KAIVEROHM_STREAM_MEMORY(R) (KAIVEROHM_STREAM_CONTEXTS * (R))
+
 /* What a call says: crates/c_reports/specs/Reports.antt, kindOf. */
-enum {
+enum kaiverohm_kind {
     KAIVEROHM_REFUSED = 0,   /* number: the refusal */
     KAIVEROHM_HELD = 1,      /* a segment is stored, more is to come */
     KAIVEROHM_DELIVERED = 2, /* a PDU is whole */
@@ -93,18 +108,80 @@ enum {
     KAIVEROHM_READY = 4,     /* a state is made */
     KAIVEROHM_CLOSED = 5,    /* a context was open, and is closed */
     KAIVEROHM_WAS_FREE = 6,  /* a context was free, and stays so */
-    KAIVEROHM_WRITTEN = 7,   /* number: the bytes of the packet written */
+    KAIVEROHM_WRITTEN = 7,   /* number: the bytes written */
     KAIVEROHM_OPEN = 8       /* a context is open, and stays so */
 };
 
 /* Why a burst stopped: crates/c_bursts/specs/Bursts.antt. */
-enum {
+enum kaiverohm_stop {
     KAIVEROHM_BURST_REFUSED = 0, /* number: 19 or 12. Nothing was read */
     KAIVEROHM_BURST_END = 1,     /* all its packets were read */
     KAIVEROHM_BURST_BAD = 2,     /* the record at next is no record */
     KAIVEROHM_BURST_FULL = 3,    /* a packet more, but no report or no response left */
     KAIVEROHM_BURST_DELIVERY = 4 /* the last packet read delivered something */
 };
+
+/* The refusals, by the numbers of the paper's table. */
+enum kaiverohm_refusal {
+    KAIVEROHM_REFUSAL_SHORT = 1,
+    KAIVEROHM_REFUSAL_ID_WIDTH = 2,
+    KAIVEROHM_REFUSAL_OTHER_DEVICE = 3,
+    KAIVEROHM_REFUSAL_TYPE = 4,
+    KAIVEROHM_REFUSAL_EXTENDED = 5,
+    KAIVEROHM_REFUSAL_FORM = 6,
+    KAIVEROHM_REFUSAL_SIZE = 7,
+    KAIVEROHM_REFUSAL_NOT_OPEN = 8,
+    KAIVEROHM_REFUSAL_PAST_ROOM = 9,
+    KAIVEROHM_REFUSAL_STREAMS_FULL = 10,
+    KAIVEROHM_REFUSAL_END_LENGTH = 11,
+    KAIVEROHM_REFUSAL_BUFFER = 12,
+    KAIVEROHM_REFUSAL_NO_CONTEXT = 13,
+    KAIVEROHM_REFUSAL_PDU = 14,
+    KAIVEROHM_REFUSAL_NO_SEGMENT = 15,
+    KAIVEROHM_REFUSAL_OUT = 16,
+    KAIVEROHM_REFUSAL_PRIORITY = 17,
+    KAIVEROHM_REFUSAL_MTU = 18,
+    KAIVEROHM_REFUSAL_STATE = 19,
+    KAIVEROHM_REFUSAL_SSIZE = 20,
+    KAIVEROHM_REFUSAL_SEGMENT_LENGTH = 21,
+    KAIVEROHM_REFUSAL_PAST_LAST = 22,
+    KAIVEROHM_REFUSAL_OTHER_MESSAGE = 23,
+    KAIVEROHM_REFUSAL_TWICE = 24,
+    KAIVEROHM_REFUSAL_MESSAGES_FULL = 25
+};
+
+/* A refusal in words; for any other number, that it is none. Never NULL. */
+static inline const char *kaiverohm_refusal_words(uint64_t number)
+{
+    switch (number) {
+    case KAIVEROHM_REFUSAL_SHORT: return "too short to have a whole head";
+    case KAIVEROHM_REFUSAL_ID_WIDTH: return "device IDs not of 16 bits";
+    case KAIVEROHM_REFUSAL_OTHER_DEVICE: return "for another device";
+    case KAIVEROHM_REFUSAL_TYPE: return "neither type 9 nor type 11";
+    case KAIVEROHM_REFUSAL_EXTENDED: return "type 9 with an extended header";
+    case KAIVEROHM_REFUSAL_FORM: return "type 9: no data, odd, or O wrong";
+    case KAIVEROHM_REFUSAL_SIZE: return "type 9: wrong size for the MTU";
+    case KAIVEROHM_REFUSAL_NOT_OPEN: return "nothing of its flow is under way";
+    case KAIVEROHM_REFUSAL_PAST_ROOM: return "the PDU is longer than a room";
+    case KAIVEROHM_REFUSAL_STREAMS_FULL: return "all 16 stream contexts in use";
+    case KAIVEROHM_REFUSAL_END_LENGTH: return "end: not as many bytes as it says";
+    case KAIVEROHM_REFUSAL_BUFFER: return "a buffer of the wrong size";
+    case KAIVEROHM_REFUSAL_NO_CONTEXT: return "no such context";
+    case KAIVEROHM_REFUSAL_PDU: return "a PDU of 0 or over 65,536 bytes";
+    case KAIVEROHM_REFUSAL_NO_SEGMENT: return "the PDU has no such segment";
+    case KAIVEROHM_REFUSAL_OUT: return "out is shorter than what is written";
+    case KAIVEROHM_REFUSAL_PRIORITY: return "the priority is over 3";
+    case KAIVEROHM_REFUSAL_MTU: return "the MTU is not allowed";
+    case KAIVEROHM_REFUSAL_STATE: return "the state is none";
+    case KAIVEROHM_REFUSAL_SSIZE: return "ssize is reserved";
+    case KAIVEROHM_REFUSAL_SEGMENT_LENGTH: return "segment of the wrong length";
+    case KAIVEROHM_REFUSAL_PAST_LAST: return "segment number past the last";
+    case KAIVEROHM_REFUSAL_OTHER_MESSAGE: return "other msglen or ssize than before";
+    case KAIVEROHM_REFUSAL_TWICE: return "the segment is there already";
+    case KAIVEROHM_REFUSAL_MESSAGES_FULL: return "all 8 message contexts in use";
+    default: return "no refusal";
+    }
+}
 
 /* The answer of a call that reads no packet. */
 struct kaiverohm_answer {
@@ -173,6 +250,11 @@ struct kaiverohm_heading {
     uint8_t priority; /* 0 to 3 */
 };
 
+/* The archive's interface. Where it is not KAIVEROHM_INTERFACE, this header and the
+   archive do not belong together: call nothing else.
+   Promise: crates/kaiverohm/specs/Exports.antt, InterfacePromise. */
+uint64_t kaiverohm_interface(void);
+
 /* The words of a state: 147.
    Promise: crates/endpoint/specs/Calls.antt, LengthPromise. */
 uint64_t kaiverohm_state_length(void);
@@ -197,8 +279,8 @@ struct kaiverohm_answer kaiverohm_setup(uint64_t *state, size_t state_words, uin
    message_memory: exactly 32,768 bytes, written. Room n begins at 4,096 n.
    response:       7 bytes or more. The first 7 may be written.
    packet:         any number of bytes, read.
-   Answers HELD, DELIVERED, MESSAGE or REFUSED by the first row of the paper's
-   table that holds. 19 and 12, where a state of another length than 147 is 12;
+   Answers HELD, DELIVERED, MESSAGE or REFUSED, by the first that holds: 12 (the
+   state has another length than 147); 19; 12 (another buffer has the wrong one);
    1 (under 5 bytes), 2, 3, 4; 1 (under 7 bytes); then for type 9: 5; 1 (a start,
    an end or a single, under 9 bytes); 6 to 11; for type 11: 20 to 25.
      type 9 accepted   its data go into a stream room, and the context's words
@@ -226,15 +308,17 @@ struct kaiverohm_report kaiverohm_read(uint64_t *state, size_t state_words,
    and the lengths are tested once.
 
    state, stream_memory, message_memory: as in kaiverohm_read.
-   responses:  8 bytes for each packet; under 7 in all is refused. Packet k may
-               write the first 7 of the 8 bytes from 8 k on; report k says
+   responses:  8 bytes for each packet; under 7 in all is refused by 12. Packet k
+               may write the first 7 of the 8 bytes from 8 k on; report k says
                whether it did.
    reports:    9 words for each packet: a struct kaiverohm_report, from 9 k on.
                An array of them may be lent, as (uint64_t *)array and 9 words
-               for each.
+               for each. Any length is allowed, 0 too: it only bounds how many
+               packets are read.
    burst:      records, each a length and that many packet bytes, read. A
                length below 128 is one byte. A longer one, below 16,384, is two:
                128 + length % 128, then length / 128, which is not 0.
+               kaiverohm_write_record writes one.
    pause:      0, or another number to stop behind each delivery.
    It reads packets until the end of the burst, a record that is none, the last
    packet that has 9 words of report and 8 bytes of response, or, with pause, a
@@ -242,14 +326,16 @@ struct kaiverohm_report kaiverohm_read(uint64_t *state, size_t state_words,
    Answers
      END       all were read.
      BAD       the record at next is cut, or its length is none. All before it
-               were read.
+               were read. It is BAD also where there is no room: BAD comes
+               before FULL.
      FULL      a whole record stands at next and has no room. Call again from
                there; but where count is 0, with more room: under 9 words of
                reports or 8 bytes of responses no packet is ever read.
      DELIVERY  the last report delivers. Take its bytes out of the room, then
                call again from next, also where no record is left: that call
                says END.
-     REFUSED   19 or 12, as in kaiverohm_read. All stays, count and next are 0.
+     REFUSED   12, 19 or 12, in the order of kaiverohm_read, whatever the burst
+               holds. All stays, count and next are 0.
    Words and bytes behind the last report and its response stay.
    Without pause a later packet of the same burst may use the room of a PDU or a
    message that was delivered, since its context is free again: then only the
@@ -305,6 +391,10 @@ struct kaiverohm_answer kaiverohm_abandon_message(uint64_t *state, size_t state_
    Answers the offset and l. Where n is past the last context, l is over the
    room, size is not what kaiverohm_read needs, or the state is one that is
    refused, offset and length are 0. The context need not be open.
+   How to tell: where l is not 0, the length that comes back is l or, refused, 0.
+   No report delivers 0 bytes, so behind a report that is always so. For l = 0 the
+   good answer of context 0 is offset 0 and length 0 as well; ask for 1 byte then.
+   Every room has one, so l = 1 is refused just where l = 0 is.
    Promises: crates/c_places/specs/Places.antt, StreamPlacePromise and
    MessagePlacePromise. */
 struct kaiverohm_place kaiverohm_stream_room(const uint64_t *state, size_t state_words,
@@ -335,6 +425,131 @@ struct kaiverohm_answer kaiverohm_write_segment(uint8_t *out, size_t out_length,
                                                 struct kaiverohm_heading heading, uint64_t mtu,
                                                 const uint8_t *pdu, size_t pdu_length,
                                                 uint64_t number);
+
+/* How many bytes the record of a packet of that many bytes has; 0 where no record
+   can hold the packet, which is over 16,383 bytes.
+   Promise: crates/log_writer/specs/Writing.antt, RecordLengthPromise. */
+uint64_t kaiverohm_record_length(uint64_t packet_length);
+
+/* Writes one record of a burst: the packet's length, then its bytes.
+
+   out:    room for the record: kaiverohm_record_length. Written from its
+           beginning; bytes behind the record stay.
+   packet: any bytes, read.
+   Answers WRITTEN and the record's length, behind which the next record goes; or
+   REFUSED, in this order, and all stays:
+     12  the packet has over 16,383 bytes.
+     16  out is shorter than the record.
+   Promises: crates/kaiverohm/specs/Exports.antt, WriteRecordFromCPromise; that it
+   reads back, crates/log_writer/specs/Writing.antt, RecordReadsBack. */
+struct kaiverohm_answer kaiverohm_write_record(uint8_t *out, size_t out_length,
+                                               const uint8_t *packet, size_t packet_length);
+
+/* ---- One struct for what is lent, and the same calls over it
+
+   They are written out here, in C: each hands the desk's buffers to the function
+   of the same name above, whose conditions and promise hold. */
+
+/* The buffers of one endpoint, each with its length. */
+struct kaiverohm_desk {
+    uint64_t *state; /* KAIVEROHM_STATE_WORDS words */
+    size_t state_words;
+    uint8_t *stream_memory; /* KAIVEROHM_STREAM_MEMORY(R) bytes */
+    size_t stream_length;
+    uint8_t *message_memory; /* KAIVEROHM_MESSAGE_MEMORY bytes */
+    size_t message_length;
+    uint8_t *response; /* 7 bytes; for bursts KAIVEROHM_SLOT_BYTES a packet */
+    size_t response_length;
+};
+
+/* What a desk begins with, from four arrays. A pointer in the place of one would
+   count as 8 bytes: the first three are then refused by 12, and the fourth has
+   room for one response. */
+#define KAIVEROHM_DESK(STATE, STREAMS, MESSAGES, RESPONSE) \
+    { \
+        (STATE), sizeof(STATE) / sizeof((STATE)[0]), (STREAMS), sizeof(STREAMS), (MESSAGES), \
+            sizeof(MESSAGES), (RESPONSE), sizeof(RESPONSE) \
+    }
+
+static inline struct kaiverohm_answer kaiverohm_desk_setup(const struct kaiverohm_desk *desk,
+                                                           uint16_t device, uint64_t mtu,
+                                                           uint64_t room)
+{
+    return kaiverohm_setup(desk->state, desk->state_words, device, mtu, room);
+}
+
+static inline struct kaiverohm_report
+kaiverohm_desk_read(const struct kaiverohm_desk *desk, const uint8_t *packet, size_t packet_length)
+{
+    return kaiverohm_read(desk->state, desk->state_words, desk->stream_memory, desk->stream_length,
+                          desk->message_memory, desk->message_length, desk->response,
+                          desk->response_length, packet, packet_length);
+}
+
+/* With an array of `count` reports. The responses go into the desk's response. */
+static inline struct kaiverohm_burst kaiverohm_desk_read_burst(const struct kaiverohm_desk *desk,
+                                                               struct kaiverohm_report *reports,
+                                                               size_t count, const uint8_t *burst,
+                                                               size_t burst_length, uint64_t pause)
+{
+    return kaiverohm_read_burst(desk->state, desk->state_words, desk->stream_memory,
+                                desk->stream_length, desk->message_memory, desk->message_length,
+                                desk->response, desk->response_length, &reports->kind,
+                                KAIVEROHM_REPORT_WORDS * count, burst, burst_length, pause);
+}
+
+static inline struct kaiverohm_open_stream
+kaiverohm_desk_stream_context(const struct kaiverohm_desk *desk, uint64_t n)
+{
+    return kaiverohm_stream_context(desk->state, desk->state_words, n);
+}
+
+static inline struct kaiverohm_open_message
+kaiverohm_desk_message_context(const struct kaiverohm_desk *desk, uint64_t n)
+{
+    return kaiverohm_message_context(desk->state, desk->state_words, n);
+}
+
+static inline struct kaiverohm_answer
+kaiverohm_desk_abandon_stream(const struct kaiverohm_desk *desk, uint64_t n)
+{
+    return kaiverohm_abandon_stream(desk->state, desk->state_words, n);
+}
+
+static inline struct kaiverohm_answer
+kaiverohm_desk_abandon_message(const struct kaiverohm_desk *desk, uint64_t n)
+{
+    return kaiverohm_abandon_message(desk->state, desk->state_words, n);
+}
+
+static inline struct kaiverohm_place kaiverohm_desk_stream_room(const struct kaiverohm_desk *desk,
+                                                                uint64_t n, uint64_t l)
+{
+    return kaiverohm_stream_room(desk->state, desk->state_words, desk->stream_length, n, l);
+}
+
+static inline struct kaiverohm_place kaiverohm_desk_message_room(const struct kaiverohm_desk *desk,
+                                                                 uint64_t n, uint64_t l)
+{
+    return kaiverohm_message_room(desk->state, desk->state_words, desk->message_length, n, l);
+}
+
+/* The bytes that a report delivers: report->length of them, in the memory of the
+   desk. They are good until their context is next used. NULL where the report
+   delivers nothing, or the desk has no such room. */
+static inline const uint8_t *kaiverohm_desk_bytes(const struct kaiverohm_desk *desk,
+                                                  const struct kaiverohm_report *report)
+{
+    int of_stream = report->kind == KAIVEROHM_DELIVERED;
+    if (!of_stream && report->kind != KAIVEROHM_MESSAGE)
+        return NULL;
+    struct kaiverohm_place place =
+        of_stream ? kaiverohm_desk_stream_room(desk, report->context, report->length)
+                  : kaiverohm_desk_message_room(desk, report->context, report->length);
+    if (place.length == 0)
+        return NULL;
+    return (of_stream ? desk->stream_memory : desk->message_memory) + place.offset;
+}
 
 #ifdef __cplusplus
 }

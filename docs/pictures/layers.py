@@ -16,7 +16,7 @@ ROWS = [
     {"c_promises": (9.2, 2.8)},
     {"tour": (0, 1.4), "outside_responses": (1.4, 2.2), "outside_segments": (3.6, 2.2), "racklog": (5.8, 1.4), "outside_logs": (7.2, 1.8), "promises": (9.2, 2.8)},
     {"kaiverohm": (0, 5.8), "log_print": (5.8, 3.2), "demands": (9.2, 1.4), "mailing": (10.6, 1.4)},
-    {"c_runs": (0, 1.6), "c_places": (1.6, 1.6), "c_answers": (3.2, 1.6), "printing": (4.8, 2), "log_run": (6.8, 2.2), "calls": (9.2, 1.4), "sixteen": (10.6, 1.4)},
+    {"c_runs": (0, 1.6), "c_places": (1.6, 1.6), "c_answers": (3.2, 1.6), "printing": (4.8, 1), "log_writer": (5.8, 1), "log_run": (6.8, 2.2), "calls": (9.2, 1.4), "sixteen": (10.6, 1.4)},
     {"c_loops": (0, 4.8), "segments": (4.8, 2), "log_pieces": (6.8, 2.2), "sending": (9.2, 1.4), "paper_examples": (10.6, 1.4)},
     {"c_bursts": (0, 2.4), "endpoint": (2.4, 2.4), "fitting": (4.8, 2), "log_reader": (6.8, 2.2), "flows": (9.2, 2.8)},
     {"packets": (0, 1.6), "room_parts": (1.6, 1.6), "asking": (3.2, 1.6), "segment_head": (4.8, 1.1), "writing": (5.9, 0.9), "log_records": (6.8, 1.1), "log_lines": (7.9, 1.1)},
@@ -35,7 +35,7 @@ ROWS = [
     {"lists": (0, 9)},
 ]
 HEADS = [(0, 4.8, "reading packets"), (4.8, 2, "writing segments"), (6.8, 2.2, "the log"), (9.2, 2.8, "theorems")]
-PUBLIC = {"endpoint", "abandoning", "asking", "room_parts", "segments", "log_records", "log_lines", "log_pieces", "log_run", "log_reader", "kaiverohm"}
+PUBLIC = {"endpoint", "abandoning", "asking", "room_parts", "segments", "log_records", "log_lines", "log_pieces", "log_run", "log_reader", "log_writer", "kaiverohm"}
 THEOREMS = {"promises", "c_promises", "demands", "calls", "sixteen", "sending", "mailing", "paper_examples", "flows", "streams", "messages", "rules", "refusal19", "writing", "tables"}
 PROGRAMS = {"racklog", "tour", "outside_logs", "outside_responses", "outside_segments"}
 

@@ -751,8 +751,21 @@ static void put_byte(struct burst *u, size_t byte)
     u->bytes[u->length++] = (uint8_t)byte;
 }
 
+/* The library's record is the one that stands here. */
+static void same_record(const uint8_t *theirs, size_t size, const uint8_t *packet, size_t length)
+{
+    struct guarded ours = guarded(size);
+    struct kaiverohm_answer a = kaiverohm_write_record(ours.bytes, size, packet, length);
+    if (a.kind != KAIVEROHM_WRITTEN || a.number != size || kaiverohm_record_length(length) != size
+        || memcmp(ours.bytes, theirs, size) != 0)
+        fail("the record of a packet of %zu bytes", length);
+    unharmed(&ours, "the record");
+    free(ours.whole);
+}
+
 static void put_record(struct burst *u, const uint8_t *packet, size_t length)
 {
+    size_t start = u->length;
     if (length < 128) {
         put_byte(u, length);
     } else {
@@ -761,6 +774,7 @@ static void put_record(struct burst *u, const uint8_t *packet, size_t length)
     }
     memcpy(u->bytes + u->length, packet, length);
     u->length += length;
+    same_record(u->bytes + start, u->length - start, packet, length);
 }
 
 static void put_no_record(struct burst *u)

@@ -9,7 +9,6 @@
 #include <stdlib.h>
 #include <string.h>
 #include <sys/mman.h>
-#include <ucontext.h>
 #include <unistd.h>
 
 #include "kaiverohm.h"
@@ -46,6 +45,7 @@ static uint8_t *fenced(size_t length)
 
 /* Where each buffer ends. A buffer of n bytes begins n bytes before it. */
 static uint8_t *state_end, *streams_end, *messages_end, *response_end, *packet_end, *reports_end;
+static uint8_t *records_end;
 
 enum { STATE = 1, STREAMS = 2, MESSAGES = 4, RESPONSE = 8 };
 
@@ -211,12 +211,11 @@ static void lengths(void)
         struct kaiverohm_report r =
             lent(wrong[i][0], wrong[i][1], wrong[i][2], wrong[i][3], length);
         WANT(r.kind == KAIVEROHM_REFUSED && r.number == 12 && changed() == 0);
-        if (wrong[i][0] != WORDS)
-            continue;
-        /* A state that is none comes before the other buffers, and only for 147 words. */
-        state(WORDS)[1] = 33;
+        /* A state of another length comes first, then one that is none, then the other buffers. */
+        memset(state_end - sizeof kept.state, 0, sizeof kept.state);
         r = lent(wrong[i][0], wrong[i][1], wrong[i][2], wrong[i][3], length);
-        WANT(r.kind == KAIVEROHM_REFUSED && r.number == 19 && changed() == 0);
+        WANT(r.kind == KAIVEROHM_REFUSED && changed() == 0);
+        WANT(r.number == (wrong[i][0] == WORDS ? 19 : 12));
     }
     /* A longer response buffer is as good; the bytes behind the seventh stay. */
     fresh();
@@ -527,7 +526,16 @@ static void rooms_for_packets(void)
     BURST(64, REPORT - 1, EMPTY, 0, KAIVEROHM_BURST_FULL, 0, 0, 0);
     BURST(64, 0, EMPTY, 0, KAIVEROHM_BURST_FULL, 0, 0, 0);
     BURST(64, 0, "", 0, KAIVEROHM_BURST_END, 0, 0, 0);
+    /* a record that is none is bad before there is no room for it */
     BURST(64, 0, "\x05", 0, KAIVEROHM_BURST_BAD, 0, 0, 0);
+    BURST(REPLY, 27, "\x05", 0, KAIVEROHM_BURST_BAD, 0, 0, 0);
+    BURST(64, REPORT, EMPTY "\x05", 0, KAIVEROHM_BURST_BAD, 0, 1, 1);
+    BURST(64, REPORT, EMPTY "\x81\x00", 0, KAIVEROHM_BURST_BAD, 0, 1, 1);
+    /* reports of any length */
+    for (size_t words = 0; words <= 3 * REPORT; words++)
+        says(burst(64, words, EMPTY EMPTY EMPTY, 3, 0),
+             words < 3 * REPORT ? KAIVEROHM_BURST_FULL : KAIVEROHM_BURST_END, 0, words / REPORT,
+             words / REPORT, __LINE__);
     /* room for one */
     BURST(64, 2 * REPORT - 1, EMPTY EMPTY, 0, KAIVEROHM_BURST_FULL, 0, 1, 1);
     BURST(2 * SLOT - 1, 27, EMPTY EMPTY, 0, KAIVEROHM_BURST_FULL, 0, 1, 1);
@@ -591,6 +599,8 @@ static void lengths_of_bursts(void)
         size_t streams = STREAM_MEMORY + (i / 2 == 1 ? (size_t)more : 0);
         size_t memory = KAIVEROHM_MESSAGE_MEMORY + (i / 2 == 2 ? (size_t)more : 0);
         fresh();
+        if (i / 2 == 0) /* another length comes before a state that is none */
+            memset(state_end - sizeof kept.state, 0, sizeof kept.state);
         keep();
         struct kaiverohm_burst b = kaiverohm_read_burst(
             state(words), words, streams_end - streams, streams, messages_end - memory, memory,
@@ -782,6 +792,14 @@ static void rooms(void)
     keep();
     STREAM_ROOM(WORDS, s, 15, ROOM, 15 * ROOM, ROOM);
     STREAM_ROOM(WORDS, s, 15, 0, 15 * ROOM, 0);
+    /* no byte of context 0, and none refused, look the same; asking for one byte tells */
+    STREAM_ROOM(WORDS, s, 0, 0, 0, 0);
+    STREAM_ROOM(WORDS, s + 1, 0, 0, 0, 0);
+    STREAM_ROOM(WORDS, s, 0, 1, 0, 1);
+    STREAM_ROOM(WORDS, s + 1, 0, 1, 0, 0);
+    MESSAGE_ROOM(WORDS, m, 0, 0, 0, 0);
+    MESSAGE_ROOM(WORDS, m, 0, 1, 0, 1);
+    MESSAGE_ROOM(WORDS, m + 1, 0, 1, 0, 0);
     STREAM_ROOM(WORDS, s, 15, ROOM + 1, 0, 0);
     STREAM_ROOM(WORDS, s, 16, 1, 0, 0);
     STREAM_ROOM(WORDS, s - 1, 15, 1, 0, 0);
@@ -866,42 +884,68 @@ static void writer(void)
     WANT(kaiverohm_segment_count(UINT64_MAX - 3, 40) == 0);
 }
 
-/* ---- the stack: calls on one of their own, which is filled before */
+/* ---- records: the header's own words for a length, and no byte beside it */
 
-static uint8_t stack[32768];
-static ucontext_t outside, inside;
+enum { RECORD = KAIVEROHM_LARGEST_RECORDED + 2 };
 
-static void calls(void)
+static int records(size_t out, size_t length)
 {
-    lent(WORDS, STREAM_MEMORY, KAIVEROHM_MESSAGE_MEMORY, REPLY, START("\x09"));
-    lent(WORDS, STREAM_MEMORY, KAIVEROHM_MESSAGE_MEMORY, REPLY,
-         MADE("\x1b\x01\x02\x00\x09\x1a\x01", 16));
-    burst(64, 27, MESSAGE MESSAGE, sizeof MESSAGE MESSAGE - 1, 0);
-    kaiverohm_stream_context(state(WORDS), WORDS, 0);
-    kaiverohm_message_context(state(WORDS), WORDS, 0);
-    kaiverohm_abandon_stream(state(WORDS), WORDS, 0);
-    kaiverohm_abandon_message(state(WORDS), WORDS, 0);
-    struct kaiverohm_heading h = {
-        .destination = 1, .source = 2, .stream = 3, .cos = 4, .priority = 0
-    };
-    kaiverohm_write_segment(reports_end - 64, 64, h, MTU, packet_end - 100, 100, 3);
+    uint8_t *from = packet_end - length, *to = records_end - out;
+    for (size_t i = 0; i < length; i++)
+        from[i] = (uint8_t)(i % 251 + 3);
+    memset(records_end - RECORD - 8, 0xe5, RECORD + 8);
+    struct kaiverohm_answer a = kaiverohm_write_record(to, out, from, length);
+    size_t written = a.kind == KAIVEROHM_WRITTEN ? a.number : 0;
+    WANT(all(records_end - RECORD - 8, RECORD + 8 - out, 0xe5));
+    WANT(all(to + written, out - written, 0xe5));
+    if (a.kind != KAIVEROHM_WRITTEN) {
+        WANT(a.kind == KAIVEROHM_REFUSED && a.number != 0);
+        return -(int)a.number;
+    }
+    size_t front = length < 128 ? 1 : 2;
+    WANT(written == front + length && memcmp(to + front, from, length) == 0);
+    WANT(to[0] == (length < 128 ? length : 128 + length % 128));
+    WANT(length < 128 || to[1] == length / 128);
+    return (int)written;
 }
 
-static void stacks(void)
+static void record_writer(void)
+{
+    static const size_t lengths[] = { 0,     1,     2,     126,   127,
+                                      128,   129,   130,   255,   256,
+                                      257,   300,   383,   384,   511,
+                                      512,   4095,  4096,  8191,  8192,
+                                      16255, 16256, 16381, 16382, KAIVEROHM_LARGEST_RECORDED };
+    for (size_t i = 0; i < sizeof lengths / sizeof lengths[0]; i++) {
+        size_t length = lengths[i], record = length + (length < 128 ? 1 : 2);
+        WANT(kaiverohm_record_length(length) == record);
+        WANT(records(record, length) == (int)record);
+        WANT(records(RECORD, length) == (int)record);
+        WANT(records(record - 1, length) == -16);
+        WANT(records(0, length) == -16);
+    }
+    WANT(records(RECORD, KAIVEROHM_LARGEST_RECORDED + 1) == -12);
+    WANT(records(0, KAIVEROHM_LARGEST_RECORDED + 1) == -12);
+    WANT(records(0, MOST) == -12);
+    WANT(kaiverohm_record_length(KAIVEROHM_LARGEST_RECORDED + 1) == 0);
+    WANT(kaiverohm_record_length(FAR) == 0 && kaiverohm_record_length(FAR + 5) == 0);
+    WANT(kaiverohm_record_length(UINT64_MAX) == 0);
+}
+
+/* A record is read as the packet: whole, and the next one begins behind it. */
+static void records_read_back(void)
 {
     fresh();
-    memset(stack, 0xa7, sizeof stack);
-    WANT(getcontext(&inside) == 0);
-    inside.uc_stack.ss_sp = stack;
-    inside.uc_stack.ss_size = sizeof stack;
-    inside.uc_link = &outside;
-    makecontext(&inside, calls, 0);
-    WANT(swapcontext(&outside, &inside) == 0);
-    size_t used = sizeof stack;
-    while (stack[sizeof stack - used] == 0xa7)
-        used--;
-    printf("edges: at most %zu bytes of stack\n", used);
-    WANT(used <= 2048);
+    for (size_t length = 1; length < 300; length++) {
+        uint8_t bytes[2 * 302];
+        struct kaiverohm_answer a =
+            kaiverohm_write_record(bytes, sizeof bytes, packet_end - length, length);
+        memcpy(bytes + a.number, bytes, a.number);
+        says(burst(64, 27, (const char *)bytes, 2 * a.number, 0), KAIVEROHM_BURST_END, 0, 2,
+             2 * a.number, __LINE__);
+        says(burst(64, 27, (const char *)bytes, 2 * a.number - 1, 0), KAIVEROHM_BURST_BAD, 0, 1,
+             a.number, __LINE__);
+    }
 }
 
 int main(void)
@@ -912,6 +956,7 @@ int main(void)
     response_end = fenced(sizeof kept.response) + sizeof kept.response;
     packet_end = fenced(MOST) + MOST;
     reports_end = fenced(400) + 400;
+    records_end = fenced(RECORD + 8) + RECORD + 8;
     setups();
     lengths();
     states();
@@ -931,7 +976,8 @@ int main(void)
     asks();
     rooms();
     writer();
-    stacks();
+    record_writer();
+    records_read_back();
     printf("edges: %u checks\n", checks);
     return 0;
 }

@@ -61,8 +61,40 @@ _Static_assert(offsetof(struct kaiverohm_heading, stream) == 4, "heading");
 _Static_assert(offsetof(struct kaiverohm_heading, cos) == 6, "heading");
 _Static_assert(offsetof(struct kaiverohm_heading, priority) == 7, "heading");
 
+_Static_assert(sizeof(struct kaiverohm_desk) == 64, "desk");
+_Static_assert(offsetof(struct kaiverohm_desk, state) == 0, "desk");
+_Static_assert(offsetof(struct kaiverohm_desk, state_words) == 8, "desk");
+_Static_assert(offsetof(struct kaiverohm_desk, stream_memory) == 16, "desk");
+_Static_assert(offsetof(struct kaiverohm_desk, stream_length) == 24, "desk");
+_Static_assert(offsetof(struct kaiverohm_desk, message_memory) == 32, "desk");
+_Static_assert(offsetof(struct kaiverohm_desk, message_length) == 40, "desk");
+_Static_assert(offsetof(struct kaiverohm_desk, response) == 48, "desk");
+_Static_assert(offsetof(struct kaiverohm_desk, response_length) == 56, "desk");
+
+_Static_assert(KAIVEROHM_STATE_WORDS == 147, "sizes");
+_Static_assert(KAIVEROHM_STREAM_CONTEXTS == 16 && KAIVEROHM_MESSAGE_CONTEXTS == 8, "sizes");
+_Static_assert(KAIVEROHM_MESSAGE_ROOM == 4096 && KAIVEROHM_MESSAGE_MEMORY == 32768, "sizes");
+_Static_assert(KAIVEROHM_RESPONSE_BYTES == 7 && KAIVEROHM_SLOT_BYTES == 8, "sizes");
+_Static_assert(KAIVEROHM_LARGEST_PDU == 65536 && KAIVEROHM_LARGEST_PACKET == 265, "sizes");
+_Static_assert(KAIVEROHM_LARGEST_RECORDED == 16383 && KAIVEROHM_REPORT_WORDS == 9, "sizes");
+_Static_assert(KAIVEROHM_SMALLEST_MTU == 32 && KAIVEROHM_LARGEST_MTU == 256, "sizes");
+_Static_assert(KAIVEROHM_MTU_STEP == 4 && KAIVEROHM_LARGEST_ROOM == 65536, "sizes");
+
+_Static_assert(KAIVEROHM_REFUSED == 0 && KAIVEROHM_HELD == 1 && KAIVEROHM_DELIVERED == 2, "kinds");
+_Static_assert(KAIVEROHM_MESSAGE == 3 && KAIVEROHM_READY == 4 && KAIVEROHM_CLOSED == 5, "kinds");
+_Static_assert(KAIVEROHM_WAS_FREE == 6 && KAIVEROHM_WRITTEN == 7, "kinds");
+_Static_assert(KAIVEROHM_BURST_REFUSED == 0 && KAIVEROHM_BURST_END == 1, "stops");
+_Static_assert(KAIVEROHM_BURST_BAD == 2 && KAIVEROHM_BURST_FULL == 3, "stops");
+_Static_assert(KAIVEROHM_BURST_DELIVERY == 4, "stops");
+
+/* All of this is interface 1. Where a line above or below has to change, and not
+   only one to be added, the number rises, here, in the header and in
+   crates/kaiverohm. */
+_Static_assert(KAIVEROHM_INTERFACE == 1, "interface");
+
 /* The types once more, as crates/kaiverohm/src/lib.rt has them: a pointer and
    a length for each slice. The compiler refuses a header that has others. */
+uint64_t kaiverohm_interface(void);
 uint64_t kaiverohm_state_length(void);
 struct kaiverohm_answer kaiverohm_setup(uint64_t *, size_t, uint16_t, uint64_t, uint64_t);
 struct kaiverohm_report kaiverohm_read(uint64_t *, size_t, uint8_t *, size_t, uint8_t *, size_t,
@@ -81,11 +113,14 @@ struct kaiverohm_place kaiverohm_message_room(const uint64_t *, size_t, uint64_t
 uint64_t kaiverohm_segment_count(uint64_t, uint64_t);
 struct kaiverohm_answer kaiverohm_write_segment(uint8_t *, size_t, struct kaiverohm_heading,
                                                 uint64_t, const uint8_t *, size_t, uint64_t);
+uint64_t kaiverohm_record_length(uint64_t);
+struct kaiverohm_answer kaiverohm_write_record(uint8_t *, size_t, const uint8_t *, size_t);
 
-enum { MTU = 32, ROOM = 2048, WORDS = KAIVEROHM_STATE_WORDS };
+/* An R where the memories differ in size. */
+enum { MTU = 32, ROOM = 1024, WORDS = KAIVEROHM_STATE_WORDS };
 
 static uint64_t state[WORDS];
-static uint8_t streams[KAIVEROHM_STREAM_CONTEXTS * ROOM];
+static uint8_t streams[KAIVEROHM_STREAM_MEMORY(ROOM)];
 static uint8_t messages[KAIVEROHM_MESSAGE_MEMORY];
 static uint8_t response[KAIVEROHM_RESPONSE_BYTES];
 
@@ -96,6 +131,16 @@ static const uint8_t message[] = "\x1b\xff\xfe\x12\x34\x09\x6f\x11\x12\x13\x14\x
 static int is(struct kaiverohm_answer a, uint64_t kind, uint64_t number)
 {
     return a.kind == kind && a.number == number;
+}
+
+#define TEXT_OF(number) #number
+#define TEXT(number) TEXT_OF(number)
+
+static void versions(void)
+{
+    WANT(kaiverohm_interface() == KAIVEROHM_INTERFACE);
+    WANT(strcmp(KAIVEROHM_VERSION, TEXT(KAIVEROHM_VERSION_MAJOR) "." TEXT(KAIVEROHM_VERSION_MINOR))
+         == 0);
 }
 
 static void setups(void)
@@ -213,9 +258,10 @@ static uint8_t responses[3 * KAIVEROHM_SLOT_BYTES];
 
 static void record(const uint8_t *packet, size_t length)
 {
-    records[records_length++] = (uint8_t)length;
-    memcpy(records + records_length, packet, length);
-    records_length += length;
+    struct kaiverohm_answer a = kaiverohm_write_record(
+        records + records_length, sizeof records - records_length, packet, length);
+    WANT(is(a, KAIVEROHM_WRITTEN, kaiverohm_record_length(length)));
+    records_length += a.number;
 }
 
 static struct kaiverohm_burst read_records(size_t words, uint64_t pause)
@@ -230,6 +276,10 @@ static void burst(void)
     record(start, 41);
     record(message, 15);
     record(end, 17);
+    WANT(records_length == 42 + 16 + 18 && records[0] == 41 && records[42] == 15);
+    WANT(memcmp(records + 59, end, 17) == 0);
+    WANT(is(kaiverohm_write_record(records, 5, end, 5), KAIVEROHM_REFUSED, 16));
+    WANT(records[0] == 41 && records[1] == start[0]);
     struct kaiverohm_burst b = read_records(WORDS, 0);
     WANT(b.stop == KAIVEROHM_BURST_END && b.number == 0 && b.count == 3
          && b.next == records_length);
@@ -247,6 +297,7 @@ static void burst(void)
 
 int main(void)
 {
+    versions();
     setups();
     writer();
     delivery();

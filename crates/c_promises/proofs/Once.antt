@@ -2,7 +2,7 @@
 use mathlib.Core.Path.{sym, _∙_}
 use Rattle.answers.proofs.Once.{both}
 use Rattle.c_promises.specs.OfCalls.{SetupFromCOnce, ReadFromCOnce, BurstOnce, AbandonStreamFromCOnce, AbandonMessageFromCOnce, StreamPlaceOnce, MessagePlaceOnce, WriteFromCOnce}
-use Rattle.c_promises.specs.OfCalls.{StreamContextFromCOnce, MessageContextFromCOnce}
+use Rattle.c_promises.specs.OfCalls.{StreamContextFromCOnce, MessageContextFromCOnce, WriteRecordFromCOnce}
 
 pub setup-from-c-once : SetupFromCOnce
 setup-from-c-once words device mtu room y z p q = both (p .answer ∙ sym (q .answer)) (p .state ∙ sym (q .state))
@@ -33,3 +33,6 @@ message-place-once words size n l y z p q = p ∙ sym q
 
 pub write-from-c-once : WriteFromCOnce
 write-from-c-once out h mtu pdu k y z p q = both (p .answer ∙ sym (q .answer)) (p .packet ∙ sym (q .packet))
+
+pub write-record-from-c-once : WriteRecordFromCOnce
+write-record-from-c-once out packet y z p q = both (p .answer ∙ sym (q .answer)) (p .written-out ∙ sym (q .written-out))

@@ -37,7 +37,7 @@ use Rattle.c_bursts.specs.declared.Burst.{Burst}
 use Rattle.c_bursts.specs.Bursts.{slotBytes, Run, run, reportFor, behind, stepLeft, atEnd, isFull, atDelivery, answering, stopped, Finished, roomFor, burstVerdict, readBurst, BurstPromise}
 use Rattle.answers.specs.Kinds.{deliveredKind, messageKind, readyKind, writtenKind}
 use Rattle.kaiverohm.specs.Exports.{SetupFromCPromise, ReadFromCPromise, AbandonStreamFromCPromise, AbandonMessageFromCPromise, WriteFromCPromise}
-use Rattle.kaiverohm.specs.Exports.{StreamContextFromCPromise, MessageContextFromCPromise}
+use Rattle.kaiverohm.specs.Exports.{StreamContextFromCPromise, MessageContextFromCPromise, WriteRecordFromCPromise}
 
 -- ---- What a report says of the response is what reading wrote there.
 
@@ -300,3 +300,6 @@ MessagePlaceOnce = (words : List ℕ) (size n l : ℕ) → OneOutcome (MessagePl
 
 abbrev pub WriteFromCOnce : Type 0
 WriteFromCOnce = (out : List ℕ) (h : Heading) (mtu : ℕ) (pdu : List ℕ) (k : ℕ) → OneOutcome (λ (y : Outcome Numbers (List ℕ)). WriteFromCPromise out h mtu pdu k (y .answer) (y .after))
+
+abbrev pub WriteRecordFromCOnce : Type 0
+WriteRecordFromCOnce = (out packet : List ℕ) → OneOutcome (λ (y : Outcome Numbers (List ℕ)). WriteRecordFromCPromise out packet (y .answer) (y .after))

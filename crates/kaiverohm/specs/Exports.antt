@@ -18,6 +18,15 @@ use Rattle.c_contexts.specs.declared.OpenStream.{OpenStream}
 use Rattle.c_contexts.specs.declared.OpenMessage.{OpenMessage}
 use Rattle.c_contexts.specs.Open.{openStreamOf, openMessageOf}
 use Rattle.c_bursts.specs.Bursts.{reportFor}
+use Rattle.log_writer.specs.Writing.{recording}
+
+-- the interface: it rises whenever a function, a struct or a constant of include/kaiverohm.h changes, and additions leave it
+abbrev pub interface : ℕ
+interface = 1
+
+-- the promise of `kaiverohm_interface`
+abbrev pub InterfacePromise : ℕ → Type 0
+InterfacePromise r = r ≡ interface
 
 -- the promise of `kaiverohm_setup`
 pub record SetupFromCPromise (words : List ℕ) (device mtu room : ℕ) (r : Numbers) (after : List ℕ) : Type 0 where
@@ -50,5 +59,11 @@ pub record WriteFromCPromise (out : List ℕ) (h : Heading) (mtu : ℕ) (pdu : L
   pub answer : r ≡ numbersOfWriter (writing out h mtu pdu k .says)
   pub packet : after ≡ writing out h mtu pdu k .out
 
+-- the promise of `kaiverohm_write_record`
+pub record WriteRecordFromCPromise (out packet : List ℕ) (r : Numbers) (after : List ℕ) : Type 0 where
+  pub answer : r ≡ numbersOfWriter (recording out packet .says)
+  pub written-out : after ≡ recording out packet .out
+
 -- The others hand on what their callees promise: `LengthPromise` (endpoint/specs/Calls.antt), `CountPromise` (segments/specs/Writer.antt),
--- `StreamPlacePromise` and `MessagePlacePromise` (c_places/specs/Places.antt), `BurstPromise` (c_bursts/specs/Bursts.antt).
+-- `StreamPlacePromise` and `MessagePlacePromise` (c_places/specs/Places.antt), `BurstPromise` (c_bursts/specs/Bursts.antt),
+-- `RecordLengthPromise` (log_writer/specs/Writing.antt).

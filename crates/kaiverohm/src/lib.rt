@@ -13,8 +13,18 @@ ghost use Rattle.endpoint.specs.Calls.{LengthPromise};
 ghost use Rattle.writing.specs.Writer.{CountPromise};
 ghost use Rattle.c_places.specs.Places.{StreamPlacePromise, MessagePlacePromise};
 ghost use Rattle.c_bursts.specs.Bursts.{BurstPromise};
+ghost use Rattle.log_writer.specs.Writing.{RecordLengthPromise};
+ghost use Rattle.kaiverohm.specs.Exports.{InterfacePromise, WriteRecordFromCPromise};
 ghost use Rattle.kaiverohm.specs.Exports.{SetupFromCPromise, ReadFromCPromise, AbandonStreamFromCPromise, AbandonMessageFromCPromise, WriteFromCPromise};
 ghost use Rattle.kaiverohm.specs.Exports.{StreamContextFromCPromise, MessageContextFromCPromise};
+
+// The number of the interface: KAIVEROHM_INTERFACE of the header that belongs to this archive.
+#[no_mangle]
+pub extern "C" fn kaiverohm_interface() -> usize
+    ensures { λ r. ⌜ InterfacePromise r ⌝ }
+{
+    1
+}
 
 // The words of a state.
 #[no_mangle]
@@ -146,4 +156,20 @@ pub extern "C" fn kaiverohm_write_segment(
     ensures { λ r. ⌜ WriteFromCPromise (now (out .entry)) heading mtu (now (pdu .entry)) number r (now (out .exit)) ⌝ }
 {
     c_answers::of_writer(segments::write_segment(out, heading, mtu, pdu, number))
+}
+
+// How many bytes the record of a packet has.
+#[no_mangle]
+pub extern "C" fn kaiverohm_record_length(packet_length: usize) -> usize
+    ensures { λ r. ⌜ RecordLengthPromise «packet_length» r ⌝ }
+{
+    log_writer::record_length(packet_length)
+}
+
+// Writes one record of a burst.
+#[no_mangle]
+pub extern "C" fn kaiverohm_write_record(out: &mut [u8], packet: &[u8]) -> Numbers
+    ensures { λ r. ⌜ WriteRecordFromCPromise (now (out .entry)) (now (packet .entry)) r (now (out .exit)) ⌝ }
+{
+    c_answers::of_writer(log_writer::write_record(out, packet))
 }

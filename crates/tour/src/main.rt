@@ -50,10 +50,10 @@ fn line(answer: Answer) {
 
 fn main() {
     let mut state = [0usize; contexts::WORDS];
-    let mut streams = [0u8; 32768];
+    let mut streams = [0u8; 16384];
     let mut messages = [0u8; 32768];
     let mut response = [0u8; 7];
-    endpoint::setup(&mut state, 1, 32, 2048);
+    endpoint::setup(&mut state, 1, 32, 1024);
 
     let pdu = b"\x19\x00\x01\x00\x02\x05\xc1\x00\x07\xaa\xbb\xcc\x00";
     let read = endpoint::read(&mut state, &mut streams, &mut messages, &mut response, pdu);
