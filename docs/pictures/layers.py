@@ -11,7 +11,7 @@ import sys
 ROOT = pathlib.Path(__file__).resolve().parents[2]
 
 # The headings of crates.txt. Five are columns: from where on, and how wide. Two are bands over all columns.
-COLUMNS = {"Reading packets": (0, 404), "Writing segments": (412, 126), "The log": (546, 160), "From C": (714, 112), "Theorems": (834, 210)}
+COLUMNS = {"Reading packets": (0, 440), "Writing segments": (448, 130), "The log": (586, 170), "From C": (764, 110), "Theorems": (882, 212)}
 BANDS = ("Programs", "The ground")
 
 # Rows from above. A crate uses nothing beside or above it.
@@ -38,7 +38,7 @@ PUBLIC = {"endpoint", "abandoning", "room_parts", "segments", "log_records", "lo
 THEOREMS = {"promises", "c_promises", "demands", "calls", "sixteen", "sending", "mailing", "paper_examples", "flows", "streams", "messages", "tables"}
 PROGRAMS = {"racklog", "tour", "outside_logs", "outside_responses", "outside_segments"}
 
-WIDTH, ROW, TOP, LEFT, HEAD, GAP = 1080, 42, 14, 18, 26, 8  # HEAD: the height of a heading; GAP: between two groups of rows
+WIDTH, ROW, TOP, LEFT, HEAD, GAP = 1130, 42, 14, 18, 26, 8  # HEAD: the height of a heading; GAP: between two groups of rows
 INK, SOFT, PANEL, EDGE, FIELD = "#22272e", "#5c6670", "#fdfcf8", "#c9c6bb", "#f3f1e9"
 CODE = ("#e9e6dc", "#8a8674")
 CALLS = ("#cfe3f7", "#2b6cb0")
