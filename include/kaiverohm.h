@@ -93,7 +93,8 @@ enum {
     KAIVEROHM_READY = 4,     /* a state is made */
     KAIVEROHM_CLOSED = 5,    /* a context was open, and is closed */
     KAIVEROHM_WAS_FREE = 6,  /* a context was free, and stays so */
-    KAIVEROHM_WRITTEN = 7    /* number: the bytes of the packet written */
+    KAIVEROHM_WRITTEN = 7,   /* number: the bytes of the packet written */
+    KAIVEROHM_OPEN = 8       /* a context is open, and stays so */
 };
 
 /* Why a burst stopped: crates/c_bursts/specs/Bursts.antt. */
@@ -138,6 +139,29 @@ struct kaiverohm_burst {
 struct kaiverohm_place {
     uint64_t offset;
     uint64_t length;
+};
+
+/* What a stream context holds. Fields that a kind does not name are 0. */
+struct kaiverohm_open_stream {
+    uint64_t kind;   /* open, was free or refused */
+    uint64_t number; /* refused: the refusal */
+    uint64_t source; /* open: who sends the PDU */
+    uint64_t cos;    /* open: under which class of service */
+    uint64_t stream; /* open: its streamID */
+    uint64_t held;   /* open: how many of its bytes are in the room */
+};
+
+/* What a message context holds. Fields that a kind does not name are 0. */
+struct kaiverohm_open_message {
+    uint64_t kind;   /* open, was free or refused */
+    uint64_t number; /* refused: the refusal */
+    uint64_t source; /* open: who sends the message */
+    uint64_t letter; /* open: its letter */
+    uint64_t mbox;   /* open: its mbox */
+    uint64_t msglen; /* open: the number of its segments less one */
+    uint64_t size;   /* open: the bytes of each segment but the last */
+    uint64_t marks;  /* open: bit k is 1 where segment k has come */
+    uint64_t last;   /* open: the bytes of the last segment, 0 before it came */
 };
 
 /* What the segment writer writes in the head of each packet. */
@@ -239,6 +263,25 @@ struct kaiverohm_burst kaiverohm_read_burst(uint64_t *state, size_t state_words,
                                             const uint8_t *burst, size_t burst_length,
                                             uint64_t pause);
 
+/* What stream context n holds, or message context n. A held segment's answer
+   does not say which context it went to: ask after all 16, or all 8, and look
+   for its flow. Nothing changes.
+
+   state: 147 words, read.
+   Answers OPEN, and what is open there; WAS_FREE; or REFUSED, in this order:
+     12  the state has another length than 147.
+     19  it is a state that 19 names.
+     13  n is over 15, or for messages over 7.
+   The words of the state themselves are no interface: docs/LAYOUTS.md has them
+   for who looks at a memory dump, and another version may lay them out anew.
+   Promises: crates/kaiverohm/specs/Exports.antt, StreamContextFromCPromise and
+   MessageContextFromCPromise. */
+struct kaiverohm_open_stream kaiverohm_stream_context(const uint64_t *state, size_t state_words,
+                                                      uint64_t n);
+
+struct kaiverohm_open_message kaiverohm_message_context(const uint64_t *state, size_t state_words,
+                                                        uint64_t n);
+
 /* Gives the PDU in stream context n up, or the message in message context n.
 
    state: 147 words, read and written.
@@ -272,7 +315,7 @@ struct kaiverohm_place kaiverohm_message_room(const uint64_t *state, size_t stat
 
 /* How many packets a PDU of that many bytes makes; 0 where the writer would
    refuse the MTU (18) or the length (14).
-   Promise: crates/segments/specs/Writer.antt, CountPromise. */
+   Promise: crates/writing/specs/Writer.antt, CountPromise. */
 uint64_t kaiverohm_segment_count(uint64_t mtu, uint64_t pdu_length);
 
 /* Writes segment `number`, from 0, of a PDU as a type 9 packet.

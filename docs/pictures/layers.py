@@ -1,42 +1,19 @@
 #!/usr/bin/env python3
-"""Writes docs/layers.svg, the picture of docs/ARCHITECTURE.md: the crates as layers. It stops if crates.txt has another set of crates or
-puts one under another heading, if a crate stands on one in its own layer or above, or if docs/ARCHITECTURE.md does not speak of it.
+"""Writes docs/layers.svg, the picture of docs/ARCHITECTURE.md: the crates as layers. What stands where follows from crates.txt: a crate's
+heading there is its column, and it stands below every crate that uses it. It stops if docs/ARCHITECTURE.md does not speak of a crate.
 
     docs/pictures/layers.py           writes the picture
     docs/pictures/layers.py --check   ends with 1 if the picture is another
 """
 import pathlib
+import re
 import sys
 
 ROOT = pathlib.Path(__file__).resolve().parents[2]
 
-# The headings of crates.txt. Five are columns: from where on, and how wide. Two are bands over all columns.
+# The headings of crates.txt. Five are columns: from where on, and how wide. Two are bands over all columns, one above and one below.
 COLUMNS = {"Reading packets": (0, 440), "Writing segments": (448, 130), "The log": (586, 170), "From C": (764, 110), "Theorems": (882, 212)}
 BANDS = ("Programs", "The ground")
-
-# Rows from above. A crate uses nothing beside or above it.
-ROWS = [
-    {"Programs": ["tour", "outside_segments", "outside_responses", "outside_logs", "racklog"]},
-    {"Programs": ["printing"]},
-    {"The log": ["log_print"], "From C": ["c_promises"]},
-    {"The log": ["log_run"], "From C": ["kaiverohm"], "Theorems": ["promises"]},
-    {"The log": ["log_pieces"], "From C": ["c_runs"], "Theorems": ["demands", "mailing"]},
-    {"Reading packets": ["endpoint"], "The log": ["log_lines", "log_reader"], "From C": ["c_bursts"], "Theorems": ["calls", "sixteen"]},
-    {"Reading packets": ["packets"], "The log": ["log_records"], "From C": ["c_places"], "Theorems": ["sending", "paper_examples"]},
-    {"Reading packets": ["stream_step", "message_step"], "Writing segments": ["segments"], "From C": ["c_reports"], "Theorems": ["flows"]},
-    {"Reading packets": ["beginning", "continuing", "choosing", "reading"], "Writing segments": ["segment_head"]},
-    {"Reading packets": ["placing", "streams", "messages", "abandoning", "room_parts"], "Writing segments": ["cutting"]},
-    {"Reading packets": ["stream_rooms", "message_rooms", "finding", "lent_state"]},
-    {"Reading packets": ["stream_contexts", "message_contexts", "refusal19", "rules"]},
-    {"Reading packets": ["contexts", "marks", "responses", "heads"]},
-    {"The ground": ["answers", "sizes"]},
-    {"The ground": ["wire"]},
-    {"The ground": ["tables"]},
-    {"The ground": ["lists"]},
-]
-PUBLIC = {"endpoint", "abandoning", "room_parts", "segments", "log_records", "log_lines", "log_pieces", "log_run", "log_reader", "kaiverohm"}
-THEOREMS = {"promises", "c_promises", "demands", "calls", "sixteen", "sending", "mailing", "paper_examples", "flows", "streams", "messages", "tables"}
-PROGRAMS = {"racklog", "tour", "outside_logs", "outside_responses", "outside_segments"}
 
 WIDTH, ROW, TOP, LEFT, HEAD, GAP = 1130, 42, 14, 18, 26, 8  # HEAD: the height of a heading; GAP: between two groups of rows
 INK, SOFT, PANEL, EDGE, FIELD = "#22272e", "#5c6670", "#fdfcf8", "#c9c6bb", "#f3f1e9"
@@ -46,32 +23,71 @@ PROVED = ("#d9ecd5", "#3f7d3a")
 RUN = ("#fbe0bd", "#b7651b")
 
 
+def read(path):
+    return (ROOT / path).read_text(encoding="utf-8")
+
+
+# Each crate with those that it uses, and with its heading, in the order of crates.txt.
+USES, HEADING = {}, {}
+heading = ""
+for line in read("crates.txt").splitlines():
+    if line.startswith("# "):
+        heading = line[2:]
+    name, colon, deps = line.split("#")[0].partition(":")
+    if colon:
+        USES[name.strip()], HEADING[name.strip()] = deps.split(), heading
+
+PUBLIC = set(re.findall(r'"(\w+)"', re.search(r"^USERS = \[(.*)\]$", read("tools/trace"), re.M)[1]))
+
+
 def colour(crate):
-    return CALLS if crate in PUBLIC else PROVED if crate in THEOREMS else RUN if crate in PROGRAMS else CODE
+    source = ROOT / "crates" / crate / "src"
+    if (source / "main.rt").exists():
+        return RUN
+    if crate in PUBLIC:
+        return CALLS
+    return CODE if re.search(r"^(pub )?fn ", (source / "lib.rt").read_text(encoding="utf-8"), re.M) else PROVED
+
+
+def depth(crate, among):
+    """How many layers of these crates it needs below it."""
+    return 1 + max((depth(other, among) for other in USES[crate] if other in among), default=-1)
+
+
+def rows(headings):
+    """The rows from above, each a list of crates for each heading. A crate stands as high as those that use it and the width of its column
+    allow; first come those that need the most layers below."""
+    left = {crate: depth(crate, {c for c in USES if HEADING[c] in headings}) for crate in USES if HEADING[crate] in headings}
+    out = []
+    for level in range(max(left.values()), -1, -1):
+        free = [crate for crate in left if not any(crate in USES[other] for other in left)]
+        row = {}
+        for crate in sorted(free, key=lambda crate: -left[crate]):
+            beside = row.setdefault(HEADING[crate], [])
+            if left[crate] >= level or not beside or sum(map(wants, [*beside, crate])) <= headings[HEADING[crate]][1]:
+                beside.append(crate)
+        for crates in row.values():
+            crates.sort(key=list(USES).index)
+            for crate in crates:
+                del left[crate]
+        out.append(row)
+    return out
+
+
+def wants(crate):
+    """How wide its box should be."""
+    return 7.4 * len(crate) + 24
 
 
 def test():
-    below, headings, heading = {}, {}, ""
-    for line in (ROOT / "crates.txt").read_text(encoding="utf-8").splitlines():
-        if line.startswith("# "):
-            heading = line[2:]
-        name, colon, deps = line.split("#")[0].partition(":")
-        if colon:
-            below[name.strip()], headings[name.strip()] = deps.split(), heading
-    place = {crate: i for i, row in enumerate(ROWS) for crates in row.values() for crate in crates}
-    if set(place) != set(below):
-        raise SystemExit(f"layers.py: not the crates of crates.txt: {sorted(set(place) ^ set(below))}")
-    for row in ROWS:
-        for heading, crates in row.items():
-            for crate in crates:
-                if headings[crate] != heading:
-                    raise SystemExit(f"layers.py: {crate} stands under '{heading}', and in crates.txt under '{headings[crate]}'")
-    for crate, deps in below.items():
-        for dep in deps:
-            if dep in place and place[dep] <= place[crate]:
-                raise SystemExit(f"layers.py: {crate} stands on {dep}, which is not below it")
-    page = (ROOT / "docs" / "ARCHITECTURE.md").read_text(encoding="utf-8")
-    for crate in below:
+    for crate, heading in HEADING.items():
+        if heading not in COLUMNS and heading not in BANDS:
+            raise SystemExit(f"layers.py: {crate} stands in crates.txt under '{heading}', which is no column here")
+        for other in USES[crate]:
+            if HEADING.get(other) == BANDS[0] != heading or heading == BANDS[1] != HEADING.get(other, heading):
+                raise SystemExit(f"layers.py: {crate} uses {other}, which is not below it")
+    page = read("docs/ARCHITECTURE.md")
+    for crate in USES:
         if f"**`{crate}`**" not in page:
             raise SystemExit(f"layers.py: docs/ARCHITECTURE.md does not speak of {crate}")
 
@@ -87,10 +103,10 @@ def panel(x, y, width, height, words):
 
 
 def boxes(x, y, width, crates):
-    """The crates of a row side by side, each as wide as its name asks."""
-    parts, whole = [], sum(len(crate) + 4 for crate in crates)
+    """The crates of a row side by side."""
+    parts, whole = [], sum(map(wants, crates))
     for crate in crates:
-        own, (fill, line) = width * (len(crate) + 4) / whole, colour(crate)
+        own, (fill, line) = width * wants(crate) / whole, colour(crate)
         parts += [f'<rect x="{x + 4:.1f}" y="{y:g}" width="{own - 8:.1f}" height="{ROW - 8}" rx="5" fill="{fill}" stroke="{line}" stroke-width="1.5"/>',
                   text(round(x + own / 2, 1), y + 22, crate)]
         x += own
@@ -98,18 +114,17 @@ def boxes(x, y, width, crates):
 
 
 def picture():
-    across = WIDTH - 2 * LEFT
-    bands = [[i for i, row in enumerate(ROWS) if set(row) == {band}] for band in BANDS]
-    middle = [i for i in range(len(ROWS)) if not any(i in band for band in bands)]
+    across = (0, WIDTH - 2 * LEFT)
     parts, y = [], TOP
-    for rows, headings in ((bands[0], {BANDS[0]: (0, across)}), (middle, COLUMNS), (bands[1], {BANDS[1]: (0, across)})):
+    for headings in ({BANDS[0]: across}, COLUMNS, {BANDS[1]: across}):
+        layers = rows(headings)
         for heading, (x, width) in headings.items():
-            parts += panel(LEFT + x, y, width, HEAD + len(rows) * ROW, heading)
-        for k, i in enumerate(rows):
-            for heading, crates in ROWS[i].items():
+            parts += panel(LEFT + x, y, width, HEAD + len(layers) * ROW, heading)
+        for k, row in enumerate(layers):
+            for heading, crates in row.items():
                 x, width = headings[heading]
                 parts += boxes(LEFT + x, y + HEAD + k * ROW, width, crates)
-        y += HEAD + len(rows) * ROW + GAP
+        y += HEAD + len(layers) * ROW + GAP
     for k, (pair, words) in enumerate([(CALLS, "public functions"), (CODE, "code with contracts"), (PROVED, "theorems, no code"), (RUN, "programs")]):
         x = LEFT + 4 + k * 190
         parts += [f'<rect x="{x}" y="{y + 4}" width="18" height="18" rx="3" fill="{pair[0]}" stroke="{pair[1]}" stroke-width="1.5"/>',

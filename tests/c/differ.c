@@ -517,10 +517,72 @@ static void read_one(struct board *b, struct lengths l, const uint8_t *packet, s
     same_board(b, "read");
 }
 
+/* ---- what is open */
+
+/* What a call on context n of so many is refused with, or 0. */
+static uint64_t refused(const struct board *b, uint64_t n, uint64_t count)
+{
+    return second_refusal19(&b->second) ? 19 : n >= count ? 13 : 0;
+}
+
+static uint64_t kind_asked(uint64_t number, uint64_t open)
+{
+    return number ? KAIVEROHM_REFUSED : open ? KAIVEROHM_OPEN : KAIVEROHM_WAS_FREE;
+}
+
+static void same_stream(struct board *b, uint64_t n)
+{
+    struct kaiverohm_open_stream here = kaiverohm_stream_context(words(b), WORDS, n), there = { 0 };
+    struct second_stream c = { 0 };
+    there.number = refused(b, n, 16);
+    if (!there.number)
+        c = b->second.stream[n];
+    there.kind = kind_asked(there.number, c.open);
+    if (c.open) {
+        there.source = c.source;
+        there.cos = c.cos;
+        there.stream = c.stream_id;
+        there.held = c.held;
+    }
+    if (memcmp(&here, &there, sizeof here) != 0)
+        fail("stream_context %llu", (unsigned long long)n);
+}
+
+static void same_message(struct board *b, uint64_t n)
+{
+    struct kaiverohm_open_message here = kaiverohm_message_context(words(b), WORDS, n),
+                                  there = { 0 };
+    struct second_message c = { 0 };
+    there.number = refused(b, n, 8);
+    if (!there.number)
+        c = b->second.message[n];
+    there.kind = kind_asked(there.number, c.open);
+    if (c.open) {
+        there.source = c.source;
+        there.letter = c.letter;
+        there.mbox = c.mbox;
+        there.msglen = c.msglen;
+        there.size = UINT64_C(8) << (c.ssize - 9); /* codes 9 to 14 are 8 to 256 bytes */
+        there.marks = c.marks;
+        there.last = c.last;
+    }
+    if (memcmp(&here, &there, sizeof here) != 0)
+        fail("message_context %llu", (unsigned long long)n);
+}
+
+static void what_is_open(struct board *b)
+{
+    same_stream(b, one_in(8) ? draw() : below(18));
+    same_message(b, one_in(8) ? draw() : below(10));
+    calls += 2;
+    same_board(b, "context");
+}
+
 /* ---- the other calls */
 
 static void other_calls(struct board *b)
 {
+    what_is_open(b);
     uint64_t n = one_in(8) ? draw() : below(18);
     uint64_t l = one_in(8) ? draw() : below(b->room + 2);
     size_t size = 16 * b->room + (one_in(8) ? 1 : 0);

@@ -682,6 +682,89 @@ static void abandons(void)
     }
 }
 
+/* ---- what is open */
+
+static void stream_open(uint64_t n, struct kaiverohm_open_stream wanted, int line)
+{
+    struct kaiverohm_open_stream s = kaiverohm_stream_context(state(WORDS), WORDS, n);
+    want(memcmp(&s, &wanted, sizeof s) == 0 && changed() == 0, "stream_context", line);
+}
+
+static void message_open(uint64_t n, struct kaiverohm_open_message wanted, int line)
+{
+    struct kaiverohm_open_message m = kaiverohm_message_context(state(WORDS), WORDS, n);
+    want(memcmp(&m, &wanted, sizeof m) == 0 && changed() == 0, "message_context", line);
+}
+
+/* A free context with numbers in it, then an open one: any word but 0 is open. */
+static void asks_one_stream(uint64_t n)
+{
+    static const uint64_t words[5] = { 0, 9, 200, 60000, 32 };
+    fresh();
+    memcpy(stream_context(n), words, sizeof words);
+    keep();
+    stream_open(n, (struct kaiverohm_open_stream){ .kind = KAIVEROHM_WAS_FREE }, __LINE__);
+    stream_context(n)[0] = UINT64_MAX;
+    keep();
+    stream_open(n,
+                (struct kaiverohm_open_stream){
+                    .kind = KAIVEROHM_OPEN, .source = 9, .cos = 200, .stream = 60000, .held = 32 },
+                __LINE__);
+}
+
+static void asks_one_message(uint64_t n)
+{
+    static const uint64_t words[8] = { 0, 9, 3, 2, 4, 13, 17, 40 };
+    fresh();
+    memcpy(message_context(n), words, sizeof words);
+    keep();
+    message_open(n, (struct kaiverohm_open_message){ .kind = KAIVEROHM_WAS_FREE }, __LINE__);
+    message_context(n)[0] = 7;
+    keep();
+    message_open(n,
+                 (struct kaiverohm_open_message){ .kind = KAIVEROHM_OPEN,
+                                                  .source = 9,
+                                                  .letter = 3,
+                                                  .mbox = 2,
+                                                  .msglen = 4,
+                                                  .size = 128,
+                                                  .marks = 17,
+                                                  .last = 40 },
+                 __LINE__);
+}
+
+static void asks_refused(uint64_t stream, uint64_t message, unsigned number, int line)
+{
+    keep();
+    stream_open(stream,
+                (struct kaiverohm_open_stream){ .kind = KAIVEROHM_REFUSED, .number = number },
+                line);
+    message_open(message,
+                 (struct kaiverohm_open_message){ .kind = KAIVEROHM_REFUSED, .number = number },
+                 line);
+}
+
+static void asks(void)
+{
+    for (uint64_t n = 0; n < KAIVEROHM_STREAM_CONTEXTS; n++)
+        asks_one_stream(n);
+    for (uint64_t n = 0; n < KAIVEROHM_MESSAGE_CONTEXTS; n++)
+        asks_one_message(n);
+    fresh();
+    asks_refused(16, 8, 13, __LINE__);
+    asks_refused(FAR, FAR + 1, 13, __LINE__);
+    asks_refused(UINT64_MAX, UINT64_MAX, 13, __LINE__);
+    state(WORDS)[1] = 33;
+    asks_refused(0, 0, 19, __LINE__);
+    asks_refused(16, 8, 19, __LINE__);
+    for (size_t words = 0; words <= WORDS + 1; words += words ? 2 : WORDS - 1) {
+        struct kaiverohm_open_stream s = kaiverohm_stream_context(state(words), words, 99);
+        struct kaiverohm_open_message m = kaiverohm_message_context(state(words), words, 99);
+        WANT(s.kind == KAIVEROHM_REFUSED && s.number == 12 && m.kind == KAIVEROHM_REFUSED
+             && m.number == 12);
+    }
+}
+
 static void place(struct kaiverohm_place p, uint64_t offset, uint64_t length, int line)
 {
     want(p.offset == offset && p.length == length, "place", line);
@@ -794,6 +877,8 @@ static void calls(void)
     lent(WORDS, STREAM_MEMORY, KAIVEROHM_MESSAGE_MEMORY, REPLY,
          MADE("\x1b\x01\x02\x00\x09\x1a\x01", 16));
     burst(64, 27, MESSAGE MESSAGE, sizeof MESSAGE MESSAGE - 1, 0);
+    kaiverohm_stream_context(state(WORDS), WORDS, 0);
+    kaiverohm_message_context(state(WORDS), WORDS, 0);
     kaiverohm_abandon_stream(state(WORDS), WORDS, 0);
     kaiverohm_abandon_message(state(WORDS), WORDS, 0);
     struct kaiverohm_heading h = {
@@ -843,6 +928,7 @@ int main(void)
     messages();
     bursts();
     abandons();
+    asks();
     rooms();
     writer();
     stacks();

@@ -35,6 +35,25 @@ _Static_assert(sizeof(struct kaiverohm_place) == 16, "place");
 _Static_assert(offsetof(struct kaiverohm_place, offset) == 0, "place");
 _Static_assert(offsetof(struct kaiverohm_place, length) == 8, "place");
 
+_Static_assert(sizeof(struct kaiverohm_open_stream) == 48, "open stream");
+_Static_assert(offsetof(struct kaiverohm_open_stream, kind) == 0, "open stream");
+_Static_assert(offsetof(struct kaiverohm_open_stream, number) == 8, "open stream");
+_Static_assert(offsetof(struct kaiverohm_open_stream, source) == 16, "open stream");
+_Static_assert(offsetof(struct kaiverohm_open_stream, cos) == 24, "open stream");
+_Static_assert(offsetof(struct kaiverohm_open_stream, stream) == 32, "open stream");
+_Static_assert(offsetof(struct kaiverohm_open_stream, held) == 40, "open stream");
+
+_Static_assert(sizeof(struct kaiverohm_open_message) == 72, "open message");
+_Static_assert(offsetof(struct kaiverohm_open_message, kind) == 0, "open message");
+_Static_assert(offsetof(struct kaiverohm_open_message, number) == 8, "open message");
+_Static_assert(offsetof(struct kaiverohm_open_message, source) == 16, "open message");
+_Static_assert(offsetof(struct kaiverohm_open_message, letter) == 24, "open message");
+_Static_assert(offsetof(struct kaiverohm_open_message, mbox) == 32, "open message");
+_Static_assert(offsetof(struct kaiverohm_open_message, msglen) == 40, "open message");
+_Static_assert(offsetof(struct kaiverohm_open_message, size) == 48, "open message");
+_Static_assert(offsetof(struct kaiverohm_open_message, marks) == 56, "open message");
+_Static_assert(offsetof(struct kaiverohm_open_message, last) == 64, "open message");
+
 _Static_assert(sizeof(struct kaiverohm_heading) == 8, "heading");
 _Static_assert(offsetof(struct kaiverohm_heading, destination) == 0, "heading");
 _Static_assert(offsetof(struct kaiverohm_heading, source) == 2, "heading");
@@ -51,6 +70,8 @@ struct kaiverohm_report kaiverohm_read(uint64_t *, size_t, uint8_t *, size_t, ui
 struct kaiverohm_burst kaiverohm_read_burst(uint64_t *, size_t, uint8_t *, size_t, uint8_t *,
                                             size_t, uint8_t *, size_t, uint64_t *, size_t,
                                             const uint8_t *, size_t, uint64_t);
+struct kaiverohm_open_stream kaiverohm_stream_context(const uint64_t *, size_t, uint64_t);
+struct kaiverohm_open_message kaiverohm_message_context(const uint64_t *, size_t, uint64_t);
 struct kaiverohm_answer kaiverohm_abandon_stream(uint64_t *, size_t, uint64_t);
 struct kaiverohm_answer kaiverohm_abandon_message(uint64_t *, size_t, uint64_t);
 struct kaiverohm_place kaiverohm_stream_room(const uint64_t *, size_t, uint64_t, uint64_t,
@@ -153,6 +174,28 @@ static void message_of_one(void)
     WANT(r.kind == KAIVEROHM_REFUSED && r.number == 1 && r.response == 0);
 }
 
+/* What is open: a start of 32 bytes; the last of three segments, letter 1, mbox 2. */
+static void contexts(void)
+{
+    static const uint8_t last[] = "\x1b\xff\xfe\x12\x34\x2a\x62\x11\x12\x13\x14\x15\x16\x17\x18";
+    read_one(start, 41);
+    struct kaiverohm_open_stream s = kaiverohm_stream_context(state, WORDS, 0);
+    WANT(s.kind == KAIVEROHM_OPEN && s.number == 0 && s.source == 0x1234 && s.cos == 0x5a);
+    WANT(s.stream == 0xabcd && s.held == MTU);
+    s = kaiverohm_stream_context(state, WORDS, 1);
+    WANT(s.kind == KAIVEROHM_WAS_FREE && s.number == 0 && s.source == 0 && s.held == 0);
+    s = kaiverohm_stream_context(state, WORDS, 16);
+    WANT(s.kind == KAIVEROHM_REFUSED && s.number == 13);
+    read_one(last, 15);
+    struct kaiverohm_open_message m = kaiverohm_message_context(state, WORDS, 0);
+    WANT(m.kind == KAIVEROHM_OPEN && m.number == 0 && m.source == 0x1234 && m.letter == 1);
+    WANT(m.mbox == 2 && m.msglen == 2 && m.size == 16 && m.marks == 4 && m.last == 8);
+    m = kaiverohm_message_context(state, WORDS, 8);
+    WANT(m.kind == KAIVEROHM_REFUSED && m.number == 13);
+    WANT(is(kaiverohm_abandon_stream(state, WORDS, 0), KAIVEROHM_CLOSED, 0));
+    WANT(is(kaiverohm_abandon_message(state, WORDS, 0), KAIVEROHM_CLOSED, 0));
+}
+
 static void abandons(void)
 {
     WANT(is(kaiverohm_abandon_stream(state, WORDS, 15), KAIVEROHM_WAS_FREE, 0));
@@ -209,6 +252,7 @@ int main(void)
     delivery();
     rooms();
     message_of_one();
+    contexts();
     abandons();
     burst();
     printf("interface: %u checks\n", checks);

@@ -6,10 +6,16 @@ use Rattle.answers.specs.declared.Begun.{Begun}
 use Rattle.answers.specs.declared.Begun.the-variants as begun
 use Rattle.answers.specs.declared.Abandoned.{Abandoned}
 use Rattle.answers.specs.declared.Abandoned.the-variants as abandoned
+use Rattle.answers.specs.declared.StreamAsked.{StreamAsked}
+use Rattle.answers.specs.declared.StreamAsked.the-variants as stream
+use Rattle.answers.specs.declared.MessageAsked.{MessageAsked}
+use Rattle.answers.specs.declared.MessageAsked.the-variants as mail
 use Rattle.answers.specs.declared.Written.{Written}
 use Rattle.answers.specs.declared.Written.the-variants as writer
 use Rattle.answers.specs.Answers.{Said, held, delivered, message, refused, said, SetupSaid, ready, setupRefused, saidOfSetup}
 use Rattle.answers.specs.Answers.{AbandonSaid, closed, free, abandonRefused, saidOfAbandon, WriterSaid, wrote, writeRefused, saidOfWriter}
+use Rattle.answers.specs.Answers.{StreamContextSaid, streamOpen, streamFree, streamAskRefused, saidOfStream}
+use Rattle.answers.specs.Answers.{MessageContextSaid, messageOpen, messageFree, messageAskRefused, saidOfMessage}
 use Rattle.answers.specs.Once.{Outcome}
 
 -- where `back` undoes `says`, what is said determines the answer
@@ -68,6 +74,36 @@ abandon-back (abandoned.Refused _) = refl
 
 pub abandon-once : (a b : Abandoned) → saidOfAbandon a ≡ saidOfAbandon b → a ≡ b
 abandon-once = once saidOfAbandon abandonedOf abandon-back
+
+-- ---- asking after a context
+
+streamAskedOf : StreamContextSaid → StreamAsked
+streamAskedOf (streamOpen flow streamID size) = stream.Open flow streamID size
+streamAskedOf streamFree = stream.Free
+streamAskedOf (streamAskRefused number) = stream.Refused number
+
+stream-back : (a : StreamAsked) → streamAskedOf (saidOfStream a) ≡ a
+unfolding streamAskedOf
+stream-back (stream.Open _ _ _) = refl
+stream-back stream.Free = refl
+stream-back (stream.Refused _) = refl
+
+pub stream-once : (a b : StreamAsked) → saidOfStream a ≡ saidOfStream b → a ≡ b
+stream-once = once saidOfStream streamAskedOf stream-back
+
+messageAskedOf : MessageContextSaid → MessageAsked
+messageAskedOf (messageOpen source letter mbox msglen size marks last) = mail.Open source letter mbox msglen size marks last
+messageAskedOf messageFree = mail.Free
+messageAskedOf (messageAskRefused number) = mail.Refused number
+
+mail-back : (a : MessageAsked) → messageAskedOf (saidOfMessage a) ≡ a
+unfolding messageAskedOf
+mail-back (mail.Open _ _ _ _ _ _ _) = refl
+mail-back mail.Free = refl
+mail-back (mail.Refused _) = refl
+
+pub message-once : (a b : MessageAsked) → saidOfMessage a ≡ saidOfMessage b → a ≡ b
+message-once = once saidOfMessage messageAskedOf mail-back
 
 -- ---- the segment writer
 

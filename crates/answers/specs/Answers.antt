@@ -8,6 +8,10 @@ use Rattle.answers.specs.declared.Begun.{Begun}
 use Rattle.answers.specs.declared.Begun.the-variants as begun
 use Rattle.answers.specs.declared.Abandoned.{Abandoned}
 use Rattle.answers.specs.declared.Abandoned.the-variants as abandoned
+use Rattle.answers.specs.declared.StreamAsked.{StreamAsked}
+use Rattle.answers.specs.declared.StreamAsked.the-variants as stream
+use Rattle.answers.specs.declared.MessageAsked.{MessageAsked}
+use Rattle.answers.specs.declared.MessageAsked.the-variants as mail
 use Rattle.answers.specs.declared.Written.{Written}
 use Rattle.answers.specs.declared.Written.the-variants as writer
 
@@ -53,6 +57,30 @@ abbrev pub saidOfAbandon : Abandoned → AbandonSaid
 saidOfAbandon abandoned.Closed = closed
 saidOfAbandon abandoned.WasFree = free
 saidOfAbandon (abandoned.Refused number) = abandonRefused number
+
+-- ---- asking after a context
+
+pub data StreamContextSaid : Type 0 where
+  -- a PDU is open there: its flow (source and cos), its streamID, and how many bytes of it are held
+  streamOpen : (flow : Flow) (streamID held : ℕ) → StreamContextSaid
+  streamFree : StreamContextSaid
+  streamAskRefused : (number : ℕ) → StreamContextSaid
+
+abbrev pub saidOfStream : StreamAsked → StreamContextSaid
+saidOfStream (stream.Open flow streamID size) = streamOpen flow streamID size
+saidOfStream stream.Free = streamFree
+saidOfStream (stream.Refused number) = streamAskRefused number
+
+pub data MessageContextSaid : Type 0 where
+  -- a message is open there: source, letter, mbox; its msglen, the bytes of its segments; which have come, and the last one's length, 0 before it came
+  messageOpen : (source letter mbox msglen size marks last : ℕ) → MessageContextSaid
+  messageFree : MessageContextSaid
+  messageAskRefused : (number : ℕ) → MessageContextSaid
+
+abbrev pub saidOfMessage : MessageAsked → MessageContextSaid
+saidOfMessage (mail.Open source letter mbox msglen size marks last) = messageOpen source letter mbox msglen size marks last
+saidOfMessage mail.Free = messageFree
+saidOfMessage (mail.Refused number) = messageAskRefused number
 
 -- ---- the segment writer
 

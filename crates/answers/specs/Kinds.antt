@@ -19,7 +19,7 @@ messageKind = 3
 abbrev pub readyKind : ℕ
 readyKind = 4
 
--- abandoning a context
+-- abandoning a context; a free one may be asked after too
 abbrev pub closedKind : ℕ
 closedKind = 5
 
@@ -29,3 +29,7 @@ freeKind = 6
 -- the segment writer
 abbrev pub writtenKind : ℕ
 writtenKind = 7
+
+-- asking after a context
+abbrev pub openKind : ℕ
+openKind = 8

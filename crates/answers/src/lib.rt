@@ -22,6 +22,8 @@ pub const FREE: usize = 6;
 
 pub const WRITTEN: usize = 7;
 
+pub const OPEN: usize = 8;
+
 // The answer to a packet.
 pub enum Answer {
     Held,
@@ -72,6 +74,33 @@ pub enum Begun {
 pub enum Abandoned {
     Closed,
     WasFree,
+    Refused(usize),
+}
+
+// The answer to who asks after a stream context: whose PDU is open there, and how many bytes of it are held.
+pub enum StreamAsked {
+    Open {
+        flow: Flow,
+        stream: usize,
+        held: usize,
+    },
+    Free,
+    Refused(usize),
+}
+
+// The answer to who asks after a message context: which message is open there, of msglen + 1 segments of `size` bytes, which of them have come
+// (mark k is bit k), and the length of the last once that has come.
+pub enum MessageAsked {
+    Open {
+        source: usize,
+        letter: usize,
+        mbox: usize,
+        msglen: usize,
+        size: usize,
+        marks: usize,
+        last: usize,
+    },
+    Free,
     Refused(usize),
 }
 

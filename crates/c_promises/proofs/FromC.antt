@@ -16,7 +16,7 @@ use Rattle.reading.proofs.Spoken.{answered-by, says-it, promised}
 use Rattle.endpoint.specs.Calls.{setup}
 use Rattle.answers.specs.Stands.{stands}
 use Rattle.room_parts.specs.Parts.{streamRoom}
-use Rattle.segments.specs.Writer.{wroteOf, writing}
+use Rattle.writing.specs.Writer.{wroteOf, writing}
 use Rattle.flows.specs.OneFlow.{pdu}
 use Rattle.flows.specs.Deliveries.{Delivery, delivery}
 use Rattle.sending.specs.Sending.{Sent, headingFor}

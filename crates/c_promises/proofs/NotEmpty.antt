@@ -15,7 +15,7 @@ use Rattle.reading.specs.Table.{Lent, lent}
 use Rattle.reading.specs.Read.{reading}
 use Rattle.answers.specs.Answers.{SetupSaid}
 use Rattle.answers.specs.Stands.{Stands}
-use Rattle.segments.specs.Writer.{Wrote}
+use Rattle.writing.specs.Writer.{Wrote}
 use Rattle.flows.specs.Deliveries.{Delivery}
 use Rattle.flows.specs.Fresh.{Allowed, zeroDesk}
 use Rattle.c_reports.specs.declared.Report.{Report}

@@ -2,6 +2,7 @@
 use mathlib.Core.Path.{sym, _∙_}
 use Rattle.answers.proofs.Once.{both}
 use Rattle.c_promises.specs.OfCalls.{SetupFromCOnce, ReadFromCOnce, BurstOnce, AbandonStreamFromCOnce, AbandonMessageFromCOnce, StreamPlaceOnce, MessagePlaceOnce, WriteFromCOnce}
+use Rattle.c_promises.specs.OfCalls.{StreamContextFromCOnce, MessageContextFromCOnce}
 
 pub setup-from-c-once : SetupFromCOnce
 setup-from-c-once words device mtu room y z p q = both (p .answer ∙ sym (q .answer)) (p .state ∙ sym (q .state))
@@ -17,6 +18,12 @@ abandon-stream-from-c-once words n y z p q = both (p .answer ∙ sym (q .answer)
 
 pub abandon-message-from-c-once : AbandonMessageFromCOnce
 abandon-message-from-c-once words n y z p q = both (p .answer ∙ sym (q .answer)) (p .state ∙ sym (q .state))
+
+pub stream-context-from-c-once : StreamContextFromCOnce
+stream-context-from-c-once words n y z p q = p ∙ sym q
+
+pub message-context-from-c-once : MessageContextFromCOnce
+message-context-from-c-once words n y z p q = p ∙ sym q
 
 pub stream-place-once : StreamPlaceOnce
 stream-place-once words size n l y z p q = p ∙ sym q

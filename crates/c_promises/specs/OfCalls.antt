@@ -18,7 +18,7 @@ use Rattle.reading.specs.Table.{Lent, lent}
 use Rattle.reading.specs.Read.{reading}
 use Rattle.room_parts.specs.Parts.{part}
 use Rattle.cutting.specs.declared.Heading.{Heading}
-use Rattle.segments.specs.Writer.{CountPromise}
+use Rattle.writing.specs.Writer.{CountPromise}
 use Rattle.flows.specs.OneFlow.{pdu}
 use Rattle.flows.specs.Deliveries.{Delivery, delivery}
 use Rattle.flows.specs.Fresh.{Allowed, Lends, zeroDesk}
@@ -37,6 +37,7 @@ use Rattle.c_bursts.specs.declared.Burst.{Burst}
 use Rattle.c_bursts.specs.Bursts.{slotBytes, Run, run, reportFor, behind, stepLeft, atEnd, isFull, atDelivery, answering, stopped, Finished, roomFor, burstVerdict, readBurst, BurstPromise}
 use Rattle.answers.specs.Kinds.{deliveredKind, messageKind, readyKind, writtenKind}
 use Rattle.kaiverohm.specs.Exports.{SetupFromCPromise, ReadFromCPromise, AbandonStreamFromCPromise, AbandonMessageFromCPromise, WriteFromCPromise}
+use Rattle.kaiverohm.specs.Exports.{StreamContextFromCPromise, MessageContextFromCPromise}
 
 -- ---- What a report says of the response is what reading wrote there.
 
@@ -284,6 +285,12 @@ AbandonStreamFromCOnce = (words : List ℕ) (n : ℕ) → OneOutcome (λ (y : Ou
 
 abbrev pub AbandonMessageFromCOnce : Type 0
 AbandonMessageFromCOnce = (words : List ℕ) (n : ℕ) → OneOutcome (λ (y : Outcome Numbers (List ℕ)). AbandonMessageFromCPromise words n (y .answer) (y .after))
+
+abbrev pub StreamContextFromCOnce : Type 0
+StreamContextFromCOnce = (words : List ℕ) (n : ℕ) → OneOutcome (StreamContextFromCPromise words n)
+
+abbrev pub MessageContextFromCOnce : Type 0
+MessageContextFromCOnce = (words : List ℕ) (n : ℕ) → OneOutcome (MessageContextFromCPromise words n)
 
 abbrev pub StreamPlaceOnce : Type 0
 StreamPlaceOnce = (words : List ℕ) (size n l : ℕ) → OneOutcome (StreamPlacePromise words size n l)

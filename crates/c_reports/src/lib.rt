@@ -1,16 +1,11 @@
 // The answer to a packet as a report of numbers, which C can take: as a struct, and as words of a lent buffer.
-use answers::Abandoned;
-use answers::Begun;
 use answers::Figures;
-use answers::Written;
 ghost use mathlib.Core.Path.{_≡_};
 ghost use Prim.Native.Nat.{_+_, _≤_};
 ghost use lib.ListN.{length};
-ghost use Rattle.answers.specs.Answers.{saidOfSetup, saidOfAbandon, saidOfWriter};
 ghost use Rattle.answers.specs.Figures.{telling, AllSet};
 ghost use Rattle.lists.specs.Bytes.{written};
 ghost use Rattle.c_reports.specs.Reports.{flagOf, reportOf, reportWords, wordsOfReport};
-ghost use Rattle.c_reports.specs.Reports.{numbersOfSetup, numbersOfAbandon, numbersOfWriter};
 
 // The words of a report.
 pub const WORDS: usize = 9;
@@ -77,56 +72,4 @@ pub fn put(words: &mut [usize], at: usize, r: Report)
 pub struct Numbers {
     pub kind: usize,
     pub number: usize,
-}
-
-// What setup answers.
-pub fn of_setup(begun: Begun) -> Numbers
-    ensures { λ r. ⌜ r ≡ numbersOfSetup (saidOfSetup begun) ⌝ }
-{
-    match begun {
-        Begun::Ready => Numbers {
-            kind: answers::READY,
-            number: 0,
-        },
-        Begun::Refused(number) => Numbers {
-            kind: answers::REFUSED,
-            number,
-        },
-    }
-}
-
-// What abandoning a context answers.
-pub fn of_abandon(abandoned: Abandoned) -> Numbers
-    ensures { λ r. ⌜ r ≡ numbersOfAbandon (saidOfAbandon abandoned) ⌝ }
-{
-    match abandoned {
-        Abandoned::Closed => Numbers {
-            kind: answers::CLOSED,
-            number: 0,
-        },
-        Abandoned::WasFree => Numbers {
-            kind: answers::FREE,
-            number: 0,
-        },
-        Abandoned::Refused(number) => Numbers {
-            kind: answers::REFUSED,
-            number,
-        },
-    }
-}
-
-// What the segment writer answers.
-pub fn of_writer(written: Written) -> Numbers
-    ensures { λ r. ⌜ r ≡ numbersOfWriter (saidOfWriter written) ⌝ }
-{
-    match written {
-        Written::Length(length) => Numbers {
-            kind: answers::WRITTEN,
-            number: length,
-        },
-        Written::Refused(number) => Numbers {
-            kind: answers::REFUSED,
-            number,
-        },
-    }
 }

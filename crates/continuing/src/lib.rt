@@ -1,4 +1,4 @@
-// A continuation or an end, rows 6 and 7 passed: rows 8, 9 and 11, then behind what the flow's context holds.
+// A continuation or an end, rows 6 and 7 passed: rows 8 and 9, then behind what the flow's context holds.
 use answers::Figures;
 use wire::Flow;
 ghost use mathlib.Core.Path.{_≡_};
@@ -8,29 +8,7 @@ ghost use Rattle.contexts.specs.Words.{stateOf};
 ghost use Rattle.stream_rooms.specs.Placing.{joining};
 ghost use Rattle.stream_rooms.specs.Inside.{Ready, Fields};
 ghost use Rattle.streams.specs.Joining.{stepped};
-ghost use Rattle.streams.specs.Inside.{ContinuesPDU, EndsPDU};
-
-// An end whose data fit behind the `held` bytes of the flow's context.
-fn end(
-    state: &mut [usize],
-    memory: &mut [u8],
-    packet: &[u8],
-    from: usize,
-    flow: Flow,
-    found: usize,
-    held: usize,
-    count: usize,
-) -> Figures
-    requires { ⌜ Ready (now state) (now memory) (now packet) (segmentOf (now packet)) ⌝ }
-    requires { ⌜ (from ≡ segmentOf (now packet) .from) × (flow ≡ segmentOf (now packet) .flow) × EndsPDU (stateOf (now state)) (segmentOf (now packet)) found held count ⌝ }
-    ensures { λ r. ⌜ (joining (telling r) (r .dropped) (stateOf (now (state .exit))) (now (memory .exit))
-        ≡ stepped (stateOf (now (state .entry))) (now (memory .entry)) (now (packet .entry)) (segmentOf (now (packet .entry)))) × AllSet r (r .dropped) 0 ⌝ }
-{
-    if held + count != sizes::pdu_length(lists::word_at(packet, wire::HEADER + 2)) {
-        return stream_rooms::refused_closing(state, found, 11);
-    }
-    placing::end_room(state, memory, packet, from, flow, found, held, count)
-}
+ghost use Rattle.streams.specs.Inside.{ContinuesPDU};
 
 // A continuation or end: behind what the flow's context holds.
 pub fn go_on(
@@ -57,7 +35,7 @@ pub fn go_on(
         return stream_rooms::refused_closing(state, found, 9);
     }
     if wire::bit(flags, 64) {
-        return end(state, memory, packet, from, flow, found, held, count);
+        return ending::end(state, memory, packet, from, flow, found, held, count);
     }
     placing::hold_room(state, memory, packet, from, found, held, count)
 }

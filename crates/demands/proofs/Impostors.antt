@@ -22,7 +22,7 @@ use Rattle.cutting.specs.Cutting.{segmentCount}
 use Rattle.flows.specs.OneFlow.{pdu}
 use Rattle.flows.specs.Deliveries.{Endpoint, Delivery, delivery, deliveredBy, deliveriesBy, deliveries, read, after, inRoom}
 use Rattle.flows.specs.Fresh.{Allowed, Fresh, zeroDesk}
-use Rattle.segments.specs.Writer.{Wrote}
+use Rattle.writing.specs.Writer.{Wrote}
 use Rattle.sending.specs.Sending.{Sent, headingFor, putOf, Ranges, FairPDU, between, Sending, Fair}
 use Rattle.sending.specs.OfSendings.{packetAt, deskAt, saysAt, HandsBack}
 use Rattle.sending.specs.Joint.{inTurn, isJoint, Pair}

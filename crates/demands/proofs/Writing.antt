@@ -19,7 +19,7 @@ use Rattle.refusal19.proofs.Kept.{fresh-good}
 use Rattle.contexts.specs.State.{Setup, fresh}
 use Rattle.cutting.specs.declared.Heading.{Heading}
 use Rattle.cutting.specs.Cutting.{badSize, segmentCount, packetOf}
-use Rattle.segments.specs.Writer.{Wrote, wroteOf, writerTable, writing, wroteBy, countToWrite, WritePromise}
+use Rattle.writing.specs.Writer.{Wrote, wroteOf, writerTable, writing, wroteBy, countToWrite, WritePromise}
 use Rattle.flows.specs.Fresh.{Allowed}
 use Rattle.sending.specs.Sending.{Sent, packetCount, headingFor, FairPDU}
 use Rattle.sending.specs.OfSendings.{packetAt}

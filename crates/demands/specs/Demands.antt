@@ -10,7 +10,7 @@ use Rattle.wire.specs.declared.Flow.{Flow}
 use Rattle.contexts.specs.State.{Setup}
 use Rattle.reading.specs.Desk.{Desk}
 use Rattle.cutting.specs.declared.Heading.{Heading}
-use Rattle.segments.specs.Writer.{Wrote, writing}
+use Rattle.writing.specs.Writer.{Wrote, writing}
 use Rattle.flows.specs.Deliveries.{Endpoint, read, delivery, deliveriesBy, deliveries}
 use Rattle.flows.specs.Fresh.{Fresh}
 use Rattle.sending.specs.Sending.{Sent, packetCount, headingFor, Sending, packets, whole, Ranges, FairPDU, Fair, FairAnyLoss}

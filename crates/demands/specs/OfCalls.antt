@@ -10,7 +10,7 @@ use Rattle.sizes.specs.Sizes.{badMTU}
 use Rattle.contexts.specs.State.{Setup}
 use Rattle.reading.specs.Desk.{Desk}
 use Rattle.endpoint.specs.Calls.{SetupPromise}
-use Rattle.segments.specs.Writer.{CountPromise}
+use Rattle.writing.specs.Writer.{CountPromise}
 use Rattle.flows.specs.Deliveries.{Delivery, delivery}
 use Rattle.flows.specs.Fresh.{Lends, Fresh}
 use Rattle.sending.specs.Sending.{Sent, Sending, packets, whole, FairPDU, FairlySent, OneLossEach, NoNeighboursLose, Fair}

@@ -7,7 +7,7 @@ use lib.ListN.{length}
 use Rattle.wire.specs.declared.Flow.{Flow}
 use Rattle.contexts.specs.State.{Setup}
 use Rattle.reading.specs.Desk.{Desk}
-use Rattle.segments.specs.Writer.{CountPromise}
+use Rattle.writing.specs.Writer.{CountPromise}
 use Rattle.flows.specs.OneFlow.{pdu}
 use Rattle.flows.specs.Deliveries.{Delivery}
 use Rattle.flows.specs.Fresh.{Allowed, zeroDesk, paperSetup}

@@ -5,7 +5,7 @@ use lib.ListN.{take}
 use Rattle.answers.specs.declared.Written.the-variants.{Length}
 use Rattle.wire.specs.declared.Flow.{Flow}
 use Rattle.contexts.specs.State.{Setup}
-use Rattle.segments.specs.Writer.{WritePromise}
+use Rattle.writing.specs.Writer.{WritePromise}
 use Rattle.sending.specs.Sending.{Sent, headingFor}
 
 -- `write_segment` for n segments of a PDU from number k on, each with any output buffer, each outcome a length that its

@@ -1,8 +1,10 @@
-// The endpoint's public calls: setup, reading a packet, abandoning a context, rooms. None asks anything of its caller.
+// The endpoint's public calls: setup, reading a packet, asking after a context, abandoning it, rooms. None asks anything of its caller.
 pub use abandoning::abandon_message;
 pub use abandoning::abandon_stream;
 use answers::Begun;
 use answers::Reading;
+pub use asking::message_context;
+pub use asking::stream_context;
 pub use room_parts::message_room;
 pub use room_parts::stream_room;
 ghost use Rattle.reading.specs.Desk.{desk};
@@ -28,7 +30,7 @@ pub fn setup(state: &mut [usize], device: u16, mtu: usize, room: usize) -> Begun
         contexts::clear(state);
         return Begun::Refused(18);
     }
-    if refusal19::bad_room(mtu, room) {
+    if bad_streams::bad_room(mtu, room) {
         contexts::clear(state);
         return Begun::Refused(19);
     }

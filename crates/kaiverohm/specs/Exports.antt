@@ -9,10 +9,14 @@ use Rattle.reading.specs.Read.{reading}
 use Rattle.endpoint.specs.Calls.{setup}
 use Rattle.abandoning.specs.Abandoning.{abandonStream, abandonMessage}
 use Rattle.cutting.specs.declared.Heading.{Heading}
-use Rattle.segments.specs.Writer.{writing}
+use Rattle.writing.specs.Writer.{writing}
 use Rattle.c_reports.specs.declared.Numbers.{Numbers}
 use Rattle.c_reports.specs.declared.Report.{Report}
 use Rattle.c_reports.specs.Reports.{numbersOfSetup, numbersOfAbandon, numbersOfWriter}
+use Rattle.asking.specs.Asking.{askStream, askMessage}
+use Rattle.c_contexts.specs.declared.OpenStream.{OpenStream}
+use Rattle.c_contexts.specs.declared.OpenMessage.{OpenMessage}
+use Rattle.c_contexts.specs.Open.{openStreamOf, openMessageOf}
 use Rattle.c_bursts.specs.Bursts.{reportFor}
 
 -- the promise of `kaiverohm_setup`
@@ -33,6 +37,13 @@ pub record AbandonStreamFromCPromise (words : List ℕ) (n : ℕ) (r : Numbers) 
 pub record AbandonMessageFromCPromise (words : List ℕ) (n : ℕ) (r : Numbers) (after : List ℕ) : Type 0 where
   pub answer : r ≡ numbersOfAbandon (abandonMessage words n .says)
   pub state : after ≡ abandonMessage words n .words
+
+-- the promises of `kaiverohm_stream_context` and `kaiverohm_message_context`
+abbrev pub StreamContextFromCPromise : List ℕ → ℕ → OpenStream → Type 0
+StreamContextFromCPromise words n r = r ≡ openStreamOf (askStream words n)
+
+abbrev pub MessageContextFromCPromise : List ℕ → ℕ → OpenMessage → Type 0
+MessageContextFromCPromise words n r = r ≡ openMessageOf (askMessage words n)
 
 -- the promise of `kaiverohm_write_segment`
 pub record WriteFromCPromise (out : List ℕ) (h : Heading) (mtu : ℕ) (pdu : List ℕ) (k : ℕ) (r : Numbers) (after : List ℕ) : Type 0 where

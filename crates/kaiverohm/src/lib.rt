@@ -1,6 +1,8 @@
 // The endpoint for callers in C. Each function hands its arguments on and its answer back as numbers; none asks anything of its caller.
 // include/kaiverohm.h declares them.
 use c_bursts::Burst;
+use c_contexts::OpenMessage;
+use c_contexts::OpenStream;
 use c_places::Place;
 use c_reports::Numbers;
 use c_reports::Report;
@@ -8,10 +10,11 @@ use cutting::Heading;
 ghost use Rattle.reading.specs.Desk.{desk};
 ghost use Rattle.reading.specs.Table.{lent};
 ghost use Rattle.endpoint.specs.Calls.{LengthPromise};
-ghost use Rattle.segments.specs.Writer.{CountPromise};
+ghost use Rattle.writing.specs.Writer.{CountPromise};
 ghost use Rattle.c_places.specs.Places.{StreamPlacePromise, MessagePlacePromise};
 ghost use Rattle.c_bursts.specs.Bursts.{BurstPromise};
 ghost use Rattle.kaiverohm.specs.Exports.{SetupFromCPromise, ReadFromCPromise, AbandonStreamFromCPromise, AbandonMessageFromCPromise, WriteFromCPromise};
+ghost use Rattle.kaiverohm.specs.Exports.{StreamContextFromCPromise, MessageContextFromCPromise};
 
 // The words of a state.
 #[no_mangle]
@@ -31,7 +34,7 @@ pub extern "C" fn kaiverohm_setup(
 ) -> Numbers
     ensures { λ r. ⌜ SetupFromCPromise (now (state .entry)) device mtu room r (now (state .exit)) ⌝ }
 {
-    c_reports::of_setup(endpoint::setup(state, device, mtu, room))
+    c_answers::of_setup(endpoint::setup(state, device, mtu, room))
 }
 
 // Reads one packet.
@@ -75,12 +78,28 @@ pub extern "C" fn kaiverohm_read_burst(
     )
 }
 
+// What stream context n holds.
+#[no_mangle]
+pub extern "C" fn kaiverohm_stream_context(state: &[usize], n: usize) -> OpenStream
+    ensures { λ r. ⌜ StreamContextFromCPromise (now (state .entry)) n r ⌝ }
+{
+    c_contexts::of_stream(endpoint::stream_context(state, n))
+}
+
+// What message context n holds.
+#[no_mangle]
+pub extern "C" fn kaiverohm_message_context(state: &[usize], n: usize) -> OpenMessage
+    ensures { λ r. ⌜ MessageContextFromCPromise (now (state .entry)) n r ⌝ }
+{
+    c_contexts::of_message(endpoint::message_context(state, n))
+}
+
 // Gives the PDU of stream context n up.
 #[no_mangle]
 pub extern "C" fn kaiverohm_abandon_stream(state: &mut [usize], n: usize) -> Numbers
     ensures { λ r. ⌜ AbandonStreamFromCPromise (now (state .entry)) n r (now (state .exit)) ⌝ }
 {
-    c_reports::of_abandon(endpoint::abandon_stream(state, n))
+    c_answers::of_abandon(endpoint::abandon_stream(state, n))
 }
 
 // Gives the message of message context n up.
@@ -88,7 +107,7 @@ pub extern "C" fn kaiverohm_abandon_stream(state: &mut [usize], n: usize) -> Num
 pub extern "C" fn kaiverohm_abandon_message(state: &mut [usize], n: usize) -> Numbers
     ensures { λ r. ⌜ AbandonMessageFromCPromise (now (state .entry)) n r (now (state .exit)) ⌝ }
 {
-    c_reports::of_abandon(endpoint::abandon_message(state, n))
+    c_answers::of_abandon(endpoint::abandon_message(state, n))
 }
 
 // Where the first l bytes of stream context n's room lie, in a stream memory of that size.
@@ -126,5 +145,5 @@ pub extern "C" fn kaiverohm_write_segment(
 ) -> Numbers
     ensures { λ r. ⌜ WriteFromCPromise (now (out .entry)) heading mtu (now (pdu .entry)) number r (now (out .exit)) ⌝ }
 {
-    c_reports::of_writer(segments::write_segment(out, heading, mtu, pdu, number))
+    c_answers::of_writer(segments::write_segment(out, heading, mtu, pdu, number))
 }

@@ -16,7 +16,7 @@ fn any_bad_stream(state: &[usize], room: usize) -> bool
 {
     let mut i = 0;
     while i < contexts::STREAM_CONTEXTS {
-        if refusal19::bad_stream(stream_contexts::stream_at(state, i), room) {
+        if bad_streams::bad_stream(stream_contexts::stream_at(state, i), room) {
             return true;
         }
         i += 1;
@@ -31,7 +31,7 @@ fn any_bad_message(state: &[usize]) -> bool
 {
     let mut i = 0;
     while i < contexts::MESSAGE_CONTEXTS {
-        if refusal19::bad_message(message_contexts::message_at(state, i)) {
+        if bad_messages::bad_message(message_contexts::message_at(state, i)) {
             return true;
         }
         i += 1;
@@ -49,7 +49,7 @@ fn named_by_19(state: &[usize]) -> bool
     if sizes::bad_mtu(m) {
         return true;
     }
-    if refusal19::bad_room(m, r) {
+    if bad_streams::bad_room(m, r) {
         return true;
     }
     if any_bad_stream(state, r) {

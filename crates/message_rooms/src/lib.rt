@@ -52,7 +52,7 @@ fn keep(state: &mut [usize], m: MessageSegment, n: usize, marks: usize, last: us
             context: n,
             source: m.source,
             cos_or_letter: m.letter,
-            stream_or_mailbox: rules::mailbox_of(m),
+            stream_or_mailbox: message_rules::mailbox_of(m),
             length: m.msglen * sizes::bytes_of(m.ssize) + last,
         };
     }
@@ -96,5 +96,5 @@ pub fn place(
         &packet[wire::HEADER + 2..],
     );
     done(response, packet);
-    keep(state, m, n, with_this, rules::last_with(m, last))
+    keep(state, m, n, with_this, message_rules::last_with(m, last))
 }

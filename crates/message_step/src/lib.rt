@@ -41,7 +41,7 @@ fn take_alone(
         context: n,
         source: m.source,
         cos_or_letter: m.letter,
-        stream_or_mailbox: rules::mailbox_of(m),
+        stream_or_mailbox: message_rules::mailbox_of(m),
         length: m.raw,
     }
 }
@@ -58,7 +58,7 @@ fn take(
     ensures { λ r. ⌜ (messageJoining (telling r) (stateOf (now (state .exit))) (now (memory .exit)) (now (response .exit))
         ≡ messageStepped (stateOf (now (state .entry))) (now (memory .entry)) (now (response .entry)) (now (packet .entry)) m) × AllSet r false responseSize ⌝ }
 {
-    let number = rules::judge(m);
+    let number = message_rules::judge(m);
     if number != 0 {
         return message_rooms::refuse(response, packet, number, responses::ERROR);
     }

@@ -12,7 +12,7 @@ use Rattle.tables.specs.Refusals.{Verdict, refuse, accept, verdict, none}
 use Rattle.tables.proofs.Exactly.{none-held}
 use Rattle.cutting.specs.declared.Heading.{Heading}
 use Rattle.cutting.specs.Cutting.{packetOf}
-use Rattle.segments.specs.Writer.{Wrote, wroteBy, writerTable, writing, WritePromise}
+use Rattle.writing.specs.Writer.{Wrote, wroteBy, writerTable, writing, WritePromise}
 
 pub fits : (out : List ℕ) (h : Heading) (mtu : ℕ) (pdu : List ℕ) (k : ℕ) (r : Written) (after : List ℕ) (size : ℕ)
     → WritePromise out h mtu pdu k r after → r ≡ Length size

@@ -1,7 +1,7 @@
 -- A proof by computation looks through every definition of reading, cutting and writing: this names them all, once.
 use Rattle.reading.proofs.Computing.{reads}
 use Rattle.cutting.specs.Cutting.{segmentCount, segmentData, isFirst, isFinal, padOf, flagsOf, fieldOf, packetOf, badSize}
-use Rattle.segments.specs.Writer.{writerTable, writing}
+use Rattle.writing.specs.Writer.{writerTable, writing}
 
 unfoldable pub computing : Unit {0}
 unfolding reads segmentCount segmentData isFirst isFinal padOf flagsOf fieldOf packetOf badSize writerTable writing

@@ -5,9 +5,9 @@ use mathlib.Core.List.{List}
 use mathlib.Core.Bool.{Bool}
 use native.Mathlib.Omega.{arith}
 use Rattle.lists.proofs.Tests.{chosen}
-use Rattle.tables.specs.Refusals.{RowOf, Leaves, all, flowClosed, allERROR, allRETRY, VerdictOf, refuse, accept, verdict, Decides, none}
+use Rattle.tables.specs.Refusals.{RowOf, Leaves, all, flowClosed, allERROR, allRETRY, VerdictOf, refuse, accept, verdict, byVerdict, Decides, none}
 use Rattle.tables.proofs.Exactly.{answered, decided, accepted, none-held}
-use Rattle.answers.specs.Answers.{Said, held, refused, AbandonSaid, abandonRefused}
+use Rattle.answers.specs.Answers.{Said, held, refused, AbandonSaid, abandonRefused, StreamContextSaid, streamAskRefused, MessageContextSaid, messageAskRefused}
 use Rattle.wire.specs.Parsed.{Parsed}
 use Rattle.wire.specs.Parsed.{Refused, Stream, Message}
 use Rattle.wire.specs.Type9.{segmentOf}
@@ -26,9 +26,10 @@ use Rattle.reading.specs.Read.{Settled, refusing, accepting, outcome, reading}
 use Rattle.endpoint.specs.Calls.{setupTable, setupBy, setup}
 use Rattle.answers.specs.Stands.{Stands}
 use Rattle.abandoning.specs.Abandoning.{abandonTable, abandonBy, abandonStream, abandonMessage}
+use Rattle.asking.specs.Asking.{heldInStream, heldInMessage, askStream, askMessage}
 use Rattle.cutting.specs.Cutting.{packetOf}
-use Rattle.segments.specs.Writer.{writerTable, wroteBy, writing}
-use Rattle.promises.specs.ByTable.{ByTable, ReadingByTable, HeadByTable, SetupByTable, AbandonStreamByTable, AbandonMessageByTable, WriterByTable}
+use Rattle.writing.specs.Writer.{writerTable, wroteBy, writing}
+use Rattle.promises.specs.ByTable.{ByTable, ReadingByTable, HeadByTable, SetupByTable, AbandonStreamByTable, AbandonMessageByTable, AskStreamByTable, AskMessageByTable, WriterByTable}
 
 -- ---- The law: an outcome made from the verdict, where a refusal's outcome refuses by its own number and an accepted one by none
 
@@ -126,6 +127,22 @@ abandon-stream-by-table words k = abandoning words streamContexts k (isFreeStrea
 pub abandon-message-by-table : AbandonMessageByTable
 unfolding abandonMessage
 abandon-message-by-table words k = abandoning words messageContexts k (isFreeMessage (messageIn (stateOf words) k)) (withMessage (stateOf words) k closedMessage)
+
+pub ask-stream-by-table : AskStreamByTable
+unfolding askStream
+ask-stream-by-table words k =
+    by-table (abandonTable words streamContexts k) (λ (n : ℕ) (o : StreamContextSaid). o ≡ streamAskRefused n)
+    (byVerdict (λ (number : ℕ) (leaves : Leaves). streamAskRefused number) (heldInStream (streamIn (stateOf words) k))) (λ number leaves. refl) (λ n number leaves e. cc)
+    (λ n. chosen (λ (o : StreamContextSaid). o ≡ streamAskRefused n → ⊥) (isFreeStream (streamIn (stateOf words) k)) _ _ (λ e. let z : _≡_ {A = ℕ} 0 1 = cc in omega arith)
+    (λ e. let z : _≡_ {A = ℕ} 0 1 = cc in omega arith))
+
+pub ask-message-by-table : AskMessageByTable
+unfolding askMessage
+ask-message-by-table words k =
+    by-table (abandonTable words messageContexts k) (λ (n : ℕ) (o : MessageContextSaid). o ≡ messageAskRefused n)
+    (byVerdict (λ (number : ℕ) (leaves : Leaves). messageAskRefused number) (heldInMessage (messageIn (stateOf words) k))) (λ number leaves. refl) (λ n number leaves e. cc)
+    (λ n. chosen (λ (o : MessageContextSaid). o ≡ messageAskRefused n → ⊥) (isFreeMessage (messageIn (stateOf words) k)) _ _ (λ e. let z : _≡_ {A = ℕ} 0 1 = cc in omega arith)
+    (λ e. let z : _≡_ {A = ℕ} 0 1 = cc in omega arith))
 
 pub writer-by-table : WriterByTable
 unfolding writing

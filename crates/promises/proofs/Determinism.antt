@@ -9,11 +9,11 @@ use Rattle.answers.specs.declared.Reading.{Reading}
 use Rattle.answers.specs.declared.Abandoned.{Abandoned}
 use Rattle.answers.specs.Answers.{SetupSaid, AbandonSaid, saidOfAbandon}
 use Rattle.answers.specs.Once.{Outcome, OneOutcome}
-use Rattle.answers.proofs.Once.{said-once, setup-once, abandon-once, writer-once, both}
+use Rattle.answers.proofs.Once.{said-once, setup-once, abandon-once, stream-once, message-once, writer-once, both}
 use Rattle.reading.specs.Read.{Settled}
 use Rattle.answers.specs.Stands.{Stands, stands}
 use Rattle.room_parts.specs.Parts.{Part, IsPart}
-use Rattle.segments.specs.Writer.{Wrote}
+use Rattle.writing.specs.Writer.{Wrote}
 use Rattle.promises.specs.Determinism.{OneRoom, OneOutcomeEach}
 
 -- a reading is its answer, whether it dropped a PDU, and its count
@@ -45,6 +45,8 @@ one-outcome-each = record {
       (ap (λ (l : Settled). l .desk) e);
   abandon-stream = λ words n. abandoned _;
   abandon-message = λ words n. abandoned _;
+  stream-context = λ words n y z p q. stream-once y z (p ∙ sym q);
+  message-context = λ words n y z p q. message-once y z (p ∙ sym q);
   stream-room = λ words memory n l. room memory _;
   message-room = λ words memory n l. room memory _;
   segment-count = λ mtu size y z p q. p ∙ sym q;

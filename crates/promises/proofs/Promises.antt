@@ -19,7 +19,7 @@ use Rattle.demands.proofs.Witnesses.{calls-not-empty, allowed-not-empty, flows-
 use Rattle.sixteen.proofs.Sixteen.{sixteen-at-once, sixteen-delivered}
 use Rattle.promises.specs.Statements.{Promises}
 use Rattle.promises.specs.Witnesses.{PremisesCanBeMet}
-use Rattle.promises.proofs.ByTable.{reading-by-table, head-by-table, setup-by-table, abandon-stream-by-table, abandon-message-by-table, writer-by-table}
+use Rattle.promises.proofs.ByTable.{reading-by-table, head-by-table, setup-by-table, abandon-stream-by-table, abandon-message-by-table, ask-stream-by-table, ask-message-by-table, writer-by-table}
 use Rattle.promises.proofs.Responses.{responses-exactly}
 use Rattle.promises.proofs.GoodStates.{good-states-stay}
 use Rattle.promises.proofs.Determinism.{one-outcome-each}
@@ -45,6 +45,8 @@ promises = record {
   setup = setup-by-table;
   abandon-stream = abandon-stream-by-table;
   abandon-message = abandon-message-by-table;
+  ask-stream = ask-stream-by-table;
+  ask-message = ask-message-by-table;
   writer = writer-by-table;
   one-outcome = one-outcome-each;
   good-states = good-states-stay;

@@ -22,9 +22,11 @@ use Rattle.reading.specs.Read.{Settled, refusing, accepting, reading}
 use Rattle.endpoint.specs.Calls.{setupTable, setupLeaving, setup}
 use Rattle.answers.specs.Stands.{Stands, stands}
 use Rattle.abandoning.specs.Abandoning.{abandonTable, abandonStream, abandonMessage}
+use Rattle.answers.specs.Answers.{StreamContextSaid, streamAskRefused, MessageContextSaid, messageAskRefused}
+use Rattle.asking.specs.Asking.{heldInStream, heldInMessage, askStream, askMessage}
 use Rattle.cutting.specs.declared.Heading.{Heading}
 use Rattle.cutting.specs.Cutting.{packetOf}
-use Rattle.segments.specs.Writer.{Wrote, wroteOf, writerTable, writing}
+use Rattle.writing.specs.Writer.{Wrote, wroteOf, writerTable, writing}
 
 -- `refuses n o`: the outcome o refuses by number n; `refusing` is the table's last column, `accepting` what is left where no row's test holds
 pub record ByTable {O L : Type 0} (table : List (RowOf L)) (refuses : ℕ → O → Type 0) (refusing : ℕ → L → O) (accepting outcome : O) : Type 0 where
@@ -69,6 +71,19 @@ AbandonMessageByTable =
     (λ (n : ℕ) (l : Leaves). stands (abandonRefused n) words)
     (cond (isFreeMessage (messageIn (stateOf words) k)) (stands free words) (stands closed (wordsOf (withMessage (stateOf words) k closedMessage))))
     (abandonMessage words k)
+
+-- asking after a context, by the same table: nothing changes; else the answer says whether it is open, and what it holds
+abbrev pub AskStreamByTable : Type 0
+AskStreamByTable =
+    (words : List ℕ) (k : ℕ)
+    → ByTable (abandonTable words streamContexts k) (λ (n : ℕ) (o : StreamContextSaid). o ≡ streamAskRefused n) (λ (n : ℕ) (l : Leaves). streamAskRefused n)
+    (heldInStream (streamIn (stateOf words) k)) (askStream words k)
+
+abbrev pub AskMessageByTable : Type 0
+AskMessageByTable =
+    (words : List ℕ) (k : ℕ)
+    → ByTable (abandonTable words messageContexts k) (λ (n : ℕ) (o : MessageContextSaid). o ≡ messageAskRefused n) (λ (n : ℕ) (l : Leaves). messageAskRefused n)
+    (heldInMessage (messageIn (stateOf words) k)) (askMessage words k)
 
 -- the segment writer: a refusal changes no byte; success makes the packet of the layout, byte for byte, and changes only its bytes
 abbrev pub WriterByTable : Type 0

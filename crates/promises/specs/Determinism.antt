@@ -6,6 +6,8 @@ use denote.Ref.{RefT, now}
 use Rattle.answers.specs.declared.Reading.{Reading}
 use Rattle.answers.specs.declared.Begun.{Begun}
 use Rattle.answers.specs.declared.Abandoned.{Abandoned}
+use Rattle.answers.specs.declared.StreamAsked.{StreamAsked}
+use Rattle.answers.specs.declared.MessageAsked.{MessageAsked}
 use Rattle.answers.specs.declared.Written.{Written}
 use Rattle.answers.specs.Once.{Outcome, OneOutcome}
 use Rattle.reading.specs.Desk.{Desk}
@@ -13,9 +15,10 @@ use Rattle.reading.specs.Table.{Lent}
 use Rattle.reading.specs.Read.{ReadPromise}
 use Rattle.endpoint.specs.Calls.{SetupPromise, LengthPromise}
 use Rattle.abandoning.specs.Abandoning.{AbandonStreamPromise, AbandonMessagePromise}
+use Rattle.asking.specs.Asking.{StreamContextPromise, MessageContextPromise}
 use Rattle.room_parts.specs.Parts.{StreamRoomPromise, MessageRoomPromise}
 use Rattle.cutting.specs.declared.Heading.{Heading}
-use Rattle.segments.specs.Writer.{WritePromise, CountPromise}
+use Rattle.writing.specs.Writer.{WritePromise, CountPromise}
 
 -- a room that is handed back: its place in the caller's memory and its bytes
 abbrev pub OneRoom : (RefT (List ℕ) → Type 0) → Type 0
@@ -27,6 +30,8 @@ pub record OneOutcomeEach : Type 0 where
   pub read : (x : Lent) → OneOutcome (λ (y : Outcome Reading Desk). ReadPromise x (y .answer) (y .after))
   pub abandon-stream : (words : List ℕ) (n : ℕ) → OneOutcome (λ (y : Outcome Abandoned (List ℕ)). AbandonStreamPromise words n (y .answer) (y .after))
   pub abandon-message : (words : List ℕ) (n : ℕ) → OneOutcome (λ (y : Outcome Abandoned (List ℕ)). AbandonMessagePromise words n (y .answer) (y .after))
+  pub stream-context : (words : List ℕ) (n : ℕ) → OneOutcome (StreamContextPromise words n)
+  pub message-context : (words : List ℕ) (n : ℕ) → OneOutcome (MessageContextPromise words n)
   pub stream-room : (words : List ℕ) (memory : RefT (List ℕ)) (n l : ℕ) → OneRoom (StreamRoomPromise words memory n l)
   pub message-room : (words : List ℕ) (memory : RefT (List ℕ)) (n l : ℕ) → OneRoom (MessageRoomPromise words memory n l)
   pub segment-count : (mtu size : ℕ) → OneOutcome (CountPromise mtu size)

@@ -20,7 +20,7 @@ use Rattle.calls.specs.Rooms.{RoomOfDelivered}
 use Rattle.demands.specs.Demands.{OursMeets, OurWriterMeets}
 use Rattle.demands.specs.OfCalls.{Demand2OfCalls, Demand3OfCalls, Demand3AnyLoss, Corollary3}
 use Rattle.demands.specs.Impostors.{ImpostorsBreak}
-use Rattle.promises.specs.ByTable.{ReadingByTable, HeadByTable, SetupByTable, AbandonStreamByTable, AbandonMessageByTable, WriterByTable}
+use Rattle.promises.specs.ByTable.{ReadingByTable, HeadByTable, SetupByTable, AbandonStreamByTable, AbandonMessageByTable, AskStreamByTable, AskMessageByTable, WriterByTable}
 use Rattle.promises.specs.Responses.{ResponsesExactly}
 use Rattle.promises.specs.GoodStates.{GoodStatesStay}
 use Rattle.promises.specs.Determinism.{OneOutcomeEach}
@@ -38,6 +38,8 @@ pub record Promises : Type 0 where
   pub setup : SetupByTable
   pub abandon-stream : AbandonStreamByTable
   pub abandon-message : AbandonMessageByTable
+  pub ask-stream : AskStreamByTable
+  pub ask-message : AskMessageByTable
   pub writer : WriterByTable
   -- any two outcomes that a call's promise allows are one
   pub one-outcome : OneOutcomeEach

@@ -26,7 +26,7 @@ use Rattle.cutting.specs.declared.Heading.{Heading}
 use Rattle.cutting.specs.Cutting.{segmentCount, segmentData, isFirst, isFinal, padOf, flagsOf, fieldOf, packetOf}
 use Rattle.sizes.proofs.Laws.{mtu-fits}
 use Rattle.cutting.proofs.Pad.{length-pad}
-use Rattle.segments.proofs.Sizes.{begins, length-data}
+use Rattle.writing.proofs.Sizes.{begins, length-data}
 use Rattle.sending.specs.Segment.{cutSegment, headingFlow, segmentFor, InRange, SegmentsReadBack}
 use Rattle.sending.proofs.Fields.{bytes-append, bytes-data, bytes-field, bytes-pad, bytes-seven, first-byte, flags-of, last-zero, pad-zero, pdu-length-back, two-bytes, two-bytes-mod}
 

@@ -22,7 +22,7 @@ use Rattle.wire.specs.Parsed.{Stream}
 use Rattle.wire.specs.Parsed.{parsed}
 use Rattle.stream_rooms.specs.Placing as placing
 use Rattle.cutting.specs.Cutting.{segmentCount, segmentData, isFirst, isFinal, packetOf}
-use Rattle.segments.proofs.Sizes.{length-data}
+use Rattle.writing.proofs.Sizes.{length-data}
 use Rattle.refusal19.specs.Refusal19.{badRoom}
 use Rattle.contexts.specs.State.{Setup}
 use Rattle.flows.specs.OneFlow.{PDU, pdu, held, delivered, refused, FlowOutcome, flowOutcome, isOpen, flowStep}

@@ -19,11 +19,11 @@ pub fn step(state: &mut [usize], memory: &mut [u8], packet: &[u8]) -> Figures
     let flow = wire::flow_of(packet);
     let found = finding::find_stream(state, flow);
     let raw = packet.len() - from;
-    if rules::is_wrong_form(raw, flags) {
+    if stream_rules::is_wrong_form(raw, flags) {
         return stream_rooms::refused_closing(state, found, 6);
     }
     let count = sizes::data_length(raw, flags);
-    if rules::is_wrong_size(flags, count, contexts::mtu(state)) {
+    if stream_rules::is_wrong_size(flags, count, contexts::mtu(state)) {
         return stream_rooms::refused_closing(state, found, 7);
     }
     if wire::bit(flags, 128) {

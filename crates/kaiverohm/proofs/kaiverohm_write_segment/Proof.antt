@@ -1,7 +1,7 @@
 -- `kaiverohm_write_segment` meets its contract: what the segment writer promises, its answer as numbers.
 use mathlib.Core.Path.{ap, _∙_}
 use borrow.Author.Needs.{needs}
-use Rattle.segments.specs.Writer.{Wrote}
+use Rattle.writing.specs.Writer.{Wrote}
 use Rattle.c_reports.specs.Reports.{numbersOfWriter}
 use Rattle.kaiverohm.proofs.kaiverohm_write_segment.Statement.{statement}
 use Rattle.kaiverohm.proofs.kaiverohm_write_segment.Tie as tie

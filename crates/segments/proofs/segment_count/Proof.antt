@@ -1,9 +1,9 @@
 -- `segments::segment_count` meets its contract: by its two tests. What they leave is what `count_of` requires.
-use Rattle.segments.specs.Writer.{countToWrite}
+use Rattle.writing.specs.Writer.{countToWrite}
 use mathlib.Core.Path.{sym, _∙_}
 use native.Mathlib.Omega.{arith}
 use Rattle.sizes.proofs.Laws.{mtu-fits}
-use Rattle.segments.proofs.Sizes.{good-size}
+use Rattle.writing.proofs.Sizes.{good-size}
 use borrow.Author.Needs.{needs}
 use Rattle.segments.proofs.segment_count.Statement.{statement}
 use Rattle.segments.proofs.segment_count.Tie as tie

@@ -1,12 +1,12 @@
 -- `segments::write_segment` meets its contract: the nested form of the writer's table has the code's tests in their order. What they leave is what the callees require.
-use Rattle.segments.proofs.Nested.{nested}
+use Rattle.writing.proofs.Nested.{nested}
 use borrow.Author.Tests.{le-ltb, lt-ltb}
 use Prim.Native.Nat.{_≤_}
 use mathlib.Core.Path.{sym, _∙_}
 use lib.ListN.{length}
 use native.Mathlib.Omega.{arith}
 use Rattle.sizes.proofs.Laws.{mtu-fits}
-use Rattle.segments.proofs.Sizes.{good-size}
+use Rattle.writing.proofs.Sizes.{good-size}
 use borrow.Author.Needs.{needs}
 use Rattle.segments.proofs.write_segment.Statement.{statement}
 use Rattle.segments.proofs.write_segment.Tie as tie

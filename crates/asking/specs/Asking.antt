@@ -1,0 +1,38 @@
+-- Asking after a context: refused as abandoning it is (document 01, 'Refusal numbers', 19, 12 and 13); else whether it is open, and what it holds.
+use Prim.Native.Nat.{ℕ}
+use mathlib.Core.Path.{_≡_}
+use mathlib.Core.List.{List}
+use mathlib.Core.Bool.{cond}
+use Rattle.tables.specs.Refusals.{Leaves, verdict, byVerdict}
+use Rattle.answers.specs.Answers.{StreamContextSaid, streamOpen, streamFree, streamAskRefused, saidOfStream}
+use Rattle.answers.specs.Answers.{MessageContextSaid, messageOpen, messageFree, messageAskRefused, saidOfMessage}
+use Rattle.answers.specs.declared.StreamAsked.{StreamAsked}
+use Rattle.answers.specs.declared.MessageAsked.{MessageAsked}
+use Rattle.sizes.specs.Sizes.{bytesOf}
+use Rattle.contexts.specs.declared.StreamContext.{StreamContext}
+use Rattle.contexts.specs.declared.MessageContext.{MessageContext}
+use Rattle.contexts.specs.State.{streamIn, messageIn, isFreeStream, isFreeMessage, streamContexts, messageContexts}
+use Rattle.contexts.specs.Words.{stateOf}
+use Rattle.abandoning.specs.Abandoning.{abandonTable}
+
+-- what a context holds; the size of a segment in bytes, not its code
+abbrev pub heldInStream : StreamContext → StreamContextSaid
+heldInStream c = cond (isFreeStream c) streamFree (streamOpen (c .flow) (c .stream) (c .held))
+
+abbrev pub heldInMessage : MessageContext → MessageContextSaid
+heldInMessage c =
+    cond (isFreeMessage c) messageFree (messageOpen (c .source) (c .letter) (c .mbox) (c .msglen) (bytesOf (c .ssize)) (c .marks) (c .last))
+
+unfoldable pub askStream : List ℕ → ℕ → StreamContextSaid
+askStream words n =
+    byVerdict (λ (number : ℕ) (leaves : Leaves). streamAskRefused number) (heldInStream (streamIn (stateOf words) n)) (verdict (abandonTable words streamContexts n))
+
+unfoldable pub askMessage : List ℕ → ℕ → MessageContextSaid
+askMessage words n =
+    byVerdict (λ (number : ℕ) (leaves : Leaves). messageAskRefused number) (heldInMessage (messageIn (stateOf words) n)) (verdict (abandonTable words messageContexts n))
+
+abbrev pub StreamContextPromise : List ℕ → ℕ → StreamAsked → Type 0
+StreamContextPromise words n r = saidOfStream r ≡ askStream words n
+
+abbrev pub MessageContextPromise : List ℕ → ℕ → MessageAsked → Type 0
+MessageContextPromise words n r = saidOfMessage r ≡ askMessage words n
