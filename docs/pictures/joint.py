@@ -1,9 +1,11 @@
 #!/usr/bin/env python3
 """Writes docs/joint.svg, the picture of docs/JOINT.md: document 01's example 9, from what is sent to what is judged.
 
-Run it from anywhere: python3 docs/pictures/joint.py
+    docs/pictures/joint.py           writes the picture
+    docs/pictures/joint.py --check   ends with 1 if the picture is another
 """
 import pathlib
+import sys
 
 WIDTH, HEIGHT = 900, 520
 INK, SOFT, LOSS, PANEL, EDGE = "#22272e", "#5c6670", "#b3261e", "#fdfcf8", "#c9c6bb"
@@ -106,7 +108,10 @@ def picture():
     return "\n".join(parts) + "\n"
 
 
-if __name__ == "__main__":
-    target = pathlib.Path(__file__).resolve().parent.parent / "joint.svg"
-    target.write_text(picture(), encoding="utf-8")
-    print(f"wrote {target.name}")
+stored = pathlib.Path(__file__).resolve().parent.parent / "joint.svg"
+if sys.argv[1:] == ["--check"]:
+    if stored.read_text(encoding="utf-8") != picture():
+        raise SystemExit("joint.py: docs/joint.svg is another picture")
+    print("joint: the picture is what its script draws")
+else:
+    stored.write_text(picture(), encoding="utf-8")

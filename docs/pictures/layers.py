@@ -1,71 +1,93 @@
 #!/usr/bin/env python3
-"""Writes docs/layers.svg, the picture of docs/ARCHITECTURE.md: the crates as layers. It stops if crates.txt has another set of crates,
-if a crate stands on one in its own layer or above, or if docs/ARCHITECTURE.md does not speak of it.
+"""Writes docs/layers.svg, the picture of docs/ARCHITECTURE.md: the crates as layers. What stands where follows from crates.txt: a crate's
+heading there is its column, and it stands below every crate that uses it. It stops if docs/ARCHITECTURE.md does not speak of a crate.
 
     docs/pictures/layers.py           writes the picture
     docs/pictures/layers.py --check   ends with 1 if the picture is another
 """
 import pathlib
+import re
 import sys
 
 ROOT = pathlib.Path(__file__).resolve().parents[2]
 
-# Rows from above. A crate: from which of twelve columns on, and over how many. Below it in its columns stands much of what it uses;
-# it uses nothing beside or above it.
-ROWS = [
-    {"c_promises": (9.2, 2.8)},
-    {"tour": (0, 1.4), "outside_responses": (1.4, 2.2), "outside_segments": (3.6, 2.2), "racklog": (5.8, 1.4), "outside_logs": (7.2, 1.8), "promises": (9.2, 2.8)},
-    {"kaiverohm": (0, 5.8), "log_print": (5.8, 3.2), "demands": (9.2, 1.4), "mailing": (10.6, 1.4)},
-    {"c_runs": (0, 1.6), "c_places": (1.6, 1.6), "c_answers": (3.2, 1.6), "printing": (4.8, 1), "log_writer": (5.8, 1), "log_run": (6.8, 2.2), "calls": (9.2, 1.4), "sixteen": (10.6, 1.4)},
-    {"c_loops": (0, 4.8), "segments": (4.8, 2), "log_pieces": (6.8, 2.2), "sending": (9.2, 1.4), "paper_examples": (10.6, 1.4)},
-    {"c_bursts": (0, 2.4), "endpoint": (2.4, 2.4), "fitting": (4.8, 2), "log_reader": (6.8, 2.2), "flows": (9.2, 2.8)},
-    {"packets": (0, 1.6), "room_parts": (1.6, 1.6), "asking": (3.2, 1.6), "segment_head": (4.8, 1.1), "writing": (5.9, 0.9), "log_records": (6.8, 1.1), "log_lines": (7.9, 1.1)},
-    {"stream_step": (0, 1.2), "message_step": (1.2, 1.3), "reading": (2.5, 1), "abandoning": (3.5, 1.3), "c_reports": (4.8, 1), "c_contexts": (5.8, 1)},
-    {"continuing": (0, 1.6), "beginning": (1.6, 1.6), "choosing": (3.2, 1.6)},
-    {"ending": (0, 1.6)},
-    {"placing": (0, 1.6), "streams": (1.6, 1.6), "messages": (3.2, 1.6)},
-    {"stream_rooms": (0, 2.4), "message_rooms": (2.4, 2.4)},
-    {"lent_state": (0, 1.4), "finding": (1.4, 1), "message_rules": (2.4, 1.3), "stream_rules": (3.7, 1.1)},
-    {"bad_streams": (0, 1.1), "bad_messages": (1.1, 1.3), "stream_contexts": (2.4, 1.2), "message_contexts": (3.6, 1.2)},
-    {"refusal19": (0, 4.8)},
-    {"contexts": (0, 1), "marks": (1, 0.8), "rules": (1.8, 0.8), "heads": (2.6, 0.9), "responses": (3.5, 1.3), "cutting": (4.8, 2)},
-    {"sizes": (0, 6.8), "answers": (9.2, 2.8)},
-    {"wire": (0, 6.8)},
-    {"tables": (0, 9)},
-    {"lists": (0, 9)},
-]
-HEADS = [(0, 4.8, "reading packets"), (4.8, 2, "writing segments"), (6.8, 2.2, "the log"), (9.2, 2.8, "theorems")]
-PUBLIC = {"endpoint", "abandoning", "asking", "room_parts", "segments", "log_records", "log_lines", "log_pieces", "log_run", "log_reader", "log_writer", "kaiverohm"}
-THEOREMS = {"promises", "c_promises", "demands", "calls", "sixteen", "sending", "mailing", "paper_examples", "flows", "streams", "messages", "rules", "refusal19", "writing", "tables"}
-PROGRAMS = {"racklog", "tour", "outside_logs", "outside_responses", "outside_segments"}
+# The headings of crates.txt. Five are columns: from where on, and how wide. Two are bands over all columns, one above and one below.
+COLUMNS = {"Reading packets": (0, 440), "Writing segments": (448, 130), "The log": (586, 170), "From C": (764, 110), "Theorems": (882, 212)}
+BANDS = ("Programs", "The ground")
 
-WIDTH, ROW, TOP, LEFT, COLUMN = 900, 46, 48, 18, 72
-INK, SOFT, PANEL, EDGE = "#22272e", "#5c6670", "#fdfcf8", "#c9c6bb"
+WIDTH, ROW, TOP, LEFT, HEAD, GAP = 1130, 42, 14, 18, 26, 8  # HEAD: the height of a heading; GAP: between two groups of rows
+INK, SOFT, PANEL, EDGE, FIELD = "#22272e", "#5c6670", "#fdfcf8", "#c9c6bb", "#f3f1e9"
 CODE = ("#e9e6dc", "#8a8674")
 CALLS = ("#cfe3f7", "#2b6cb0")
 PROVED = ("#d9ecd5", "#3f7d3a")
 RUN = ("#fbe0bd", "#b7651b")
 
 
+def read(path):
+    return (ROOT / path).read_text(encoding="utf-8")
+
+
+# Each crate with those that it uses, and with its heading, in the order of crates.txt.
+USES, HEADING = {}, {}
+heading = ""
+for line in read("crates.txt").splitlines():
+    if line.startswith("# "):
+        heading = line[2:]
+    name, colon, deps = line.split("#")[0].partition(":")
+    if colon:
+        USES[name.strip()], HEADING[name.strip()] = deps.split(), heading
+
+PUBLIC = set(re.findall(r'"(\w+)"', re.search(r"^USERS = \[(.*)\]$", read("tools/trace"), re.M)[1]))
+
+
 def colour(crate):
-    return CALLS if crate in PUBLIC else PROVED if crate in THEOREMS else RUN if crate in PROGRAMS else CODE
+    source = ROOT / "crates" / crate / "src"
+    if (source / "main.rt").exists():
+        return RUN
+    if crate in PUBLIC:
+        return CALLS
+    return CODE if re.search(r"^(pub )?fn ", (source / "lib.rt").read_text(encoding="utf-8"), re.M) else PROVED
+
+
+def depth(crate, among):
+    """How many layers of these crates it needs below it."""
+    return 1 + max((depth(other, among) for other in USES[crate] if other in among), default=-1)
+
+
+def rows(headings):
+    """The rows from above, each a list of crates for each heading. A crate stands as high as those that use it and the width of its column
+    allow; first come those that need the most layers below."""
+    left = {crate: depth(crate, {c for c in USES if HEADING[c] in headings}) for crate in USES if HEADING[crate] in headings}
+    out = []
+    for level in range(max(left.values()), -1, -1):
+        free = [crate for crate in left if not any(crate in USES[other] for other in left)]
+        row = {}
+        for crate in sorted(free, key=lambda crate: -left[crate]):
+            beside = row.setdefault(HEADING[crate], [])
+            if left[crate] >= level or not beside or sum(map(wants, [*beside, crate])) <= headings[HEADING[crate]][1]:
+                beside.append(crate)
+        for crates in row.values():
+            crates.sort(key=list(USES).index)
+            for crate in crates:
+                del left[crate]
+        out.append(row)
+    return out
+
+
+def wants(crate):
+    """How wide its box should be."""
+    return 7.4 * len(crate) + 24
 
 
 def test():
-    below = {}
-    for line in (ROOT / "crates.txt").read_text(encoding="utf-8").splitlines():
-        name, colon, deps = line.split("#")[0].partition(":")
-        if colon:
-            below[name.strip()] = deps.split()
-    place = {crate: i for i, crates in enumerate(ROWS) for crate in crates}
-    if set(place) != set(below):
-        raise SystemExit(f"layers.py: not the crates of crates.txt: {sorted(set(place) ^ set(below))}")
-    for crate, deps in below.items():
-        for dep in deps:
-            if dep in place and place[dep] <= place[crate]:
-                raise SystemExit(f"layers.py: {crate} stands on {dep}, which is not below it")
-    page = (ROOT / "docs" / "ARCHITECTURE.md").read_text(encoding="utf-8")
-    for crate in below:
+    for crate, heading in HEADING.items():
+        if heading not in COLUMNS and heading not in BANDS:
+            raise SystemExit(f"layers.py: {crate} stands in crates.txt under '{heading}', which is no column here")
+        for other in USES[crate]:
+            if HEADING.get(other) == BANDS[0] != heading or heading == BANDS[1] != HEADING.get(other, heading):
+                raise SystemExit(f"layers.py: {crate} uses {other}, which is not below it")
+    page = read("docs/ARCHITECTURE.md")
+    for crate in USES:
         if f"**`{crate}`**" not in page:
             raise SystemExit(f"layers.py: docs/ARCHITECTURE.md does not speak of {crate}")
 
@@ -74,28 +96,45 @@ def text(x, y, words, size=14, fill=INK, anchor="middle", weight="normal"):
     return f'<text x="{x:g}" y="{y:g}" font-size="{size}" fill="{fill}" text-anchor="{anchor}" font-weight="{weight}">{words}</text>'
 
 
-def box(x, y, width, pair, words):
-    fill, line = pair
-    return [f'<rect x="{x:g}" y="{y:g}" width="{width:g}" height="{ROW - 10}" rx="5" fill="{fill}" stroke="{line}" stroke-width="1.5"/>',
-            text(x + width / 2, y + 23, words)]
+def panel(x, y, width, height, words):
+    """A field with a heading, behind the boxes of a column or a band."""
+    return [f'<rect x="{x:g}" y="{y:g}" width="{width:g}" height="{height:g}" rx="7" fill="{FIELD}"/>',
+            text(x + width / 2, y + 19, words.lower().replace("from c", "from C"), 14, SOFT, weight="bold")]
+
+
+def boxes(x, y, width, crates):
+    """The crates of a row side by side."""
+    parts, whole = [], sum(map(wants, crates))
+    for crate in crates:
+        own, (fill, line) = width * wants(crate) / whole, colour(crate)
+        parts += [f'<rect x="{x + 4:.1f}" y="{y:g}" width="{own - 8:.1f}" height="{ROW - 8}" rx="5" fill="{fill}" stroke="{line}" stroke-width="1.5"/>',
+                  text(round(x + own / 2, 1), y + 22, crate)]
+        x += own
+    return parts
 
 
 def picture():
-    height = TOP + len(ROWS) * ROW + 44
-    parts = [f'<svg xmlns="http://www.w3.org/2000/svg" viewBox="0 0 {WIDTH} {height}" font-family="Helvetica, Arial, sans-serif" role="img" '
-             f'aria-label="The crates as layers, from lists at the bottom to the programs and the page of promises at the top">',
-             f'<rect x="1" y="1" width="{WIDTH - 2}" height="{height - 2}" rx="10" fill="{PANEL}" stroke="{EDGE}"/>']
-    for start, width, words in HEADS:
-        parts.append(text(LEFT + (start + width / 2) * COLUMN, 30, words, 14, SOFT, weight="bold"))
-    for i, crates in enumerate(ROWS):
-        for crate, (start, width) in crates.items():
-            parts += box(LEFT + start * COLUMN + 3, TOP + i * ROW, width * COLUMN - 6, colour(crate), crate)
-    y = height - 32
+    across = (0, WIDTH - 2 * LEFT)
+    parts, y = [], TOP
+    for headings in ({BANDS[0]: across}, COLUMNS, {BANDS[1]: across}):
+        layers = rows(headings)
+        for heading, (x, width) in headings.items():
+            parts += panel(LEFT + x, y, width, HEAD + len(layers) * ROW, heading)
+        for k, row in enumerate(layers):
+            for heading, crates in row.items():
+                x, width = headings[heading]
+                parts += boxes(LEFT + x, y + HEAD + k * ROW, width, crates)
+        y += HEAD + len(layers) * ROW + GAP
     for k, (pair, words) in enumerate([(CALLS, "public functions"), (CODE, "code with contracts"), (PROVED, "theorems, no code"), (RUN, "programs")]):
-        x = LEFT + 3 + k * 180
-        parts += [f'<rect x="{x}" y="{y}" width="18" height="18" rx="3" fill="{pair[0]}" stroke="{pair[1]}" stroke-width="1.5"/>',
-                  text(x + 26, y + 14, words, 13, SOFT, "start")]
-    return "\n".join(parts + ["</svg>"]) + "\n"
+        x = LEFT + 4 + k * 190
+        parts += [f'<rect x="{x}" y="{y + 4}" width="18" height="18" rx="3" fill="{pair[0]}" stroke="{pair[1]}" stroke-width="1.5"/>',
+                  text(x + 26, y + 18, words, 13, SOFT, "start")]
+    height = y + 34
+    head = [f'<svg xmlns="http://www.w3.org/2000/svg" viewBox="0 0 {WIDTH} {height}" font-family="Helvetica, Arial, sans-serif" role="img" '
+            f'aria-label="The crates as layers, from lists at the bottom to the programs at the top; columns for reading packets, writing segments, '
+            f'the log, C and theorems">',
+            f'<rect x="1" y="1" width="{WIDTH - 2}" height="{height - 2}" rx="10" fill="{PANEL}" stroke="{EDGE}"/>']
+    return "\n".join(head + parts + ["</svg>"]) + "\n"
 
 
 test()

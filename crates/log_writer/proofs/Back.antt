@@ -12,7 +12,7 @@ use Rattle.lists.specs.Bytes.{written}
 use Rattle.lists.proofs.Written.{written-front}
 use Rattle.answers.specs.Answers.{wrote}
 use Rattle.tables.specs.Refusals.{row, all, verdict}
-use Rattle.segments.specs.Writer.{wroteBy}
+use Rattle.writing.specs.Writer.{wroteBy}
 use Rattle.log_records.specs.declared.Next.the-variants.{Record}
 use Rattle.log_records.specs.Records.{nextRecord}
 use Rattle.log_records.specs.Written.{lengthBytes, writtenRecord}

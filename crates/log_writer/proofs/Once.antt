@@ -1,7 +1,7 @@
 -- Each promise is an equation with one side that the inputs fix, so two outcomes are equal.
 use mathlib.Core.Path.{ap, sym, _∙_}
 use Rattle.answers.proofs.Once.{writer-once, both}
-use Rattle.segments.specs.Writer.{Wrote}
+use Rattle.writing.specs.Writer.{Wrote}
 use Rattle.log_writer.specs.Writing.{WriteRecordOnce, RecordLengthOnce}
 
 pub write-record-once : WriteRecordOnce

@@ -10,7 +10,7 @@ use Rattle.answers.specs.declared.Written.{Written}
 use Rattle.answers.specs.Answers.{wrote, saidOfWriter}
 use Rattle.answers.specs.Once.{Outcome, OneOutcome}
 use Rattle.tables.specs.Refusals.{Row, row, all, verdict}
-use Rattle.segments.specs.Writer.{Wrote, wroteOf, wroteBy}
+use Rattle.writing.specs.Writer.{Wrote, wroteOf, wroteBy}
 use Rattle.log_records.specs.declared.Next.the-variants.{Record}
 use Rattle.log_records.specs.Records.{nextRecord}
 use Rattle.log_records.specs.Written.{lengthBytes, writtenRecord}

@@ -1,7 +1,7 @@
 -- `kaiverohm_write_record` meets its contract: what the record's writer promises, its answer as numbers.
 use mathlib.Core.Path.{ap, _∙_}
 use borrow.Author.Needs.{needs}
-use Rattle.segments.specs.Writer.{Wrote}
+use Rattle.writing.specs.Writer.{Wrote}
 use Rattle.c_reports.specs.Reports.{numbersOfWriter}
 use Rattle.kaiverohm.proofs.kaiverohm_write_record.Statement.{statement}
 use Rattle.kaiverohm.proofs.kaiverohm_write_record.Tie as tie
