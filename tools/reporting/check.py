@@ -158,8 +158,8 @@ def check_tries():
         check_case(case)
     tried = 0
     for pattern in tries.patterns():
-        arrived = list(tries.sent(pattern))
-        story = followed(str(pattern), tries.log_of([one[0] for one in arrived]), tries.answered(arrived))
+        arrived = tries.sent(pattern)
+        story = followed(str(pattern), tries.log_of([one.packet for one in arrived]), tries.answered(arrived))
         check_true(pattern, Losses(story))
         tried += 1
     return len(tries.CASES), tried

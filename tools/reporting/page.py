@@ -31,7 +31,7 @@ a { color: var(--link); } .soft { color: var(--soft); } .bad { color: var(--loss
 .nav a { margin-right: 0.8em; display: inline-block; padding: 0.15em 0; }
 .wide { overflow-x: auto; } .long { max-height: 30em; overflow: auto; border: 1px solid var(--edge); } .long thead th { position: sticky; top: 0; }
 table { border-collapse: collapse; } th, td { border: 1px solid var(--edge); padding: 0.25em 0.6em; text-align: left; vertical-align: top; }
-th { background: var(--head); } td.n { text-align: right; font-variant-numeric: tabular-nums; } tr.hurt td { color: var(--loss); } tr.hurt td:first-child { font-weight: bold; }
+th { background: var(--head); } td.n { text-align: right; font-variant-numeric: tabular-nums; } td.one { white-space: nowrap; } td.hot { color: var(--loss); font-weight: bold; }
 .strip { display: flex; background: var(--panel); border: 1px solid var(--edge); border-radius: 6px; margin: 0.5em 0; padding: 4px 0; }
 .strip svg { display: block; height: auto; } .names { flex: none; } .scroll { overflow-x: auto; } .scroll svg { width: 100%; }
 .legend svg { width: 1.2em; height: 1.2em; vertical-align: -0.25em; margin-left: 0.6em; }
@@ -126,14 +126,15 @@ class Parts:
 
     def overview(self):
         """A row for each part. The lost scans of a part, each with a link to its sentence."""
-        rows = []
+        rows, mail = [], self.story.count("msg") > 0
         for part in range(self.count):
             name = link(self.place(self.bounds(part)[0]), self.name(part)) if part < self.drawn else self.name(part)
             numbers = [link(f"lost-{n}", str(n)) for n in self.lost[part][:MOST_LINKS]]
-            more = [f"and {len(self.lost[part]) - MOST_LINKS:,} more"] if len(self.lost[part]) > MOST_LINKS else []
-            rows.append(f'<tr{" class=hurt" if self.lost[part] else ""}><td>{name}</td>' + cell(self.of("pdu", part)) + cell(len(self.lost[part]))
-                        + f"<td>{' '.join(numbers + more)}</td>" + cell(self.of("refused", part)) + cell(self.of("msg", part)) + "</tr>")
-        return table(("records", "whole PDUs", "lost scans", "their numbers", "refused", "messages"), rows, "Overview")
+            more = [f"and {len(self.lost[part]) - MOST_LINKS} more"] if len(self.lost[part]) > MOST_LINKS else []
+            count = len(self.lost[part])
+            rows.append(f'<tr><td class="one">{name}</td>' + cell(self.of("pdu", part)) + f'<td class="n{" hot" if count else ""}">{count or "–"}</td>'
+                        + f"<td>{' '.join(numbers + more)}</td>" + cell(self.of("refused", part)) + (cell(self.of("msg", part)) if mail else "") + "</tr>")
+        return table(("records", "whole PDUs", "lost scans", "their numbers", "refused", *["messages"] * mail), rows, "Overview")
 
     def strip(self, number):
         height = self.picture.height(number)
@@ -178,8 +179,8 @@ def report(story, name):
     shown = [one for one in words.tables(story, losses) if one.rows]
     absent = [one.heading for one in words.tables(story, losses) if not one.rows]
     title = html.escape(f"Report of {name}")
-    ways = [("picture", "picture")] if parts else []
-    ways = ([("overview", "overview")] if parts and parts.count > 1 else []) + ways + [(one.name, one.heading.lower()) for one in shown]
+    ways = [("picture", "Picture")] if parts else []
+    ways = ([("overview", "Overview")] if parts and parts.count > 1 else []) + ways + [(one.name, one.heading) for one in shown]
     out = ["<!DOCTYPE html>", '<html lang="en"><head><meta charset="utf-8">', '<meta name="viewport" content="width=device-width, initial-scale=1">',
            f"<title>{title}</title>", f"<style>{STYLE}</style></head><body>", f"<h1>{title}</h1>",
            f'<p{"" if story.clean else " class=bad"}>{html.escape(words.ending(story))} {words.SETUP}</p>',

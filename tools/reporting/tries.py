@@ -38,6 +38,7 @@ def scan(stream, size, flow=(2, 5), first=0, last=None):
 Case = collections.namedtuple("Case", "name packets answers heading lost others never", defaults=((), ()))
 
 NONE = "No lost scan shows"
+GAP = "No lost scan shows, but stream numbers are missing"
 TWO = "Each could be a joint"
 WAITS = [packet("start", 900 + n, MTU, (100 + n, 1)) for n in range(16)]
 
@@ -96,10 +97,13 @@ CASES = [
          "held, " * 64 + "refused 9 dropped, refused 8, pdu 2 5 3 3", "At least 2 scans were lost", ["stream 1 (before stream 3) lost its end", "a scan between streams 1 and 3 lost its start"]),
     Case("unfinished", scan(1, 3) + scan(2, 96, last=2), "pdu 2 5 1 3, held, held", NONE, [],
          ["1 scan unfinished", "stream 2 (behind stream 1) has no end yet. 2 packets of it came (records 2 and 3)"]),
-    Case("a gap behind two packets", scan(1, 40) + scan(2, 40) + scan(4, 40), "held, pdu 2 5 1 40, held, pdu 2 5 2 40, held, pdu 2 5 4 40", NONE, [],
-         ["Board 2, cos 5: behind stream 2 came 4. If this board counts its scans so, 3 is missing. All its packets were lost. Or an end of theirs was joined "
-          "to the start of 2: judge 2 only if"]),
-    Case("a gap behind a single", scan(1, 3) + scan(2, 3) + scan(4, 3), "pdu 2 5 1 3, pdu 2 5 2 3, pdu 2 5 4 3", NONE, [], ["3 is missing. All its packets were lost. Do not"], [TWO]),
+    Case("a gap behind two packets", scan(1, 40) + scan(2, 40) + scan(4, 40), "held, pdu 2 5 1 40, held, pdu 2 5 2 40, held, pdu 2 5 4 40", GAP, [],
+         ["Board 2, cos 5: behind stream 2 came 4. If this board counts its scans so, 3 is missing (no packet says so). All packets were lost; or its end "
+          "came and was joined to the start of 2, and what was delivered as 2 is two halves: judge that only if"]),
+    Case("a gap and a lost start in it", scan(1, 3) + scan(2, 3) + scan(4, 40, first=1) + scan(5, 3), "pdu 2 5 1 3, pdu 2 5 2 3, refused 8, pdu 2 5 5 3",
+         "At least 1 scan was lost", ["a scan between streams 2 and 5 lost its start"],
+         ["3 to 4 are missing (1 of them among the lost above, 1 without a packet). Do not judge the wheels of 3 to 4."], [TWO]),
+    Case("a gap behind a single", scan(1, 3) + scan(2, 3) + scan(4, 3), "pdu 2 5 1 3, pdu 2 5 2 3, pdu 2 5 4 3", GAP, [], ["3 is missing (no packet says so). Do not"], [TWO, "joined"]),
     Case("streams that do not count", scan(9, 3) + scan(4, 3) + scan(6, 3), "pdu 2 5 9 3, pdu 2 5 4 3, pdu 2 5 6 3", NONE, [], [], ["missing scan is", "is missing"]),
     Case("streams that go round", scan(65534, 3) + scan(65535, 3) + scan(0, 3), "pdu 2 5 65534 3, pdu 2 5 65535 3, pdu 2 5 0 3", NONE, [], [], ["is missing"]),
 ]
@@ -122,30 +126,53 @@ def patterns():
                 yield Pattern(chosen, lost)
 
 
+Arrived = collections.namedtuple("Arrived", "packet flow stream number count size")
+
+
+def arriving(flow, stream, size, lost):
+    """What arrives of a scan."""
+    packets = scan(stream, size, flow)
+    return [Arrived(packets[k], flow, stream, k, len(packets), size) for k in range(len(packets)) if k not in lost]
+
+
 def sent(pattern):
-    """What arrives of a pattern: (packet, stream, number, count, size)."""
-    for i, (size, lost) in enumerate(zip(pattern.sizes, pattern.lost)):
-        packets = scan(i + 1, size)
-        for k, one in enumerate(packets):
-            if k not in lost:
-                yield one, i + 1, k, len(packets), size
+    """What arrives of a pattern."""
+    return [one for i, (size, lost) in enumerate(zip(pattern.sizes, pattern.lost)) for one in arriving((2, 5), i + 1, size, lost)]
 
 
 def answered(arrived):
-    """Document 01's answers for one flow, rows 8 and 11; the room holds all."""
-    waiting, lines = None, []
-    for _, stream, k, count, size in arrived:
-        data = size - MTU * (count - 1) if k == count - 1 else MTU
-        if k == 0:
-            dropped = " dropped" if waiting else ""
-            waiting = None if count == 1 else (stream, MTU)
-            lines.append(("held" if waiting else f"pdu 2 5 {stream} {size}") + dropped)
-        elif waiting is None:
+    """Document 01's answers, rows 8 and 11, for up to sixteen flows; the rooms hold all."""
+    waiting, lines = {}, []
+    for one in arrived:
+        whole = f"pdu {one.flow[0]} {one.flow[1]} {{}} {one.size}"
+        stream, held = waiting.pop(one.flow, (None, 0))
+        if one.number == 0:
+            dropped = " dropped" if held else ""
+            lines.append((whole.format(one.stream) if one.count == 1 else "held") + dropped)
+            if one.count > 1:
+                waiting[one.flow] = one.stream, MTU
+        elif not held:
             lines.append("refused 8")
-        elif k < count - 1:
-            waiting = (waiting[0], waiting[1] + MTU)
+        elif one.number < one.count - 1:
             lines.append("held")
+            waiting[one.flow] = stream, held + MTU
         else:
-            lines.append(f"pdu 2 5 {waiting[0]} {size}" if waiting[1] + data == size else "refused 11 dropped")
-            waiting = None
+            last = one.size - MTU * (one.count - 1)
+            lines.append(whole.format(stream) if held + last == one.size else "refused 11 dropped")
     return "".join(line + "\n" for line in lines) + f"end {len(lines)}\n"
+
+
+def long_log(scans):
+    """Three boards send so many scans each, their packets in turn, mostly singles; one scan in fifty or so loses a packet of its beginning,
+    middle or end, and no two neighbours do. The log, its output, how many scans are hurt."""
+    boards, hurt = [], 0
+    for board in (21, 22, 23):
+        packets = []
+        for stream in range(1, scans + 1):
+            size = 4 if stream % 10 != 5 else 70 if stream // 50 % 2 else 40
+            lost = {(stream // 50 + board) % -(-size // MTU)} if stream % 50 == 25 else set()
+            hurt += bool(lost)
+            packets += arriving((board, 1), stream, size, lost)
+        boards.append(packets)
+    arrived = [one for turn in itertools.zip_longest(*boards) for one in turn if one is not None]
+    return log_of([one.packet for one in arrived]), answered(arrived), hurt

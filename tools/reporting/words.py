@@ -120,12 +120,12 @@ def gap_item(gap):
     one = len(gap.missing) == 1
     numbers = f"{gap.missing[0]}" if one else f"{gap.missing[0]} to {gap.missing[-1]}"
     told = len(gap.missing) - gap.untold
-    rest = f" {told} of them {'is' if told == 1 else 'are'} among the lost above." if told else ""
-    joined = (f" Or an end of theirs was joined to the start of {gap.before}: judge {gap.before} only if the scan numbers in its first and last "
-              f"byte agree.") if gap.suspect else ""
-    return Item(f"Board {gap.flow[0]}, cos {gap.flow[1]}: behind stream {gap.before} came {gap.after}. If this board counts its scans so, "
-                f"{numbers} {'is' if one else 'are'} missing.{rest} All {'its' if one else 'their'} packets were lost.{joined} "
-                f"Do not judge {'the wheel' if one else 'the wheels'} of {numbers}.", gap.shown)
+    came = f"{told} of them among the lost above, {gap.untold} without a packet" if told else "no packet says so"
+    joined = (f"All packets were lost; or {'its end' if one else 'the end of one'} came and was joined to the start of {gap.before}, and what was "
+              f"delivered as {gap.before} is two halves: judge that only if the scan numbers in its first and last byte agree.") if gap.suspect else ""
+    words = [f"Board {gap.flow[0]}, cos {gap.flow[1]}: behind stream {gap.before} came {gap.after}. If this board counts its scans so, {numbers} "
+             f"{'is' if one else 'are'} missing ({came}).", joined, f"Do not judge the {'wheel' if one else 'wheels'} of {numbers}."]
+    return Item(" ".join(word for word in words if word), gap.shown)
 
 
 def waiting_item(flow, before, piece):
@@ -148,10 +148,10 @@ def heading(losses):
 
 def lost_block(losses):
     if not losses.lost:
-        return Block("lost", "No lost scan shows", "But a scan of which every packet was lost leaves no trace: a gap in the scan numbers is a "
-                     "missing scan (docs/THREATS.md, condition 9).", [], False)
-    text = ("A wheel without a delivered and checked scan is not judged (docs/THREATS.md, condition 9). A scan of which every packet was lost is not "
-            "here: it leaves no trace. Taken for given: no packet comes twice, late, out of order or from a stranger.")
+        return Block("lost", "No lost scan shows" + ", but stream numbers are missing" * bool(losses.gaps), "A scan of which every packet was lost "
+                     "leaves no trace: a gap in the scan numbers is a missing scan (docs/THREATS.md, condition 9).", [], bool(losses.gaps))
+    text = ("A wheel without a delivered and checked scan is not judged (docs/THREATS.md, condition 9). This is the least that explains the log: a scan of "
+            "which every packet was lost leaves no trace, and no packet is taken to have come twice, late, out of order or from a stranger.")
     return Block("lost", heading(losses), text, [lost_item(lost) for lost in losses.lost], True)
 
 
