@@ -173,6 +173,8 @@ TABLE = ["reading/specs/Table.antt", "wire/specs/Head.antt", "streams/specs/Rows
 
 def check_pages(root):
     story = followed("lost", *stored(root, "lost"))
+    top = plain.block(next(words.top(Losses(story))))
+    see(f"```\n{top}\n```" in (root / "README.md").read_text(encoding="utf-8"), "README.md does not show how the text of logs/lost.log begins")
     made = {"docs/sample-report.html": page.report(story, "lost.log"), "docs/pictures/lost.svg": Picture(story, Losses(story)).svg()}
     for path, text in made.items():
         see((root / path).exists() and (root / path).read_text(encoding="utf-8") == text + "\n", f"{path} is not what the report makes of logs/lost.log")
