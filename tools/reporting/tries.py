@@ -1,12 +1,14 @@
 """Logs whose losses are known beforehand, for the check. Nothing here is computed by the report: packets and answers are written by hand,
 or by a small model of a board and a receiver that knows what it loses."""
 import collections
+import functools
 import itertools
 
 MTU = 32
 KINDS = {"single": 0xC0, "start": 0x80, "more": 0x00, "end": 0x40}
 
 
+@functools.lru_cache(maxsize=None)
 def packet(kind, number=0, size=MTU, flow=(2, 5), fill=0, flip=0):
     """A type 9 packet for device 1. The number is the streamID or the length; flip changes bits of byte 6."""
     half_words = (size + 1) // 2
