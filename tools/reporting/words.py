@@ -11,6 +11,8 @@ Item = collections.namedtuple("Item", "text record")
 # A table: an anchor, a heading, a sentence, the columns' names, rows.
 Table = collections.namedtuple("Table", "name heading text columns rows")
 
+MANY = 12
+
 NOT_JUDGED = "Do not judge this wheel."
 ADVICE = {
     "lost": NOT_JUDGED,
@@ -152,7 +154,16 @@ def lost_block(losses):
                      "leaves no trace: a gap in the scan numbers is a missing scan (docs/THREATS.md, condition 9).", [], bool(losses.gaps))
     text = ("A wheel without a delivered and checked scan is not judged (docs/THREATS.md, condition 9). This is the least that explains the log: a scan of "
             "which every packet was lost leaves no trace, and no packet is taken to have come twice, late, out of order or from a stranger.")
-    return Block("lost", heading(losses), text, [lost_item(lost) for lost in losses.lost], True)
+    return Block("lost", heading(losses), text + by_board(losses.lost), [lost_item(lost) for lost in losses.lost], True)
+
+
+def by_board(lost):
+    """How many of each flow, where the list is long; the most first."""
+    if len(lost) <= MANY:
+        return ""
+    flows = collections.Counter(one.flow for one in lost).most_common()
+    words = [f"{count:,} of board {flow[0]}, cos {flow[1]}" for flow, count in flows[:MANY]]
+    return f" By board: {'; '.join(words + ['and others'] * (len(flows) > MANY))}."
 
 
 def joint_block(losses):
