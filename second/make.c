@@ -57,6 +57,7 @@ int main(int count, char **words)
     save_vectors(responses(), "crates/outside_responses/stdin", "crates/outside_responses/stdout");
     save_vectors(segments(), "crates/outside_segments/stdin", "crates/outside_segments/stdout");
     save_vectors(wheels(), "logs/wheels.log", "logs/wheels.txt");
+    save_vectors(lost(), "logs/lost.log", "logs/lost.txt");
     save_vectors(paper(), "logs/paper.log", "logs/paper.txt");
     return 0;
 }

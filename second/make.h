@@ -16,8 +16,9 @@ struct vectors responses(void);
 /* Cases for the segment writer; its packets and refusals. */
 struct vectors segments(void);
 
-/* A log of the README, and its output. */
+/* A log of the README or of the report, and its output. */
 struct vectors wheels(void);
+struct vectors lost(void);
 struct vectors paper(void);
 
 #endif

@@ -87,3 +87,31 @@ struct vectors wheels(void)
                "pdu 21 1 2 100, pdu 22 1 12 100, pdu 23 1 22 100, end 26");
     return made;
 }
+
+/* The same boards send three wheels each. Of the second wheel board 21
+   loses the start, board 22 a packet of the middle, board 23 the end. */
+struct vectors lost(void)
+{
+    struct buffer log = { 0 };
+
+    for (unsigned part = 0; part < 4; part++)
+        three_parts(&log, 1, part);
+    wheel(&log, 22, 12, 0);
+    wheel(&log, 23, 22, 0);
+    wheel(&log, 21, 2, 1);
+    wheel(&log, 23, 22, 1);
+    three_parts(&log, 2, 2);
+    wheel(&log, 21, 2, 3);
+    wheel(&log, 22, 12, 3);
+    for (unsigned part = 0; part < 4; part++)
+        three_parts(&log, 3, part);
+
+    struct vectors made = with_output(log);
+    must_print("logs/lost", &made,
+               "held, held, held, held, held, held, held, held, held, "
+               "pdu 21 1 1 100, pdu 22 1 11 100, pdu 23 1 21 100, "
+               "held, held, refused 8, held, refused 8, held, held, refused 8, refused 11 dropped, "
+               "held, held, held dropped, held, held, held, held, held, held, "
+               "pdu 21 1 3 100, pdu 22 1 13 100, pdu 23 1 23 100, end 33");
+    return made;
+}
