@@ -1,9 +1,14 @@
 #!/usr/bin/env python3
 """Writes docs/joint.svg, the picture of docs/JOINT.md: document 01's example 9, from what is sent to what is judged.
 
-Run it from anywhere: python3 docs/pictures/joint.py
+    docs/pictures/joint.py
 """
 import pathlib
+import sys
+
+ROOT = pathlib.Path(__file__).resolve().parents[2]
+sys.path.insert(0, str(ROOT / "tools"))
+from command import call
 
 WIDTH, HEIGHT = 900, 520
 INK, SOFT, LOSS, PANEL, EDGE = "#22272e", "#5c6670", "#b3261e", "#fdfcf8", "#c9c6bb"
@@ -106,7 +111,10 @@ def picture():
     return "\n".join(parts) + "\n"
 
 
-if __name__ == "__main__":
-    target = pathlib.Path(__file__).resolve().parent.parent / "joint.svg"
+def main(words):
+    target = ROOT / "docs" / "joint.svg"
     target.write_text(picture(), encoding="utf-8")
     print(f"wrote {target.name}")
+
+
+call(__doc__, main, [])

@@ -9,6 +9,8 @@ import pathlib
 import sys
 
 ROOT = pathlib.Path(__file__).resolve().parents[2]
+sys.path.insert(0, str(ROOT / "tools"))
+import command
 
 # Rows from above. A crate: from which of twelve columns on, and over how many. Below it in its columns stands much of what it uses;
 # it uses nothing beside or above it.
@@ -51,7 +53,7 @@ def colour(crate):
 
 def test():
     below = {}
-    for line in (ROOT / "crates.txt").read_text(encoding="utf-8").splitlines():
+    for line in command.text(ROOT / "crates.txt").splitlines():
         name, colon, deps = line.split("#")[0].partition(":")
         if colon:
             below[name.strip()] = deps.split()
@@ -62,7 +64,7 @@ def test():
         for dep in deps:
             if dep in place and place[dep] <= place[crate]:
                 raise SystemExit(f"layers.py: {crate} stands on {dep}, which is not below it")
-    page = (ROOT / "docs" / "ARCHITECTURE.md").read_text(encoding="utf-8")
+    page = command.text(ROOT / "docs" / "ARCHITECTURE.md")
     for crate in below:
         if f"**`{crate}`**" not in page:
             raise SystemExit(f"layers.py: docs/ARCHITECTURE.md does not speak of {crate}")
@@ -96,11 +98,15 @@ def picture():
     return "\n".join(parts + ["</svg>"]) + "\n"
 
 
-test()
-stored = ROOT / "docs" / "layers.svg"
-if sys.argv[1:] == ["--check"]:
-    if stored.read_text(encoding="utf-8") != picture():
-        raise SystemExit("layers.py: docs/layers.svg is another picture")
-    print("layers: every crate has its place and its words")
-else:
-    stored.write_text(picture(), encoding="utf-8")
+def main(words):
+    test()
+    stored = ROOT / "docs" / "layers.svg"
+    if words == ["--check"]:
+        if command.text(stored) != picture():
+            raise SystemExit("layers.py: docs/layers.svg is another picture")
+        print("layers: every crate has its place and its words")
+    else:
+        stored.write_text(picture(), encoding="utf-8")
+
+
+command.call(__doc__, main, [], ["--check"])
