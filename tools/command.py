@@ -18,8 +18,8 @@ class WrongCall(Exception):
     """The words of the call are none that the tool takes."""
 
 
-class Unreadable(Exception):
-    """A file that is not what it is to be."""
+class Failed(Exception):
+    """A file that is not what it is to be, or a program that is not there."""
 
 
 def text(path, encoding="utf-8"):
@@ -27,7 +27,7 @@ def text(path, encoding="utf-8"):
     try:
         return pathlib.Path(path).read_text(encoding=encoding)
     except UnicodeDecodeError as failure:
-        raise Unreadable(f"{path} is no text in {encoding}, from byte {failure.start} on") from None
+        raise Failed(f"{path} is no text in {encoding}, from byte {failure.start} on") from None
 
 
 # ---- Failures in words
@@ -48,7 +48,7 @@ def told(failure):
         return 3, ""
     if isinstance(failure, OSError):
         return 3, f"{failure.filename or 'standard output'}: {failure.strerror}"
-    if isinstance(failure, Unreadable):
+    if isinstance(failure, Failed):
         return 3, str(failure)
     if isinstance(failure, subprocess.CalledProcessError):
         return 3, of_program(failure)
