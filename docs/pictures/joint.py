@@ -7,6 +7,10 @@
 import pathlib
 import sys
 
+ROOT = pathlib.Path(__file__).resolve().parents[2]
+sys.path.insert(0, str(ROOT / "tools"))
+from command import call
+
 WIDTH, HEIGHT = 900, 520
 INK, SOFT, LOSS, PANEL, EDGE = "#22272e", "#5c6670", "#b3261e", "#fdfcf8", "#c9c6bb"
 FIRST = ("#cfe3f7", "#2b6cb0")  # scan A: fill, outline
@@ -108,10 +112,15 @@ def picture():
     return "\n".join(parts) + "\n"
 
 
-stored = pathlib.Path(__file__).resolve().parent.parent / "joint.svg"
-if sys.argv[1:] == ["--check"]:
-    if stored.read_text(encoding="utf-8") != picture():
-        raise SystemExit("joint.py: docs/joint.svg is another picture")
-    print("joint: the picture is what its script draws")
-else:
+def main(words):
+    stored = ROOT / "docs" / "joint.svg"
+    if words == ["--check"]:
+        if stored.read_text(encoding="utf-8") != picture():
+            raise SystemExit("joint.py: docs/joint.svg is another picture")
+        print("joint: the picture is what its script draws")
+        return
     stored.write_text(picture(), encoding="utf-8")
+    print(f"wrote {stored.name}")
+
+
+call(__doc__, main, [], ["--check"])

@@ -10,6 +10,8 @@ import re
 import sys
 
 ROOT = pathlib.Path(__file__).resolve().parents[2]
+sys.path.insert(0, str(ROOT / "tools"))
+import command
 
 # The headings of crates.txt. Five are columns: from where on, and how wide. Two are bands over all columns, one above and one below.
 COLUMNS = {"Reading packets": (0, 440), "Writing segments": (448, 130), "The log": (586, 170), "From C": (764, 110), "Theorems": (882, 212)}
@@ -24,7 +26,7 @@ RUN = ("#fbe0bd", "#b7651b")
 
 
 def read(path):
-    return (ROOT / path).read_text(encoding="utf-8")
+    return command.text(ROOT / path)
 
 
 # Each crate with those that it uses, and with its heading, in the order of crates.txt.
@@ -137,11 +139,15 @@ def picture():
     return "\n".join(head + parts + ["</svg>"]) + "\n"
 
 
-test()
-stored = ROOT / "docs" / "layers.svg"
-if sys.argv[1:] == ["--check"]:
-    if stored.read_text(encoding="utf-8") != picture():
-        raise SystemExit("layers.py: docs/layers.svg is another picture")
-    print("layers: every crate has its place and its words")
-else:
+def main(words):
+    test()
+    stored = ROOT / "docs" / "layers.svg"
+    if words == ["--check"]:
+        if command.text(stored) != picture():
+            raise SystemExit("layers.py: docs/layers.svg is another picture")
+        print("layers: every crate has its place and its words")
+        return
     stored.write_text(picture(), encoding="utf-8")
+
+
+command.call(__doc__, main, [], ["--check"])

@@ -15,6 +15,8 @@ import sys
 
 HERE = pathlib.Path(__file__).resolve().parent
 ROOT = HERE.parent.parent
+sys.path.insert(0, str(ROOT / "tools"))
+import command
 
 Field = collections.namedtuple("Field", "name byte bit width value")
 
@@ -32,7 +34,7 @@ class Layout:
 
 def read_table():
     layouts = {}
-    for line in (HERE / "layouts.txt").read_text(encoding="utf-8").splitlines():
+    for line in command.text(HERE / "layouts.txt").splitlines():
         words = line.split()
         if not words or words[0].startswith("#"):
             continue
@@ -209,7 +211,7 @@ def check_paper(layouts):
 def check_segments(layouts):
     """The writer's cases: what went in stands in 20 bytes, what came out in hex."""
     cases = (ROOT / "crates/outside_segments/stdin").read_bytes()
-    lines = iter((ROOT / "crates/outside_segments/stdout").read_text().splitlines())
+    lines = iter(command.text(ROOT / "crates/outside_segments/stdout").splitlines())
     packets = fields = 0
     for at in range(0, len(cases), 20):
         case = cases[at:at + 20]
@@ -255,7 +257,7 @@ def check_message(values, data, answer, where):
 def check_responses(layouts):
     """Messages and their responses: each packet, the line printed for it, and the seven bytes sent back."""
     log = records((ROOT / "crates/outside_responses/stdin").read_bytes())
-    lines = (ROOT / "crates/outside_responses/stdout").read_text().splitlines()
+    lines = command.text(ROOT / "crates/outside_responses/stdout").splitlines()
     status = {"held": 0, "msg": 0, "refused": 7, "refused 25": 3}
     packets = fields = 0
     for n, (packet, answer, response) in enumerate(zip(log, lines[::2], lines[1::2]), 1):
@@ -304,7 +306,7 @@ def check_printed(layouts, packet, answer, where):
 def check_logs(layouts):
     """Logs with packets right and wrong, and the lines printed for them. Only here tt, type and xh are wrong and reserved bits set."""
     bundle = (ROOT / "crates/outside_logs/stdin").read_bytes()
-    lines = iter((ROOT / "crates/outside_logs/stdout").read_text().splitlines())
+    lines = iter(command.text(ROOT / "crates/outside_logs/stdout").splitlines())
     place = number = packets = fields = 0
     while place < len(bundle):
         length = int.from_bytes(bundle[place:place + 4], "big")
@@ -330,14 +332,12 @@ def check(layouts):
         packets, fields = packets + more_packets, fields + more_fields
     for layout in layouts.values():
         stored = HERE / f"{layout.picture}.svg"
-        if not stored.exists() or stored.read_text(encoding="utf-8") != picture(layout):
+        if not stored.exists() or command.text(stored) != picture(layout):
             fail(f"{stored.name} is not what the table gives; docs/pictures/layouts.py writes it")
     print(f"layouts: {packets:,} packets and {fields:,} fields agree with the table, and {len(layouts)} pictures")
 
 
 def main(argv):
-    if argv not in ([], ["--check"]):
-        sys.exit(__doc__.strip())
     layouts = read_table()
     if argv:
         check(layouts)
@@ -347,4 +347,4 @@ def main(argv):
         print(f"wrote {layout.picture}.svg")
 
 
-main(sys.argv[1:])
+command.call(__doc__, main, [], ["--check"])

@@ -214,12 +214,12 @@ def check_command(root):
         latin.write("gehört\n".encode("latin-1"))
         latin.flush()
         # words of the call, status, in which of the two outputs, and what is said there
+        how = "--help says how it is called"
         calls = [(["--help"], 0, "out", "tools/report LOG"), (["--text", log, output], 0, "out", "AT LEAST 3"), (["--picture", log, output], 0, "out", "<svg"),
-                 ([log, output], 0, "out", "<!DOCTYPE html>"), (["--", log, output], 0, "out", "<!DOCTYPE html>"), ([], 2, "err", "tools/report LOG"),
-                 (["--txt", log, output], 2, "err", "tools/report LOG"), (["--text", "--picture", log], 2, "err", "tools/report LOG"),
-                 ([log, output, log], 2, "err", "tools/report LOG"), (["--check", log], 2, "err", "tools/report LOG"),
-                 (["no-such.log", output], 1, "err", "report: no-such.log: No such file"), ([str(root), output], 1, "err", "Is a directory"),
-                 ([log, latin.name], 1, "err", "no output of racklog"), ([log, log], 1, "err", "report: ")]
+                 ([log, output], 0, "out", "<!DOCTYPE html>"), (["--", log, output], 0, "out", "<!DOCTYPE html>"), ([], 2, "err", how),
+                 (["--txt", log, output], 2, "err", how), (["--text", "--picture", log], 2, "err", how), ([log, output, log], 2, "err", how),
+                 (["--check", log], 2, "err", how), (["no-such.log", output], 3, "err", "report: no-such.log: No such file"),
+                 ([str(root), output], 3, "err", "Is a directory"), ([log, latin.name], 3, "err", "is no text in ascii"), ([log, log], 3, "err", "report: ")]
         runs = [subprocess.Popen([*PYTHON, root / "tools/report", *call], stdout=subprocess.PIPE, stderr=subprocess.PIPE, cwd=root)
                 for call, *_ in calls]
         for run, (call, status, where, said) in zip(runs, calls):

@@ -1,9 +1,23 @@
 // What a log prints, on standard output: runs over the log, each written as it ends.
+use libc::STDERR_FILENO;
 use libc::STDOUT_FILENO;
 ghost use mathlib.Core.Path.{_≡_};
 ghost use Prim.Native.Nat.{_≤_};
 ghost use lib.ListN.{length};
 ghost use Rattle.log_pieces.specs.Output.{output};
+
+// Writes to standard output, unless a write has failed before: behind a hole nothing more is written, so no `end` either. The first write
+// that fails is said on standard error. Answers whether all went well.
+fn put(well: bool, bytes: &[u8]) -> bool {
+    if !well {
+        return false;
+    }
+    let written = io::write_all(STDOUT_FILENO, bytes);
+    if !written {
+        io::write_all(STDERR_FILENO, b"standard output cannot be written\n");
+    }
+    written
+}
 
 // Runs over a log from a fresh endpoint: device 1, MTU 32, R 2,048. Answers how many bytes they put. Every caller has tested the length.
 fn print_runs(log: &[u8]) -> usize
@@ -19,6 +33,7 @@ fn print_runs(log: &[u8]) -> usize
     let mut at = 0;
     let mut count = 0;
     let mut total = 0;
+    let mut well = true;
     loop {
         let ran = log_run::run(
             &mut state,
@@ -31,7 +46,7 @@ fn print_runs(log: &[u8]) -> usize
             &mut out,
         );
         let used = ran.used;
-        io::write_all(STDOUT_FILENO, &out[..used]);
+        well = put(well, &out[..used]);
         total += used;
         if ran.over {
             return total;
@@ -46,7 +61,7 @@ pub fn print_log(log: &[u8]) -> usize
     ensures { λ r. ⌜ r ≡ length (output (now (log .entry))) ⌝ }
 {
     if 65536 < log.len() {
-        io::write_all(STDOUT_FILENO, b"bad log\n");
+        put(true, b"bad log\n");
         return 8;
     }
     print_runs(log)

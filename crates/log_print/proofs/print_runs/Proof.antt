@@ -26,11 +26,11 @@ record Sums (log : List ℕ) (b : Desk) (out : List ℕ) (at count total : ℕ) 
   pub whole : total + length (still b log at count) ≡ length (output log)
 
 abbrev Inv-loop : tie.InvT-loop
-Inv-loop log state₀ streams₀ messages₀ response₀ out₀ at₀ count₀ total₀ state streams messages response out at count total =
+Inv-loop log state₀ streams₀ messages₀ response₀ out₀ at₀ count₀ total₀ well₀ state streams messages response out at count total well =
     Sums log (desk state streams messages response) out at count total
 
 abbrev μ-loop : tie.MeasureT-loop
-μ-loop log state₀ streams₀ messages₀ response₀ out₀ at₀ count₀ total₀ state streams messages response out at count total =
+μ-loop log state₀ streams₀ messages₀ response₀ out₀ at₀ count₀ total₀ well₀ state streams messages response out at count total well =
     length log - at
 
 -- nothing is put, and the whole output is still to come
@@ -49,8 +49,8 @@ loop-holds c =
       whole = begins _ _ (made .setup .result) (made .before .before .before .pre) (made .setup .ensures);
     }
 
-slice-aggregate-write-all : tie.Need-slice-aggregate-write-all Inv-loop μ-loop
-slice-aggregate-write-all c =
+slice-aggregate-put : tie.Need-slice-aggregate-put Inv-loop μ-loop
+slice-aggregate-put c =
     let called = c .before .before .before .before .before .before in
     let i = called .before .before .before .before .before .before .loop .inv in
     simp length-take (omega (arith, called .run .ensures .1 .0, i .buffer))
@@ -97,7 +97,7 @@ print-runs-spec =
     μ-loop
     (λ c. search needs) (λ c κs. search needs) loop-holds
     (λ c. search needs) (λ c. search needs) (λ c. search needs) (λ c. search needs) (λ c. search needs) (λ c κs. search needs) (λ c. search needs)
-    slice-aggregate-write-all
+    slice-aggregate-put
     (λ c κs. search needs) (λ c. search needs) returns
     loop-less
     loop-again)
