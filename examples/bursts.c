@@ -27,8 +27,8 @@ static struct kaiverohm_report reports[AT_ONCE];
 static uint8_t burst[1024];
 static size_t length;
 
-/* The segments of a PDU, each as a record of the burst. */
-static void add(uint16_t source, uint16_t stream, const char *text)
+/* The segments of a PDU, each as a record of the burst. Answers whether all had room. */
+static int add(uint16_t source, uint16_t stream, const char *text)
 {
     const struct kaiverohm_heading heading = {
         .destination = DEVICE, .source = source, .stream = stream, .cos = 5, .priority = 0
@@ -36,12 +36,15 @@ static void add(uint16_t source, uint16_t stream, const char *text)
     const size_t size = strlen(text);
     for (uint64_t k = 0; k < kaiverohm_segment_count(MTU, size); k++) {
         uint8_t packet[KAIVEROHM_LARGEST_PACKET];
-        uint64_t written = kaiverohm_write_segment(packet, sizeof packet, heading, MTU,
-                                                   (const uint8_t *)text, size, k)
-                               .number;
-        length +=
-            kaiverohm_write_record(burst + length, sizeof burst - length, packet, written).number;
+        struct kaiverohm_answer a = kaiverohm_write_segment(packet, sizeof packet, heading, MTU,
+                                                            (const uint8_t *)text, size, k);
+        if (a.kind == KAIVEROHM_WRITTEN)
+            a = kaiverohm_write_record(burst + length, sizeof burst - length, packet, a.number);
+        if (a.kind != KAIVEROHM_WRITTEN)
+            return 0;
+        length += a.number;
     }
+    return 1;
 }
 
 static void take(const struct kaiverohm_report *r)
@@ -52,11 +55,10 @@ static void take(const struct kaiverohm_report *r)
 
 int main(void)
 {
-    if (!begin())
+    if (!begin() || !add(2, 7, "Wheel 7, left: 412 echoes, no crack found.")
+        || !add(3, 40, "Wheel 8, left: 398 echoes, one at 31 mm.")
+        || !add(2, 8, "Wheel 7, right: 405 echoes, no crack found."))
         return 1;
-    add(2, 7, "Wheel 7, left: 412 echoes, no crack found.");
-    add(3, 40, "Wheel 8, left: 398 echoes, one at 31 mm.");
-    add(2, 8, "Wheel 7, right: 405 echoes, no crack found.");
     size_t at = 0;
     for (;;) {
         struct kaiverohm_burst b =

@@ -1,5 +1,6 @@
 /* A board that keeps to condition 8 of docs/THREATS.md: a PDU that is open for
-   longer than a scan takes is abandoned. After each packet it asks what is open.
+   longer than a scan takes is abandoned. After each packet it asks what is open; a real board asks by its clock
+   too.
    Here one board's scan never ends, and another's does. */
 
 #include <inttypes.h>
@@ -49,35 +50,52 @@ static void look(uint64_t n, unsigned now)
     seen[n].kind = KAIVEROHM_WAS_FREE;
 }
 
+/* The packet gave an unfinished PDU of its flow up: what is open there now is another. */
+static void forget(uint64_t source, uint64_t cos)
+{
+    for (uint64_t n = 0; n < KAIVEROHM_STREAM_CONTEXTS; n++)
+        if (seen[n].source == source && seen[n].cos == cos)
+            seen[n].kind = KAIVEROHM_WAS_FREE;
+}
+
 /* One segment of a PDU of three, as its board sends it. */
-static void came(unsigned now, uint16_t source, uint16_t stream, uint64_t segment)
+static int came(unsigned now, uint16_t source, uint16_t stream, uint64_t segment)
 {
     static const uint8_t pdu[3 * MTU] = "echoes of a wheel";
+    static const char *const words[] = { "refused", "held", "delivered", "message" };
     const struct kaiverohm_heading heading = {
         .destination = DEVICE, .source = source, .stream = stream, .cos = 5, .priority = 0
     };
     uint8_t packet[KAIVEROHM_LARGEST_PACKET];
     struct kaiverohm_answer written =
         kaiverohm_write_segment(packet, sizeof packet, heading, MTU, pdu, sizeof pdu, segment);
+    if (written.kind != KAIVEROHM_WRITTEN)
+        return 0;
     struct kaiverohm_report r = kaiverohm_desk_read(&desk, packet, written.number);
-    static const char *const words[] = { "refused", "held", "delivered", "message" };
     printf("%u: board %d, stream %d, segment %" PRIu64 ": %s\n", now, source, stream, segment,
            words[r.kind]);
+    if (r.dropped)
+        forget(source, heading.cos);
     for (uint64_t n = 0; n < KAIVEROHM_STREAM_CONTEXTS; n++)
         look(n, now);
+    return 1;
 }
 
 int main(void)
 {
+    /* when, board, stream, segment */
+    static const uint16_t packets[][4] = {
+        { 0, 2, 7, 0 },   { 1, 3, 40, 0 },  { 2, 3, 40, 1 },
+        { 3, 3, 40, 2 }, /* board 2 has said nothing since 0 */
+        { 4, 2, 7, 1 },  /* what still comes of the abandoned PDU is refused 8 */
+        { 5, 2, 8, 0 },   { 6, 2, 8, 1 },   { 7, 2, 8, 2 },
+        { 8, 3, 41, 0 },  { 10, 3, 41, 0 }, /* begun again: its time begins again too */
+        { 12, 3, 41, 1 }, { 12, 3, 41, 2 },
+    };
     if (!begin())
         return 1;
-    came(0, 2, 7, 0);
-    came(1, 3, 40, 0);
-    came(2, 3, 40, 1);
-    came(3, 3, 40, 2); /* board 2 has said nothing since 0 */
-    came(4, 2, 7, 1);  /* what still comes of the abandoned PDU is refused 8 */
-    came(5, 2, 8, 0);
-    came(6, 2, 8, 1);
-    came(7, 2, 8, 2);
+    for (size_t i = 0; i < sizeof packets / sizeof packets[0]; i++)
+        if (!came(packets[i][0], packets[i][1], packets[i][2], packets[i][3]))
+            return 1;
     return 0;
 }

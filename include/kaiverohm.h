@@ -99,7 +99,7 @@ extern "C" {
 /* The bytes of a stream memory with rooms of R bytes. */
 #define KAIVEROHM_STREAM_MEMORY(R) (KAIVEROHM_STREAM_CONTEXTS * (R))
 
-/* What a call says: crates/c_reports/specs/Reports.antt, kindOf. */
+/* What a call says: crates/answers/specs/Kinds.antt. */
 enum kaiverohm_kind {
     KAIVEROHM_REFUSED = 0,   /* number: the refusal */
     KAIVEROHM_HELD = 1,      /* a segment is stored, more is to come */
@@ -266,7 +266,8 @@ uint64_t kaiverohm_state_length(void);
      12  the state has another length than 147. All stays.
      18  the MTU is no multiple of 4 from 32 to 256. The state is zeros.
      19  R is under the MTU or over 65,536. The state is zeros.
-   A state of zeros is none: reading and abandoning refuse it by 19.
+   A state of zeros is none: reading, asking and
+   abandoning refuse it by 19, and no room is found in it.
    Promise: crates/kaiverohm/specs/Exports.antt, SetupFromCPromise. */
 struct kaiverohm_answer kaiverohm_setup(uint64_t *state, size_t state_words, uint16_t device,
                                         uint64_t mtu, uint64_t room);
@@ -350,8 +351,9 @@ struct kaiverohm_burst kaiverohm_read_burst(uint64_t *state, size_t state_words,
                                             uint64_t pause);
 
 /* What stream context n holds, or message context n. A held segment's answer
-   does not say which context it went to: ask after all 16, or all 8, and look
-   for its flow. Nothing changes.
+   does not say which context it went to: ask after all 16 and look for its flow,
+   or after all 8 and look for its source, letter and mbox; of two the lower number
+   counts. Nothing changes.
 
    state: 147 words, read.
    Answers OPEN, and what is open there; WAS_FREE; or REFUSED, in this order:

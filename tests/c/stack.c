@@ -69,6 +69,21 @@ static void find_room(void)
     said = kaiverohm_desk_message_room(&desk, 0, 1).length;
 }
 
+static void state_length(void)
+{
+    said = kaiverohm_state_length() + kaiverohm_interface();
+}
+
+static void lengths(void)
+{
+    said = kaiverohm_segment_count(32, sizeof pdu) + kaiverohm_record_length(sizeof pdu);
+}
+
+static void find_stream_room(void)
+{
+    said = kaiverohm_desk_stream_room(&desk, 0, 1).length;
+}
+
 static void stream_context(void)
 {
     said = kaiverohm_desk_stream_context(&desk, 0).kind;
@@ -101,6 +116,9 @@ static const struct {
     { "read_burst", read_burst, 2 },
     { "write_record", write_record, KAIVEROHM_WRITTEN },
     { "message_room", find_room, 1 },
+    { "stream_room", find_stream_room, 1 },
+    { "state_length, interface", state_length, KAIVEROHM_STATE_WORDS + KAIVEROHM_INTERFACE },
+    { "segment_count, record_length", lengths, 22 + 702 }, /* of 700 bytes */
     { "stream_context", stream_context, KAIVEROHM_OPEN },
     { "message_context", message_context, KAIVEROHM_OPEN },
     { "abandon_stream", abandon_stream, KAIVEROHM_CLOSED },

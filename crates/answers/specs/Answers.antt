@@ -82,10 +82,10 @@ saidOfMessage (mail.Open source letter mbox msglen size marks last) = messageOpe
 saidOfMessage mail.Free = messageFree
 saidOfMessage (mail.Refused number) = messageAskRefused number
 
--- ---- the segment writer
+-- ---- the writers, of a segment and of a record
 
 pub data WriterSaid : Type 0 where
-  -- the writer has written a packet of so many bytes
+  -- so many bytes were written
   wrote : (size : ℕ) → WriterSaid
   writeRefused : (number : ℕ) → WriterSaid
 

@@ -26,7 +26,7 @@ closedKind = 5
 abbrev pub freeKind : ℕ
 freeKind = 6
 
--- the segment writer
+-- the writers
 abbrev pub writtenKind : ℕ
 writtenKind = 7
 

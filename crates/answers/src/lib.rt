@@ -104,7 +104,7 @@ pub enum MessageAsked {
     Refused(usize),
 }
 
-// The answer of the segment writer: the packet's length.
+// The answer of the writers, of a segment and of a record: how many bytes were written.
 pub enum Written {
     Length(usize),
     Refused(usize),

@@ -1,4 +1,5 @@
--- Asking after a context: refused as abandoning it is (document 01, 'Refusal numbers', 19, 12 and 13); else whether it is open, and what it holds.
+-- Asking after a context, a call that the paper does not have: refused as abandoning it is (19, 12 and 13); else whether it is open, and what it
+-- holds.
 use Prim.Native.Nat.{ℕ}
 use mathlib.Core.Path.{_≡_}
 use mathlib.Core.List.{List}
@@ -13,7 +14,8 @@ use Rattle.contexts.specs.declared.StreamContext.{StreamContext}
 use Rattle.contexts.specs.declared.MessageContext.{MessageContext}
 use Rattle.contexts.specs.State.{streamIn, messageIn, isFreeStream, isFreeMessage, streamContexts, messageContexts}
 use Rattle.contexts.specs.Words.{stateOf}
-use Rattle.abandoning.specs.Abandoning.{abandonTable}
+use Rattle.answers.specs.Answers.{AbandonSaid, closed, free, abandonRefused}
+use Rattle.abandoning.specs.Abandoning.{abandonTable, abandonStream, abandonMessage}
 
 -- what a context holds; the size of a segment in bytes, not its code
 abbrev pub heldInStream : StreamContext → StreamContextSaid
@@ -30,6 +32,21 @@ askStream words n =
 unfoldable pub askMessage : List ℕ → ℕ → MessageContextSaid
 askMessage words n =
     byVerdict (λ (number : ℕ) (leaves : Leaves). messageAskRefused number) (heldInMessage (messageIn (stateOf words) n)) (verdict (abandonTable words messageContexts n))
+
+-- what abandoning the same context says: closed where it is open, free where it is free, and refused alike
+abbrev pub abandonsStream : StreamContextSaid → AbandonSaid
+abandonsStream (streamOpen flow streamID held) = closed
+abandonsStream streamFree = free
+abandonsStream (streamAskRefused number) = abandonRefused number
+
+abbrev pub abandonsMessage : MessageContextSaid → AbandonSaid
+abandonsMessage (messageOpen source letter mbox msglen size marks last) = closed
+abandonsMessage messageFree = free
+abandonsMessage (messageAskRefused number) = abandonRefused number
+
+pub record AsksAsAbandons : Type 0 where
+  pub stream : (words : List ℕ) (n : ℕ) → abandonStream words n .says ≡ abandonsStream (askStream words n)
+  pub message : (words : List ℕ) (n : ℕ) → abandonMessage words n .says ≡ abandonsMessage (askMessage words n)
 
 abbrev pub StreamContextPromise : List ℕ → ℕ → StreamAsked → Type 0
 StreamContextPromise words n r = saidOfStream r ≡ askStream words n

@@ -124,7 +124,7 @@ pub data FetchesFromC (d : Desk) (r : Report) : List Delivery → Type 0 where
       → FetchesFromC d r (delivery (flowIn r) (pdu (r .«stream_or_mailbox») (bytesAt (d .streamMemory) place)) ∷ [])
   nothing : (r .kind ≡ deliveredKind → ⊥) → FetchesFromC d r []
 
--- calls of `kaiverohm_read`, one for each packet, as `Reads` (demands/specs/Calls.antt); and what is fetched after their reports
+-- calls of `kaiverohm_read`, one for each packet, as `Reads` (calls/specs/Calls.antt); and what is fetched after their reports
 pub data ReadsFromC : Desk → List (List ℕ) → List Delivery → Type 0 where
   no-more : {d : Desk} → ReadsFromC d [] []
   one-more : {d next : Desk} {p : List ℕ} {ps : List (List ℕ)} {fetched ds : List Delivery} (r : Report) (given : List ℕ)

@@ -64,6 +64,6 @@ pub record WriteRecordFromCPromise (out packet : List ℕ) (r : Numbers) (after 
   pub answer : r ≡ numbersOfWriter (recording out packet .says)
   pub written-out : after ≡ recording out packet .out
 
--- The others hand on what their callees promise: `LengthPromise` (endpoint/specs/Calls.antt), `CountPromise` (segments/specs/Writer.antt),
+-- The others hand on what their callees promise: `LengthPromise` (endpoint/specs/Calls.antt), `CountPromise` (writing/specs/Writer.antt),
 -- `StreamPlacePromise` and `MessagePlacePromise` (c_places/specs/Places.antt), `BurstPromise` (c_bursts/specs/Bursts.antt),
 -- `RecordLengthPromise` (log_writer/specs/Writing.antt).

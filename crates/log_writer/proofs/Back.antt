@@ -17,7 +17,7 @@ use Rattle.log_records.specs.declared.Next.the-variants.{Record}
 use Rattle.log_records.specs.Records.{nextRecord}
 use Rattle.log_records.specs.Written.{lengthBytes, writtenRecord}
 use Rattle.log_records.proofs.Back.{stands, packet-of}
-use Rattle.log_writer.specs.Writing.{longestRecorded, recordTable, recording, recordLength, RecordReadsBack, RecordIsThatLong}
+use Rattle.log_writer.specs.Writing.{longestRecorded, recordTable, recording, recordLength, RecordTaken, RecordReadsBack, RecordIsThatLong}
 
 -- what was accepted
 accepted : (out packet : List ℕ) (size : ℕ) → recording out packet .says ≡ wrote size
@@ -38,6 +38,15 @@ unfolding recordLength
 record-is-that-long out packet size e =
     let (fits, sized, left) = accepted out packet size e in
     rw (le-ltb longestRecorded (length packet) fits) (sym (length-append (lengthBytes (length packet)) packet) ∙ sized)
+
+pub record-taken : RecordTaken
+unfolding recording recordTable verdict recordLength
+record-taken out packet short room =
+    let fits : length packet ≤ longestRecorded = omega (arith, short .0) in
+    let sized : length (writtenRecord packet) ≡ length (lengthBytes (length packet)) + length packet = length-append (lengthBytes (length packet)) packet in
+    let long : ltb longestRecorded (length packet) ≡ false = le-ltb longestRecorded (length packet) fits in
+    let enough : length (lengthBytes (length packet)) + length packet ≤ length out = rw long at room in
+    rw (long, le-ltb (length out) (length (writtenRecord packet)) (omega (arith, sized, enough)), sized)
 
 pub record-reads-back : RecordReadsBack
 record-reads-back out packet size e =

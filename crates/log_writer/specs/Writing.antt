@@ -1,6 +1,6 @@
 -- Writing one record of a log, or of a burst: what is refused, what is written, and that it reads back.
 -- How a record is written, to the byte, is `writtenRecord` (log_records/specs/Written.antt).
-use Prim.Native.Nat.{ℕ, _+_}
+use Prim.Native.Nat.{ℕ, _+_, _≤_}
 use mathlib.Core.Path.{_≡_}
 use mathlib.Core.List.{List, [], _∷_}
 use mathlib.Core.Bool.{cond}
@@ -13,7 +13,7 @@ use Rattle.tables.specs.Refusals.{Row, row, all, verdict}
 use Rattle.writing.specs.Writer.{Wrote, wroteOf, wroteBy}
 use Rattle.log_records.specs.declared.Next.the-variants.{Record}
 use Rattle.log_records.specs.Records.{nextRecord}
-use Rattle.log_records.specs.Written.{lengthBytes, writtenRecord}
+use Rattle.log_records.specs.Written.{lengthBytes, writtenRecord, AllShort}
 
 -- the longest packet whose length two groups of seven bits can say
 abbrev pub longestRecorded : ℕ
@@ -48,6 +48,11 @@ WriteRecordOnce = (out packet : List ℕ) → OneOutcome (λ (y : Outcome Writte
 
 abbrev pub RecordLengthOnce : Type 0
 RecordLengthOnce = (size : ℕ) → OneOutcome (RecordLengthPromise size)
+
+-- every packet that a log may hold is taken, where the output has room for its record
+abbrev pub RecordTaken : Type 0
+RecordTaken =
+    (out packet : List ℕ) → AllShort (packet ∷ []) → recordLength (length packet) ≤ length out → recording out packet .says ≡ wrote (recordLength (length packet))
 
 -- what is written reads back: the record at the output's beginning is the packet's, which stands there, and the next begins where the answer says
 abbrev pub RecordReadsBack : Type 0

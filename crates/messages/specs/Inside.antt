@@ -1,4 +1,4 @@
--- What the functions rely on and promise each other. No promise of a public call speaks of it.
+-- What the functions of choosing and message_step rely on and promise each other. No promise of a public call speaks of it.
 use Prim.Native.Nat.{ℕ, _<_}
 use mathlib.Core.Path.{_≡_}
 use mathlib.Core.List.{List}

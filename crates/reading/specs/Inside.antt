@@ -1,4 +1,4 @@
--- What the functions rely on and promise those above. No promise of a public call speaks of it.
+-- What packets, and a burst, rely on and promise those above. No promise of a public call speaks of it.
 use Prim.Native.Nat.{ℕ, _≤_, _*_}
 use mathlib.Core.Path.{_≡_}
 use mathlib.Core.Bool.{false}

@@ -1,4 +1,4 @@
--- What the functions promise those above. No promise of a public call speaks of it.
+-- What message_rules leaves for those above to rely on. No promise of a public call speaks of it.
 use Prim.Native.Nat.{_≤_}
 use mathlib.Core.Path.{_≡_}
 use mathlib.Core.Bool.{false}

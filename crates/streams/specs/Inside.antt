@@ -1,4 +1,4 @@
--- What the functions rely on and promise each other. No promise of a public call speaks of it.
+-- What the functions of beginning, continuing, ending and stream_step rely on. No promise of a public call speaks of it.
 use Prim.Native.Nat.{ℕ, _+_, _≤_, _<_}
 use mathlib.Core.Path.{_≡_}
 use mathlib.Core.Bool.{true, false}

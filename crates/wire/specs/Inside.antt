@@ -1,4 +1,4 @@
--- What the inner functions promise one another, and those above. No promise of a public call speaks of it.
+-- What the functions of wire and heads promise those above. No promise of a public call speaks of it.
 use Prim.Native.Nat.{ℕ, _+_}
 use mathlib.Core.List.{List}
 use mathlib.Core.Bool.{cond}
