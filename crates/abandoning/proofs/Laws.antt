@@ -15,42 +15,42 @@ use Rattle.contexts.specs.Words.{stateOf, stateWords}
 use Rattle.contexts.proofs.Words.{words-of}
 use Rattle.lent_state.specs.Lent.{stateRows, stateRefusal}
 use Rattle.lent_state.proofs.Lent.{state-refused, state-passed}
-use Rattle.abandoning.specs.Abandoning.{abandonTable, abandonBy}
+use Rattle.abandoning.specs.Abandoning.{contextTable, abandonBy}
 
 -- ---- the table of a call on one context: 19 and 12, then 13
 module _ (words : List ℕ) (contexts n : ℕ) where
-  pub lent-refuses : (number : ℕ) → number ≡ stateRefusal words → (number ≡ 0 → ⊥) → verdict (abandonTable words contexts n) ≡ refuse number all
-  unfolding abandonTable
+  pub lent-refuses : (number : ℕ) → number ≡ stateRefusal words → (number ≡ 0 → ⊥) → verdict (contextTable words contexts n) ≡ refuse number all
+  unfolding contextTable
   lent-refuses number e z = joined-refuses (stateRows words) _ number all (state-refused words number e z)
 
   module _ (fine : stateRefusal words ≡ 0) where
-    by-13 : verdict (abandonTable words contexts n) ≡ cond (not (ltb n contexts)) (refuse 13 all) accept
-    unfolding abandonTable verdict
+    by-13 : verdict (contextTable words contexts n) ≡ cond (not (ltb n contexts)) (refuse 13 all) accept
+    unfolding contextTable verdict
     by-13 = joined-passes (stateRows words) (row 13 (not (ltb n contexts)) all ∷ []) (state-passed words fine)
 
-    pub past-refuses : contexts ≤ n → verdict (abandonTable words contexts n) ≡ refuse 13 all
+    pub past-refuses : contexts ≤ n → verdict (contextTable words contexts n) ≡ refuse 13 all
     past-refuses k = by-13 ∙ rw (le-ltb n contexts k)
 
-    pub one-accepts : n < contexts → verdict (abandonTable words contexts n) ≡ accept
+    pub one-accepts : n < contexts → verdict (contextTable words contexts n) ≡ accept
     one-accepts k = by-13 ∙ rw (lt-ltb n contexts k)
 
 -- ---- what abandoning leaves
 module _ (words : List ℕ) (contexts n : ℕ) (isFree : Bool) (after : State) where
   -- 19 and 12
   pub abandon-refused : (number : ℕ) → number ≡ stateRefusal words → (number ≡ 0 → ⊥)
-      → stands (abandonRefused number) words ≡ abandonBy words isFree after (verdict (abandonTable words contexts n))
+      → stands (abandonRefused number) words ≡ abandonBy words isFree after (verdict (contextTable words contexts n))
   abandon-refused number e z = sym (ap (abandonBy words isFree after) (lent-refuses words contexts n number e z))
 
   module _ (fine : stateRefusal words ≡ 0) where
-    pub abandon-past : contexts ≤ n → stands (abandonRefused 13) words ≡ abandonBy words isFree after (verdict (abandonTable words contexts n))
+    pub abandon-past : contexts ≤ n → stands (abandonRefused 13) words ≡ abandonBy words isFree after (verdict (contextTable words contexts n))
     abandon-past k = sym (ap (abandonBy words isFree after) (past-refuses words contexts n fine k))
 
-    accepts : n < contexts → abandonBy words isFree after (verdict (abandonTable words contexts n)) ≡ abandonBy words isFree after accept
+    accepts : n < contexts → abandonBy words isFree after (verdict (contextTable words contexts n)) ≡ abandonBy words isFree after accept
     accepts k = ap (abandonBy words isFree after) (one-accepts words contexts n fine k)
 
-    pub abandon-free : n < contexts → isFree ≡ true → stands free words ≡ abandonBy words isFree after (verdict (abandonTable words contexts n))
+    pub abandon-free : n < contexts → isFree ≡ true → stands free words ≡ abandonBy words isFree after (verdict (contextTable words contexts n))
     abandon-free k f = sym (accepts k ∙ rw f)
 
     pub abandon-closed : (words′ : List ℕ) → length words′ ≡ stateWords → stateOf words′ ≡ after → n < contexts → isFree ≡ false
-        → stands closed words′ ≡ abandonBy words isFree after (verdict (abandonTable words contexts n))
+        → stands closed words′ ≡ abandonBy words isFree after (verdict (contextTable words contexts n))
     abandon-closed words′ z e k f = sym (accepts k ∙ rw (f, ← e) (ap (stands closed) (words-of words′ z)))

@@ -13,8 +13,9 @@ use Rattle.contexts.specs.State.{State, streamIn, messageIn, withStream, withMe
 use Rattle.contexts.specs.Words.{stateOf, wordsOf}
 use Rattle.lent_state.specs.Lent.{stateRows}
 
-unfoldable pub abandonTable : List ℕ → ℕ → ℕ → List Row
-abandonTable words contexts n =
+-- the table of a call on one of so many contexts
+unfoldable pub contextTable : List ℕ → ℕ → ℕ → List Row
+contextTable words contexts n =
     -- 19, 12 (lent_state/specs/Lent.antt)
     stateRows words
     -- a number past the last context
@@ -27,11 +28,11 @@ abandonBy words isFree after accept = cond isFree (stands free words) (stands cl
 
 unfoldable pub abandonStream : List ℕ → ℕ → Stands AbandonSaid
 abandonStream words n =
-    abandonBy words (isFreeStream (streamIn (stateOf words) n)) (withStream (stateOf words) n closedStream) (verdict (abandonTable words streamContexts n))
+    abandonBy words (isFreeStream (streamIn (stateOf words) n)) (withStream (stateOf words) n closedStream) (verdict (contextTable words streamContexts n))
 
 unfoldable pub abandonMessage : List ℕ → ℕ → Stands AbandonSaid
 abandonMessage words n =
-    abandonBy words (isFreeMessage (messageIn (stateOf words) n)) (withMessage (stateOf words) n closedMessage) (verdict (abandonTable words messageContexts n))
+    abandonBy words (isFreeMessage (messageIn (stateOf words) n)) (withMessage (stateOf words) n closedMessage) (verdict (contextTable words messageContexts n))
 
 abbrev pub AbandonStreamPromise : List ℕ → ℕ → Abandoned → List ℕ → Type 0
 AbandonStreamPromise words n r after = stands (saidOfAbandon r) after ≡ abandonStream words n

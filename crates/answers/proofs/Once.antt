@@ -14,8 +14,8 @@ use Rattle.answers.specs.declared.Written.{Written}
 use Rattle.answers.specs.declared.Written.the-variants as writer
 use Rattle.answers.specs.Answers.{Said, held, delivered, message, refused, said, SetupSaid, ready, setupRefused, saidOfSetup}
 use Rattle.answers.specs.Answers.{AbandonSaid, closed, free, abandonRefused, saidOfAbandon, WriterSaid, wrote, writeRefused, saidOfWriter}
-use Rattle.answers.specs.Answers.{StreamContextSaid, streamOpen, streamFree, streamAskRefused, saidOfStream}
-use Rattle.answers.specs.Answers.{MessageContextSaid, messageOpen, messageFree, messageAskRefused, saidOfMessage}
+use Rattle.answers.specs.Answers.{StreamContextSaid, streamIsOpen, streamIsFree, streamAskRefused, saidOfStream}
+use Rattle.answers.specs.Answers.{MessageContextSaid, messageIsOpen, messageIsFree, messageAskRefused, saidOfMessage}
 use Rattle.answers.specs.Once.{Outcome}
 
 -- where `back` undoes `says`, what is said determines the answer
@@ -78,8 +78,8 @@ abandon-once = once saidOfAbandon abandonedOf abandon-back
 -- ---- asking after a context
 
 streamAskedOf : StreamContextSaid → StreamAsked
-streamAskedOf (streamOpen flow streamID size) = stream.Open flow streamID size
-streamAskedOf streamFree = stream.Free
+streamAskedOf (streamIsOpen flow streamID size) = stream.Open flow streamID size
+streamAskedOf streamIsFree = stream.Free
 streamAskedOf (streamAskRefused number) = stream.Refused number
 
 stream-back : (a : StreamAsked) → streamAskedOf (saidOfStream a) ≡ a
@@ -92,8 +92,8 @@ pub stream-once : (a b : StreamAsked) → saidOfStream a ≡ saidOfStream b → 
 stream-once = once saidOfStream streamAskedOf stream-back
 
 messageAskedOf : MessageContextSaid → MessageAsked
-messageAskedOf (messageOpen source letter mbox msglen size marks last) = mail.Open source letter mbox msglen size marks last
-messageAskedOf messageFree = mail.Free
+messageAskedOf (messageIsOpen source letter mbox msglen size marks last) = mail.Open source letter mbox msglen size marks last
+messageAskedOf messageIsFree = mail.Free
 messageAskedOf (messageAskRefused number) = mail.Refused number
 
 mail-back : (a : MessageAsked) → messageAskedOf (saidOfMessage a) ≡ a

@@ -62,24 +62,24 @@ saidOfAbandon (abandoned.Refused number) = abandonRefused number
 
 pub data StreamContextSaid : Type 0 where
   -- a PDU is open there: its flow (source and cos), its streamID, and how many bytes of it are held
-  streamOpen : (flow : Flow) (streamID held : ℕ) → StreamContextSaid
-  streamFree : StreamContextSaid
+  streamIsOpen : (flow : Flow) (streamID held : ℕ) → StreamContextSaid
+  streamIsFree : StreamContextSaid
   streamAskRefused : (number : ℕ) → StreamContextSaid
 
 abbrev pub saidOfStream : StreamAsked → StreamContextSaid
-saidOfStream (stream.Open flow streamID size) = streamOpen flow streamID size
-saidOfStream stream.Free = streamFree
+saidOfStream (stream.Open flow streamID size) = streamIsOpen flow streamID size
+saidOfStream stream.Free = streamIsFree
 saidOfStream (stream.Refused number) = streamAskRefused number
 
 pub data MessageContextSaid : Type 0 where
   -- a message is open there: source, letter, mbox; its msglen, the bytes of its segments; which have come, and the last one's length, 0 before it came
-  messageOpen : (source letter mbox msglen size marks last : ℕ) → MessageContextSaid
-  messageFree : MessageContextSaid
+  messageIsOpen : (source letter mbox msglen size marks last : ℕ) → MessageContextSaid
+  messageIsFree : MessageContextSaid
   messageAskRefused : (number : ℕ) → MessageContextSaid
 
 abbrev pub saidOfMessage : MessageAsked → MessageContextSaid
-saidOfMessage (mail.Open source letter mbox msglen size marks last) = messageOpen source letter mbox msglen size marks last
-saidOfMessage mail.Free = messageFree
+saidOfMessage (mail.Open source letter mbox msglen size marks last) = messageIsOpen source letter mbox msglen size marks last
+saidOfMessage mail.Free = messageIsFree
 saidOfMessage (mail.Refused number) = messageAskRefused number
 
 -- ---- the writers, of a segment and of a record

@@ -7,10 +7,10 @@ use Rattle.tables.specs.Refusals.{Leaves, Verdict, refuse, accept, verdict, byV
 use Rattle.answers.specs.Answers.{AbandonSaid, closed, free, abandonRefused}
 use Rattle.contexts.specs.State.{State, streamIn, messageIn, withStream, withMessage, closedStream, closedMessage, isFreeStream, isFreeMessage, streamContexts, messageContexts}
 use Rattle.contexts.specs.Words.{stateOf}
-use Rattle.answers.specs.Answers.{streamAskRefused, messageAskRefused, streamFree, messageFree}
-use Rattle.answers.specs.Answers.{streamOpen, messageOpen}
+use Rattle.answers.specs.Answers.{streamAskRefused, messageAskRefused, streamIsFree, messageIsFree}
+use Rattle.answers.specs.Answers.{streamIsOpen, messageIsOpen}
 use Rattle.sizes.specs.Sizes.{bytesOf}
-use Rattle.abandoning.specs.Abandoning.{abandonTable, abandonBy, abandonStream, abandonMessage}
+use Rattle.abandoning.specs.Abandoning.{contextTable, abandonBy, abandonStream, abandonMessage}
 use Rattle.asking.specs.Asking.{askStream, askMessage, abandonsStream, abandonsMessage, AsksAsAbandons}
 
 -- of either kind: `says` is what abandoning says of what was asked
@@ -25,9 +25,9 @@ pub asks-as-abandons : AsksAsAbandons
 unfolding askStream askMessage abandonStream abandonMessage
 asks-as-abandons = record {
   stream = λ words n.
-      alike abandonsStream streamAskRefused streamFree _ (λ number. refl) refl refl words (withStream (stateOf words) n closedStream)
-      (verdict (abandonTable words streamContexts n)) (isFreeStream (streamIn (stateOf words) n));
+      alike abandonsStream streamAskRefused streamIsFree _ (λ number. refl) refl refl words (withStream (stateOf words) n closedStream)
+      (verdict (contextTable words streamContexts n)) (isFreeStream (streamIn (stateOf words) n));
   message = λ words n.
-      alike abandonsMessage messageAskRefused messageFree _ (λ number. refl) refl refl words (withMessage (stateOf words) n closedMessage)
-      (verdict (abandonTable words messageContexts n)) (isFreeMessage (messageIn (stateOf words) n));
+      alike abandonsMessage messageAskRefused messageIsFree _ (λ number. refl) refl refl words (withMessage (stateOf words) n closedMessage)
+      (verdict (contextTable words messageContexts n)) (isFreeMessage (messageIn (stateOf words) n));
 }

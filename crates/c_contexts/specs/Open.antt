@@ -1,8 +1,8 @@
 -- The numbers that stand for what is said of a context, for callers in C.
 use Prim.Native.Nat.{ℕ}
 use Rattle.answers.specs.Kinds.{refusedKind, freeKind, openKind}
-use Rattle.answers.specs.Answers.{StreamContextSaid, streamOpen, streamFree, streamAskRefused}
-use Rattle.answers.specs.Answers.{MessageContextSaid, messageOpen, messageFree, messageAskRefused}
+use Rattle.answers.specs.Answers.{StreamContextSaid, streamIsOpen, streamIsFree, streamAskRefused}
+use Rattle.answers.specs.Answers.{MessageContextSaid, messageIsOpen, messageIsFree, messageAskRefused}
 use Rattle.c_contexts.specs.declared.OpenStream.{OpenStream}
 use Rattle.c_contexts.specs.declared.OpenMessage.{OpenMessage}
 
@@ -24,7 +24,7 @@ noMessage kind number = record {
 }
 
 abbrev pub openStreamOf : StreamContextSaid → OpenStream
-openStreamOf (streamOpen flow streamID held) = record {
+openStreamOf (streamIsOpen flow streamID held) = record {
   kind = openKind;
   number = 0;
   source = flow .source;
@@ -32,11 +32,11 @@ openStreamOf (streamOpen flow streamID held) = record {
   stream = streamID;
   held = held;
 }
-openStreamOf streamFree = noStream freeKind 0
+openStreamOf streamIsFree = noStream freeKind 0
 openStreamOf (streamAskRefused number) = noStream refusedKind number
 
 abbrev pub openMessageOf : MessageContextSaid → OpenMessage
-openMessageOf (messageOpen source letter mbox msglen size marks last) = record {
+openMessageOf (messageIsOpen source letter mbox msglen size marks last) = record {
   kind = openKind;
   number = 0;
   source = source;
@@ -47,5 +47,5 @@ openMessageOf (messageOpen source letter mbox msglen size marks last) = record {
   marks = marks;
   last = last;
 }
-openMessageOf messageFree = noMessage freeKind 0
+openMessageOf messageIsFree = noMessage freeKind 0
 openMessageOf (messageAskRefused number) = noMessage refusedKind number

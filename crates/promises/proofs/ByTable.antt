@@ -25,7 +25,7 @@ use Rattle.reading.specs.Table.{Lent, stateIn, segmentIn, messageSegmentIn, tab
 use Rattle.reading.specs.Read.{Settled, refusing, accepting, outcome, reading}
 use Rattle.endpoint.specs.Calls.{setupTable, setupBy, setup}
 use Rattle.answers.specs.Stands.{Stands}
-use Rattle.abandoning.specs.Abandoning.{abandonTable, abandonBy, abandonStream, abandonMessage}
+use Rattle.abandoning.specs.Abandoning.{contextTable, abandonBy, abandonStream, abandonMessage}
 use Rattle.asking.specs.Asking.{heldInStream, heldInMessage, askStream, askMessage}
 use Rattle.cutting.specs.Cutting.{packetOf}
 use Rattle.writing.specs.Writer.{writerTable, wroteBy, writing}
@@ -114,10 +114,10 @@ setup-by-table words fixed =
 
 -- of either kind of context
 abandoning : (words : List ℕ) (contexts k : ℕ) (isFree : Bool) (after : State)
-    → ByTable (abandonTable words contexts k) (λ (n : ℕ) (o : Stands AbandonSaid). o .says ≡ abandonRefused n) (λ n l. abandonBy words isFree after (refuse n l)) (abandonBy words isFree after accept)
-    (abandonBy words isFree after (verdict (abandonTable words contexts k)))
+    → ByTable (contextTable words contexts k) (λ (n : ℕ) (o : Stands AbandonSaid). o .says ≡ abandonRefused n) (λ n l. abandonBy words isFree after (refuse n l)) (abandonBy words isFree after accept)
+    (abandonBy words isFree after (verdict (contextTable words contexts k)))
 abandoning words contexts k isFree after =
-    by-table (abandonTable words contexts k) _ (abandonBy words isFree after) (λ number leaves. refl) (λ n number leaves e. cc)
+    by-table (contextTable words contexts k) _ (abandonBy words isFree after) (λ number leaves. refl) (λ n number leaves e. cc)
     (λ n. chosen (λ (o : Stands AbandonSaid). o .says ≡ abandonRefused n → ⊥) isFree _ _ (λ e. let z : _≡_ {A = ℕ} 0 1 = cc in omega arith) (λ e. let z : _≡_ {A = ℕ} 0 1 = cc in omega arith))
 
 pub abandon-stream-by-table : AbandonStreamByTable
@@ -131,7 +131,7 @@ abandon-message-by-table words k = abandoning words messageContexts k (isFreeMes
 pub ask-stream-by-table : AskStreamByTable
 unfolding askStream
 ask-stream-by-table words k =
-    by-table (abandonTable words streamContexts k) (λ (n : ℕ) (o : StreamContextSaid). o ≡ streamAskRefused n)
+    by-table (contextTable words streamContexts k) (λ (n : ℕ) (o : StreamContextSaid). o ≡ streamAskRefused n)
     (byVerdict (λ (number : ℕ) (leaves : Leaves). streamAskRefused number) (heldInStream (streamIn (stateOf words) k))) (λ number leaves. refl) (λ n number leaves e. cc)
     (λ n. chosen (λ (o : StreamContextSaid). o ≡ streamAskRefused n → ⊥) (isFreeStream (streamIn (stateOf words) k)) _ _ (λ e. let z : _≡_ {A = ℕ} 0 1 = cc in omega arith)
     (λ e. let z : _≡_ {A = ℕ} 0 1 = cc in omega arith))
@@ -139,7 +139,7 @@ ask-stream-by-table words k =
 pub ask-message-by-table : AskMessageByTable
 unfolding askMessage
 ask-message-by-table words k =
-    by-table (abandonTable words messageContexts k) (λ (n : ℕ) (o : MessageContextSaid). o ≡ messageAskRefused n)
+    by-table (contextTable words messageContexts k) (λ (n : ℕ) (o : MessageContextSaid). o ≡ messageAskRefused n)
     (byVerdict (λ (number : ℕ) (leaves : Leaves). messageAskRefused number) (heldInMessage (messageIn (stateOf words) k))) (λ number leaves. refl) (λ n number leaves e. cc)
     (λ n. chosen (λ (o : MessageContextSaid). o ≡ messageAskRefused n → ⊥) (isFreeMessage (messageIn (stateOf words) k)) _ _ (λ e. let z : _≡_ {A = ℕ} 0 1 = cc in omega arith)
     (λ e. let z : _≡_ {A = ℕ} 0 1 = cc in omega arith))

@@ -19,7 +19,7 @@ use Rattle.wire.specs.Packet.{header}
 use Rattle.answers.specs.declared.Begun.the-variants.{Ready}
 use Rattle.endpoint.specs.Calls.{SetupPromise, SetupLeaves, setupTable, setup, setupBy}
 use Rattle.answers.specs.Stands.{Stands, stands}
-use Rattle.abandoning.specs.Abandoning.{abandonTable, abandonBy, abandonStream, abandonMessage}
+use Rattle.abandoning.specs.Abandoning.{contextTable, abandonBy, abandonStream, abandonMessage}
 use Rattle.promises.specs.GoodStates.{GoodStatesStay}
 
 -- ---- setup
@@ -52,14 +52,14 @@ module _ (words : List ℕ) (n : ℕ) (g : GoodWords words) where
   abandon-stream-good : StillGood (stateOf words) (abandonStream words n .words)
   unfolding abandonStream
   abandon-stream-good =
-      by-verdict words _ _ (verdict (abandonTable words streamContexts n)) g
+      by-verdict words _ _ (verdict (contextTable words streamContexts n)) g
       (good-words words (withStream (stateOf words) n closedStream) (record { setup = refl; streams = simp length-set; messages = refl })
       (stream-kept (stateOf words) n closedStream (g .good) (closed-stream (stateOf words .setup .room))))
 
   abandon-message-good : StillGood (stateOf words) (abandonMessage words n .words)
   unfolding abandonMessage
   abandon-message-good =
-      by-verdict words _ _ (verdict (abandonTable words messageContexts n)) g
+      by-verdict words _ _ (verdict (contextTable words messageContexts n)) g
       (good-words words (withMessage (stateOf words) n closedMessage) (record { setup = refl; streams = refl; messages = simp length-set })
       (message-kept (stateOf words) n closedMessage (g .good) closed-message))
 

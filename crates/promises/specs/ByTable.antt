@@ -21,7 +21,7 @@ use Rattle.reading.specs.Table.{Lent, table}
 use Rattle.reading.specs.Read.{Settled, refusing, accepting, reading}
 use Rattle.endpoint.specs.Calls.{setupTable, setupLeaving, setup}
 use Rattle.answers.specs.Stands.{Stands, stands}
-use Rattle.abandoning.specs.Abandoning.{abandonTable, abandonStream, abandonMessage}
+use Rattle.abandoning.specs.Abandoning.{contextTable, abandonStream, abandonMessage}
 use Rattle.answers.specs.Answers.{StreamContextSaid, streamAskRefused, MessageContextSaid, messageAskRefused}
 use Rattle.asking.specs.Asking.{heldInStream, heldInMessage, askStream, askMessage}
 use Rattle.cutting.specs.declared.Heading.{Heading}
@@ -59,7 +59,7 @@ SetupByTable =
 abbrev pub AbandonStreamByTable : Type 0
 AbandonStreamByTable =
     (words : List ℕ) (k : ℕ)
-    → ByTable (abandonTable words streamContexts k) (λ (n : ℕ) (o : Stands AbandonSaid). o .says ≡ abandonRefused n)
+    → ByTable (contextTable words streamContexts k) (λ (n : ℕ) (o : Stands AbandonSaid). o .says ≡ abandonRefused n)
     (λ (n : ℕ) (l : Leaves). stands (abandonRefused n) words)
     (cond (isFreeStream (streamIn (stateOf words) k)) (stands free words) (stands closed (wordsOf (withStream (stateOf words) k closedStream))))
     (abandonStream words k)
@@ -67,7 +67,7 @@ AbandonStreamByTable =
 abbrev pub AbandonMessageByTable : Type 0
 AbandonMessageByTable =
     (words : List ℕ) (k : ℕ)
-    → ByTable (abandonTable words messageContexts k) (λ (n : ℕ) (o : Stands AbandonSaid). o .says ≡ abandonRefused n)
+    → ByTable (contextTable words messageContexts k) (λ (n : ℕ) (o : Stands AbandonSaid). o .says ≡ abandonRefused n)
     (λ (n : ℕ) (l : Leaves). stands (abandonRefused n) words)
     (cond (isFreeMessage (messageIn (stateOf words) k)) (stands free words) (stands closed (wordsOf (withMessage (stateOf words) k closedMessage))))
     (abandonMessage words k)
@@ -76,13 +76,13 @@ AbandonMessageByTable =
 abbrev pub AskStreamByTable : Type 0
 AskStreamByTable =
     (words : List ℕ) (k : ℕ)
-    → ByTable (abandonTable words streamContexts k) (λ (n : ℕ) (o : StreamContextSaid). o ≡ streamAskRefused n) (λ (n : ℕ) (l : Leaves). streamAskRefused n)
+    → ByTable (contextTable words streamContexts k) (λ (n : ℕ) (o : StreamContextSaid). o ≡ streamAskRefused n) (λ (n : ℕ) (l : Leaves). streamAskRefused n)
     (heldInStream (streamIn (stateOf words) k)) (askStream words k)
 
 abbrev pub AskMessageByTable : Type 0
 AskMessageByTable =
     (words : List ℕ) (k : ℕ)
-    → ByTable (abandonTable words messageContexts k) (λ (n : ℕ) (o : MessageContextSaid). o ≡ messageAskRefused n) (λ (n : ℕ) (l : Leaves). messageAskRefused n)
+    → ByTable (contextTable words messageContexts k) (λ (n : ℕ) (o : MessageContextSaid). o ≡ messageAskRefused n) (λ (n : ℕ) (l : Leaves). messageAskRefused n)
     (heldInMessage (messageIn (stateOf words) k)) (askMessage words k)
 
 -- the segment writer: a refusal changes no byte; success makes the packet of the layout, byte for byte, and changes only its bytes
