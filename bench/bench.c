@@ -1,6 +1,7 @@
-/* One kind of traffic through one endpoint, a number of times: bench TRAFFIC ENDPOINT ROUNDS.
- * The packets are made once. A round reads them all and leaves every context closed, so rounds are
- * alike, and the instructions of two runs of N and 2 N rounds differ by exactly N rounds.
+/* One kind of traffic through one endpoint, a number of times: bench TRAFFIC ENDPOINT ROUNDS BITS,
+ * where a device ID has 16 or 8 bits. The packets are made once. A round reads them all and leaves
+ * every context closed, so rounds are alike, and the instructions of two runs of N and 2 N rounds
+ * differ by exactly N rounds.
  * Prints packets and payload bytes of a round, the rounds, and nanoseconds for a packet. */
 #include "kaiverohm.h"
 #include "twin.h"
@@ -16,6 +17,7 @@ static uint8_t packets[PACKETS][LONGEST];
 static size_t lengths[PACKETS];
 static size_t count, payload;
 static size_t mtu;
+static unsigned narrow; /* 0: IDs of 16 bits; 1: of 8 */
 
 static uint8_t burst[PACKETS * (LONGEST + 2)];
 static size_t burst_length;
@@ -25,9 +27,20 @@ static uint64_t state[STATE], reports[PACKETS * 9];
 static uint8_t responses[PACKETS * 8], response[7];
 static struct twin twin;
 
+/* Packets are made for IDs of 16 bits. The same for 8: tt is 00 for 01, or 01 for 00 in the packet
+   that row 2 refuses, and the two high bytes are left out. */
 static void add(const uint8_t *packet, size_t length)
 {
-    memcpy(packets[count], packet, length);
+    uint8_t *to = packets[count];
+    memcpy(to, packet, length);
+    if (narrow) {
+        length -= 2;
+        to[0] ^= 0x10;
+        to[1] = packet[2];
+        to[2] = packet[4];
+        if (length > 3)
+            memcpy(to + 3, packet + 5, length - 3);
+    }
     lengths[count++] = length;
 }
 
@@ -177,7 +190,8 @@ static void round_unchecked(void)
 static void round_memcpy(void)
 {
     for (size_t i = 0; i < count; i++) {
-        size_t head = lengths[i] < 9 ? lengths[i] : 9;
+        size_t front = narrow ? 7 : 9;
+        size_t head = lengths[i] < front ? lengths[i] : front;
         memcpy(streams + i % 16 * ROOM, packets[i] + head, lengths[i] - head);
         sum += streams[i % 16 * ROOM];
     }
@@ -260,18 +274,22 @@ static void agree(void)
     same(memcmp(reports, answers, count * sizeof answers[0]) == 0, "reports of a burst", count);
     same(memcmp(state, &twin, sizeof twin) == 0, "states behind a burst", count);
     for (size_t i = 0; i < count; i++)
-        same(answers[i].response == 0 || memcmp(responses + 8 * i, answered[i], 7) == 0,
+        same(memcmp(responses + 8 * i, answered[i], answers[i].response) == 0,
              "responses of a burst", i);
 }
 
 int main(int argc, char **argv)
 {
-    if (argc != 4)
+    if (argc != 5)
         return 2;
+    narrow = strcmp(argv[4], "8") == 0;
     make(argv[1]);
     make_burst();
-    kaiverohm_setup(state, STATE, 1, mtu, ROOM);
-    twin_setup(&twin, 1, mtu, ROOM);
+    struct kaiverohm_settings settings = {
+        .device = 1, .mtu = mtu, .room = ROOM, .narrow = narrow
+    };
+    kaiverohm_setup(state, STATE, settings);
+    twin_setup(&twin, 1, mtu, ROOM, narrow);
     agree();
     int rounds = atoi(argv[3]);
     for (size_t e = 0; e < sizeof endpoints / sizeof *endpoints; e++) {

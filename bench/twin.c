@@ -2,6 +2,9 @@
 
 #include <string.h>
 
+/* Inlined for each width by itself, so that neither has the other's tests. */
+#define INLINE inline __attribute__((always_inline))
+
 /* 8, 16, .. 256 for the codes 1001 to 1110, else 0 */
 static inline unsigned bytes_of(unsigned ssize)
 {
@@ -74,19 +77,31 @@ static inline int free_stream(const struct twin *t)
     return 16;
 }
 
-static inline struct twin_report read_stream(struct twin *t, uint8_t *memory, const uint8_t *p,
-                                             size_t length)
+/* An ID of so many bytes, 2 or 1. */
+static INLINE uint64_t id_at(const uint8_t *p, unsigned ids)
 {
-    unsigned flags = p[6];
+    return ids == 2 ? (uint64_t)(p[0] << 8 | p[1]) : p[0];
+}
+
+/* Where the fields of a type begin. */
+static INLINE unsigned header(unsigned ids)
+{
+    return 1 + 2 * ids;
+}
+
+static INLINE struct twin_report read_stream(struct twin *t, uint8_t *memory, const uint8_t *p,
+                                             size_t length, unsigned ids)
+{
+    unsigned h = header(ids), flags = p[h + 1];
     if (flags & 4)
         return refused(5, false);
     bool start = flags & 128, end = flags & 64;
-    size_t from = start || end ? 9 : 7;
+    size_t from = start || end ? h + 4 : h + 2;
     if (length < from)
         return refused(1, false);
-    uint64_t source = p[3] << 8 | p[4], cos = p[5];
+    uint64_t source = id_at(p + 1 + ids, ids), cos = p[h];
     size_t raw = length - from;
-    unsigned field = start || end ? p[7] << 8 | p[8] : 0;
+    unsigned field = start || end ? p[h + 2] << 8 | p[h + 3] : 0;
     int found = find_stream(t, source, cos);
     if (raw == 0 || raw % 2 == 1 || (raw / 2 % 2 == 1) != !!(flags & 2))
         return refused_closing(t, found, 6);
@@ -119,22 +134,20 @@ static inline struct twin_report read_stream(struct twin *t, uint8_t *memory, co
     return (struct twin_report){ TWIN_DELIVERED, 0, dropped, n, source, cos, stream, base + size };
 }
 
-static inline void respond(uint8_t *r, const uint8_t *p, unsigned status)
+static INLINE void respond(uint8_t *r, const uint8_t *p, unsigned ids, unsigned status)
 {
-    unsigned priority = p[0] >> 6;
-    r[0] = (uint8_t)((priority < 3 ? priority + 1 : 3) << 6 | 1 << 4 | 13);
-    r[1] = p[3];
-    r[2] = p[4];
-    r[3] = p[1];
-    r[4] = p[2];
-    r[5] = (uint8_t)(1 << 4 | status);
-    r[6] = p[6];
+    unsigned priority = p[0] >> 6, h = header(ids);
+    r[0] = (uint8_t)((priority < 3 ? priority + 1 : 3) << 6 | (ids - 1) << 4 | 13);
+    memcpy(r + 1, p + 1 + ids, ids);
+    memcpy(r + 1 + ids, p + 1, ids);
+    r[h] = (uint8_t)(1 << 4 | status);
+    r[h + 1] = p[h + 1];
 }
 
-static inline struct twin_report answered(uint8_t *response, const uint8_t *p, unsigned number,
-                                          unsigned status)
+static INLINE struct twin_report answered(uint8_t *response, const uint8_t *p, unsigned ids,
+                                          unsigned number, unsigned status)
 {
-    respond(response, p, status);
+    respond(response, p, ids, status);
     return refused(number, false);
 }
 
@@ -145,21 +158,22 @@ static inline struct twin_report whole_message(struct twin *t, int n, uint64_t s
     return (struct twin_report){ TWIN_MESSAGE, 0, 0, n, source, letter, mailbox, length };
 }
 
-static inline struct twin_report read_message(struct twin *t, uint8_t *memory, uint8_t *response,
-                                              const uint8_t *p, size_t length)
+static INLINE struct twin_report read_message(struct twin *t, uint8_t *memory, uint8_t *response,
+                                              const uint8_t *p, size_t length, unsigned ids)
 {
-    unsigned msglen = p[5] >> 4, ssize = p[5] & 15, letter = p[6] >> 6, mbox = p[6] >> 4 & 3,
-             msgseg = p[6] & 15;
-    uint64_t source = p[3] << 8 | p[4];
-    size_t raw = length - 7;
+    unsigned h = header(ids), sizes = p[h], names = p[h + 1];
+    unsigned msglen = sizes >> 4, ssize = sizes & 15, letter = names >> 6, mbox = names >> 4 & 3,
+             msgseg = names & 15;
+    uint64_t source = id_at(p + 1 + ids, ids);
+    size_t raw = length - (h + 2);
     unsigned size = bytes_of(ssize);
     if (size == 0)
-        return answered(response, p, 20, 7);
+        return answered(response, p, ids, 20, 7);
     bool last = msglen == 0 || msgseg == msglen;
     if (last ? raw < 8 || raw > size || raw % 8 != 0 : raw != size)
-        return answered(response, p, 21, 7);
+        return answered(response, p, ids, 21, 7);
     if (msglen > 0 && msgseg > msglen)
-        return answered(response, p, 22, 7);
+        return answered(response, p, ids, 22, 7);
     int n = 8;
     if (msglen > 0) {
         for (n = 0; n < 8; n++)
@@ -171,21 +185,21 @@ static inline struct twin_report read_message(struct twin *t, uint8_t *memory, u
     if (n < 8) {
         m = t->messages[n];
         if (m.msglen != msglen || m.ssize != ssize)
-            return answered(response, p, 23, 7);
+            return answered(response, p, ids, 23, 7);
         if (m.marks >> msgseg & 1)
-            return answered(response, p, 24, 7);
+            return answered(response, p, ids, 24, 7);
     } else {
         for (n = 0; n < 8 && t->messages[n].live; n++)
             ;
         if (n == 8)
-            return answered(response, p, 25, 3);
+            return answered(response, p, ids, 25, 3);
     }
-    respond(response, p, 0);
+    respond(response, p, ids, 0);
     if (msglen == 0) {
-        memcpy(memory + n * 4096, p + 7, raw);
+        memcpy(memory + n * 4096, p + h + 2, raw);
         return whole_message(t, n, source, letter, 4 * msgseg + mbox, raw);
     }
-    memcpy(memory + n * 4096 + msgseg * size, p + 7, raw);
+    memcpy(memory + n * 4096 + msgseg * size, p + h + 2, raw);
     m.marks |= 1u << msgseg;
     if (last)
         m.last = raw;
@@ -195,28 +209,42 @@ static inline struct twin_report read_message(struct twin *t, uint8_t *memory, u
     return (struct twin_report){ .kind = TWIN_HELD };
 }
 
-static inline struct twin_report read_packet(struct twin *t, uint8_t *streams,
+static INLINE struct twin_report read_at(struct twin *t, uint8_t *streams, size_t streams_length,
+                                         uint8_t *messages, size_t messages_length,
+                                         uint8_t *response, size_t response_length,
+                                         const uint8_t *p, size_t length, unsigned ids)
+{
+    unsigned h = header(ids);
+    if (streams_length != 16 * t->room || messages_length != 32768 || response_length < h + 2)
+        return refused(12, false);
+    if (length < h)
+        return refused(1, false);
+    if ((p[0] >> 4 & 3) != ids - 1)
+        return refused(2, false);
+    if (id_at(p + 1, ids) != t->device)
+        return refused(3, false);
+    unsigned type = p[0] & 15;
+    if (type != 9 && type != 11)
+        return refused(4, false);
+    if (length < h + 2)
+        return refused(1, false);
+    if (type == 9)
+        return read_stream(t, streams, p, length, ids);
+    return read_message(t, messages, response, p, length, ids);
+}
+
+/* The width parts here, so that each side has its places as constants. */
+static INLINE struct twin_report read_packet(struct twin *t, uint8_t *streams,
                                              size_t streams_length, uint8_t *messages,
                                              size_t messages_length, uint8_t *response,
                                              size_t response_length, const uint8_t *p,
                                              size_t length)
 {
-    if (streams_length != 16 * t->room || messages_length != 32768 || response_length < 7)
-        return refused(12, false);
-    if (length < 5)
-        return refused(1, false);
-    if ((p[0] >> 4 & 3) != 1)
-        return refused(2, false);
-    if ((uint64_t)(p[1] << 8 | p[2]) != t->device)
-        return refused(3, false);
-    unsigned type = p[0] & 15;
-    if (type != 9 && type != 11)
-        return refused(4, false);
-    if (length < 7)
-        return refused(1, false);
-    if (type == 9)
-        return read_stream(t, streams, p, length);
-    return read_message(t, messages, response, p, length);
+    if (t->narrow)
+        return read_at(t, streams, streams_length, messages, messages_length, response,
+                       response_length, p, length, 1);
+    return read_at(t, streams, streams_length, messages, messages_length, response, response_length,
+                   p, length, 2);
 }
 
 struct twin_report twin_read(struct twin *t, uint8_t *streams, size_t streams_length,
@@ -237,7 +265,7 @@ struct twin_report twin_read_unchecked(struct twin *t, uint8_t *streams, size_t 
                        response_length, packet, length);
 }
 
-void twin_setup(struct twin *t, unsigned device, size_t mtu, size_t room)
+void twin_setup(struct twin *t, unsigned device, size_t mtu, size_t room, unsigned narrow)
 {
-    *t = (struct twin){ .device = device, .mtu = mtu, .room = room };
+    *t = (struct twin){ .device = device, .mtu = mtu, .room = room, .narrow = narrow };
 }

@@ -16,7 +16,7 @@ struct twin_message {
 };
 
 struct twin {
-    uint64_t device, mtu, room;
+    uint64_t device, mtu, room, narrow; /* narrow: 0 is 16 bits for an ID, else 8 */
     struct twin_stream streams[16];
     struct twin_message messages[8];
 };
@@ -27,7 +27,7 @@ struct twin_report {
     uint64_t kind, number, dropped, context, source, cos_or_letter, stream_or_mailbox, length;
 };
 
-void twin_setup(struct twin *t, unsigned device, size_t mtu, size_t room);
+void twin_setup(struct twin *t, unsigned device, size_t mtu, size_t room, unsigned narrow);
 
 /* With every check of the refusal table. */
 struct twin_report twin_read(struct twin *t, uint8_t *streams, size_t streams_length,

@@ -18,6 +18,9 @@ static uint8_t response[KAIVEROHM_RESPONSE_BYTES];
 /* Each is written down once, here; every call takes them from it. */
 static const struct kaiverohm_desk desk = KAIVEROHM_DESK(state, streams, messages, response);
 
+/* A field that is not named is 0: device IDs have 16 bits. */
+static const struct kaiverohm_settings settings = { .device = DEVICE, .mtu = MTU, .room = ROOM };
+
 /* The bytes that a report delivers are in our own memory. The next packet may write over them. */
 static void print_bytes(const struct kaiverohm_report *report)
 {
@@ -69,7 +72,7 @@ int main(void)
         return 1;
     }
 
-    struct kaiverohm_answer answer = kaiverohm_desk_setup(&desk, DEVICE, MTU, ROOM);
+    struct kaiverohm_answer answer = kaiverohm_desk_setup(&desk, settings);
     if (answer.kind != KAIVEROHM_READY) {
         printf("setup refused: %s\n", kaiverohm_refusal_words(answer.number));
         return 1;

@@ -14,12 +14,13 @@ static uint8_t streams[KAIVEROHM_STREAM_MEMORY(ROOM)];
 static uint8_t messages[KAIVEROHM_MESSAGE_MEMORY];
 static uint8_t response[KAIVEROHM_RESPONSE_BYTES];
 static const struct kaiverohm_desk desk = KAIVEROHM_DESK(state, streams, messages, response);
+static const struct kaiverohm_settings settings = { .device = DEVICE, .mtu = MTU, .room = ROOM };
 
 /* Header and archive belong together, and the desk is set up. */
 static int begin(void)
 {
     return kaiverohm_interface() == KAIVEROHM_INTERFACE
-           && kaiverohm_desk_setup(&desk, DEVICE, MTU, ROOM).kind == KAIVEROHM_READY;
+           && kaiverohm_desk_setup(&desk, settings).kind == KAIVEROHM_READY;
 }
 
 /* Segment k of a message of three segments of 8 bytes, from board 2, letter 1,

@@ -2,9 +2,9 @@
 
    It reads data-streaming packets (type 9) and messages (type 11), joins
    their segments in memory that you lend it, and writes type 9 segments and
-   type 13 responses. It keeps nothing between calls: all it knows stands in
-   your buffers. It allocates nothing, waits for nothing and calls nothing but
-   memcpy and memset.
+   type 13 responses. Device IDs have 16 bits or 8, as setup chooses. It keeps
+   nothing between calls: all it knows stands in your buffers. It allocates
+   nothing, waits for nothing and calls nothing but memcpy and memset.
 
    The functions are proved (crates/kaiverohm). The proof covers any bytes in
    any buffer and any number in any argument. It cannot see the C that calls.
@@ -67,25 +67,31 @@
 extern "C" {
 #endif
 
-#define KAIVEROHM_VERSION "0.1"
+#define KAIVEROHM_VERSION "0.2"
 #define KAIVEROHM_VERSION_MAJOR 0
-#define KAIVEROHM_VERSION_MINOR 1
+#define KAIVEROHM_VERSION_MINOR 2
 
 /* It rises whenever a function, a struct or a constant of this file changes.
    What is only added leaves it. kaiverohm_interface says the archive's: compare
-   the two once, before the first call. */
-#define KAIVEROHM_INTERFACE 1
+   the two once, before the first call.
 
-#define KAIVEROHM_STATE_WORDS 147      /* a state: 147 words of 8 bytes */
+   Interface 2 has IDs of 8 bits. Who comes from 1 compiles anew, hands setup its
+   numbers in a struct kaiverohm_settings and gives a struct kaiverohm_heading its
+   field narrow (left out of an initializer, it is 0: IDs of 16 bits, as before).
+   A state has one word more, so each is set up anew: one of 147 words is refused
+   by 12. */
+#define KAIVEROHM_INTERFACE 2
+
+#define KAIVEROHM_STATE_WORDS 148      /* a state: 148 words of 8 bytes */
 #define KAIVEROHM_STREAM_CONTEXTS 16   /* stream memory: 16 rooms of R bytes */
 #define KAIVEROHM_MESSAGE_CONTEXTS 8   /* message memory: 8 rooms of 4,096 */
 #define KAIVEROHM_MESSAGE_ROOM 4096    /* one room */
 #define KAIVEROHM_MESSAGE_MEMORY 32768 /* all 8 rooms */
-#define KAIVEROHM_RESPONSE_BYTES 7     /* a type 13 response */
+#define KAIVEROHM_RESPONSE_BYTES 7     /* always enough for a type 13 response */
 #define KAIVEROHM_LARGEST_PDU 65536    /* the bytes of a PDU: 1 to 65,536 */
 #define KAIVEROHM_LARGEST_PACKET 265   /* of what the segment writer writes */
 #define KAIVEROHM_REPORT_WORDS 9       /* a report in a burst: 9 words */
-#define KAIVEROHM_SLOT_BYTES 8         /* a response in a burst: 8 bytes */
+#define KAIVEROHM_SLOT_BYTES 8         /* for a response in a burst: 8 bytes */
 
 /* The bytes of a packet in a record: 0 to 16,383. */
 #define KAIVEROHM_LARGEST_RECORDED 16383
@@ -147,7 +153,8 @@ enum kaiverohm_refusal {
     KAIVEROHM_REFUSAL_PAST_LAST = 22,
     KAIVEROHM_REFUSAL_OTHER_MESSAGE = 23,
     KAIVEROHM_REFUSAL_TWICE = 24,
-    KAIVEROHM_REFUSAL_MESSAGES_FULL = 25
+    KAIVEROHM_REFUSAL_MESSAGES_FULL = 25,
+    KAIVEROHM_REFUSAL_WIDE_ID = 47
 };
 
 /* A refusal in words; for any other number, that it is none. Never NULL. */
@@ -155,7 +162,7 @@ static inline const char *kaiverohm_refusal_words(uint64_t number)
 {
     switch (number) {
     case KAIVEROHM_REFUSAL_SHORT: return "too short to have a whole head";
-    case KAIVEROHM_REFUSAL_ID_WIDTH: return "device IDs not of 16 bits";
+    case KAIVEROHM_REFUSAL_ID_WIDTH: return "device IDs of another width";
     case KAIVEROHM_REFUSAL_OTHER_DEVICE: return "for another device";
     case KAIVEROHM_REFUSAL_TYPE: return "neither type 9 nor type 11";
     case KAIVEROHM_REFUSAL_EXTENDED: return "type 9 with an extended header";
@@ -179,6 +186,7 @@ static inline const char *kaiverohm_refusal_words(uint64_t number)
     case KAIVEROHM_REFUSAL_OTHER_MESSAGE: return "other msglen or ssize than before";
     case KAIVEROHM_REFUSAL_TWICE: return "the segment is there already";
     case KAIVEROHM_REFUSAL_MESSAGES_FULL: return "all 8 message contexts in use";
+    case KAIVEROHM_REFUSAL_WIDE_ID: return "a device ID over 255 where IDs have 8 bits";
     default: return "no refusal";
     }
 }
@@ -196,7 +204,8 @@ struct kaiverohm_report {
     uint64_t dropped;           /* any kind: 1 where this packet gave an unfinished
                                    PDU up: refused 6, 7, 9 or 11, or a start or
                                    single on a flow that had one. Else 0 */
-    uint64_t response;          /* any kind: bytes of response written, 7 or 0 */
+    uint64_t response;          /* any kind: bytes of response written. 0 for none; else
+                                   7, or 5 where IDs have 8 bits */
     uint64_t context;           /* delivered, message: the context, so the room */
     uint64_t source;            /* delivered, message: who sent it */
     uint64_t cos_or_letter;     /* delivered: cos. message: letter */
@@ -241,13 +250,23 @@ struct kaiverohm_open_message {
     uint64_t last;   /* open: the bytes of the last segment, 0 before it came */
 };
 
-/* What the segment writer writes in the head of each packet. */
+/* What the segment writer writes in the head of each packet. An endpoint of the
+   other width refuses the packet by 2. */
 struct kaiverohm_heading {
-    uint16_t destination;
-    uint16_t source;
+    uint16_t destination; /* with IDs of 8 bits at most 255 */
+    uint16_t source;      /* likewise */
     uint16_t stream;
     uint8_t cos;
     uint8_t priority; /* 0 to 3 */
+    uint64_t narrow;  /* 0: IDs of 16 bits; any other number: of 8 */
+};
+
+/* What setup fixes. */
+struct kaiverohm_settings {
+    uint16_t device; /* our own ID; with IDs of 8 bits at most 255 */
+    uint64_t mtu;    /* a multiple of 4, from 32 to 256 */
+    uint64_t room;   /* R: from the MTU to 65,536 */
+    uint64_t narrow; /* 0: IDs of 16 bits; any other number: of 8 */
 };
 
 /* The archive's interface. Where it is not KAIVEROHM_INTERFACE, this header and the
@@ -255,35 +274,40 @@ struct kaiverohm_heading {
    Promise: crates/kaiverohm/specs/Exports.antt, InterfacePromise. */
 uint64_t kaiverohm_interface(void);
 
-/* The words of a state: 147.
+/* The words of a state: 148.
    Promise: crates/endpoint/specs/Calls.antt, LengthPromise. */
 uint64_t kaiverohm_state_length(void);
 
-/* Makes a state for a device ID, an MTU and rooms of R bytes.
+/* Makes a state for a device ID, an MTU, rooms of R bytes and a width of the IDs.
 
-   state: 147 words, written. What stood there is not looked at.
+   state: 148 words, written. What stood there is not looked at.
    Answers READY; or REFUSED, in this order:
-     12  the state has another length than 147. All stays.
+     12  the state has another length than 148. All stays.
+     47  IDs have 8 bits and the device is over 255. The state is zeros.
      18  the MTU is no multiple of 4 from 32 to 256. The state is zeros.
      19  R is under the MTU or over 65,536. The state is zeros.
-   A state of zeros is none: reading, asking and
-   abandoning refuse it by 19, and no room is found in it.
+   A state of zeros is none: reading, asking and abandoning refuse it by 19, and
+   no room is found in it.
    Promise: crates/kaiverohm/specs/Exports.antt, SetupFromCPromise. */
-struct kaiverohm_answer kaiverohm_setup(uint64_t *state, size_t state_words, uint16_t device,
-                                        uint64_t mtu, uint64_t room);
+struct kaiverohm_answer kaiverohm_setup(uint64_t *state, size_t state_words,
+                                        struct kaiverohm_settings settings);
 
 /* clang-format off */
 /* Reads one packet: the wire packet without its first link byte, CRC and fill.
 
-   state:          147 words, read and written.
+   state:          148 words, read and written.
    stream_memory:  exactly 16 R bytes, written. Room n begins at n R.
    message_memory: exactly 32,768 bytes, written. Room n begins at 4,096 n.
    response:       7 bytes or more. The first 7 may be written.
    packet:         any number of bytes, read.
    Answers HELD, DELIVERED, MESSAGE or REFUSED, by the first that holds: 12 (the
-   state has another length than 147); 19; 12 (another buffer has the wrong one);
+   state has another length than 148); 19; 12 (another buffer has the wrong one);
    1 (under 5 bytes), 2, 3, 4; 1 (under 7 bytes); then for type 9: 5; 1 (a start,
    an end or a single, under 9 bytes); 6 to 11; for type 11: 20 to 25.
+   The lengths of a response and of a packet are those with IDs of 16 bits. With
+   IDs of 8 bits each is 2 less: 5 bytes of response or more, of which the first 5
+   may be written; packets under 3, under 5 and under 7 bytes. 2 is for IDs that
+   are not of our width.
      type 9 accepted   its data go into a stream room, and the context's words
                        are written: all 0 where the PDU is whole.
      type 11 accepted  its data go into a message room, the context's words are
@@ -293,10 +317,10 @@ struct kaiverohm_answer kaiverohm_setup(uint64_t *state, size_t state_words, uin
                        context is closed if it was open, all else stays.
                        20 to 25: the response is written, ERROR, or RETRY for
                        25; all else stays.
-   A response is a whole type 13 packet. It is the caller who sends it.
-   report.response says whether the response was written (crates/c_promises/specs/
-   OfCalls.antt, ReportsReply). A delivered room keeps its bytes until its
-   context is next used.
+   A response is a whole type 13 packet, with IDs of our width. It is the caller
+   who sends it. report.response says whether it was written, and how many bytes
+   it has (crates/c_promises/specs/OfCalls.antt, ReportsReply). A delivered room
+   keeps its bytes until its context is next used.
    Promise: crates/kaiverohm/specs/Exports.antt, ReadFromCPromise. */
 struct kaiverohm_report kaiverohm_read(uint64_t *state, size_t state_words,
                                        uint8_t *stream_memory, size_t stream_length,
@@ -309,9 +333,10 @@ struct kaiverohm_report kaiverohm_read(uint64_t *state, size_t state_words,
    and the lengths are tested once.
 
    state, stream_memory, message_memory: as in kaiverohm_read.
-   responses:  8 bytes for each packet; under 7 in all is refused by 12. Packet k
-               may write the first 7 of the 8 bytes from 8 k on; report k says
-               whether it did.
+   responses:  8 bytes for each packet, at either width; under 7 in all is
+               refused by 12, with IDs of 8 bits under 5. Packet k may write the
+               first 7 of the 8 bytes from 8 k on, with IDs of 8 bits the first
+               5; report k says whether it did.
    reports:    9 words for each packet: a struct kaiverohm_report, from 9 k on.
                An array of them may be lent, as (uint64_t *)array and 9 words
                for each. Any length is allowed, 0 too: it only bounds how many
@@ -355,9 +380,9 @@ struct kaiverohm_burst kaiverohm_read_burst(uint64_t *state, size_t state_words,
    or after all 8 and look for its source, letter and mbox; of two the lower number
    counts. Nothing changes.
 
-   state: 147 words, read.
+   state: 148 words, read.
    Answers OPEN, and what is open there; WAS_FREE; or REFUSED, in this order:
-     12  the state has another length than 147.
+     12  the state has another length than 148.
      19  it is a state that 19 names.
      13  n is over 15, or for messages over 7.
    The words of the state themselves are no interface: docs/LAYOUTS.md has them
@@ -372,10 +397,10 @@ struct kaiverohm_open_message kaiverohm_message_context(const uint64_t *state, s
 
 /* Gives the PDU in stream context n up, or the message in message context n.
 
-   state: 147 words, read and written.
+   state: 148 words, read and written.
    Answers CLOSED, and the context's words are 0; WAS_FREE, and all stays; or
    REFUSED, in this order, and all stays:
-     12  the state has another length than 147.
+     12  the state has another length than 148.
      19  it is a state that 19 names.
      13  n is over 15, or for messages over 7.
    Promises: crates/kaiverohm/specs/Exports.antt, AbandonStreamFromCPromise and
@@ -388,7 +413,7 @@ struct kaiverohm_answer kaiverohm_abandon_message(uint64_t *state, size_t state_
    report, kaiverohm_stream_room(state, words, stream_length, report.context,
    report.length).
 
-   state: 147 words, read.
+   state: 148 words, read.
    size:  the length of your stream memory, or your message memory.
    Answers the offset and l. Where n is past the last context, l is over the
    room, size is not what kaiverohm_read needs, or the state is one that is
@@ -412,11 +437,12 @@ uint64_t kaiverohm_segment_count(uint64_t mtu, uint64_t pdu_length);
 
 /* Writes segment `number`, from 0, of a PDU as a type 9 packet.
 
-   out: room for the packet: MTU + 9 bytes are always enough. Written from its
-        beginning; bytes behind the packet stay.
+   out: room for the packet: MTU + 9 bytes are always enough, with IDs of 8 bits
+        MTU + 7. Written from its beginning; bytes behind the packet stay.
    pdu: the whole PDU, read.
    Answers WRITTEN and the packet's length; or REFUSED, in this order, and all
    stays:
+     47  IDs have 8 bits and the destination or the source is over 255.
      18  the MTU is not allowed.
      17  the priority is over 3.
      14  the PDU has 0 bytes or over 65,536.
@@ -460,7 +486,7 @@ struct kaiverohm_desk {
     size_t stream_length;
     uint8_t *message_memory; /* KAIVEROHM_MESSAGE_MEMORY bytes */
     size_t message_length;
-    uint8_t *response; /* 7 bytes; for bursts KAIVEROHM_SLOT_BYTES a packet */
+    uint8_t *response; /* KAIVEROHM_RESPONSE_BYTES; for bursts KAIVEROHM_SLOT_BYTES a packet */
     size_t response_length;
 };
 
@@ -474,10 +500,9 @@ struct kaiverohm_desk {
     }
 
 static inline struct kaiverohm_answer kaiverohm_desk_setup(const struct kaiverohm_desk *desk,
-                                                           uint16_t device, uint64_t mtu,
-                                                           uint64_t room)
+                                                           struct kaiverohm_settings settings)
 {
-    return kaiverohm_setup(desk->state, desk->state_words, device, mtu, room);
+    return kaiverohm_setup(desk->state, desk->state_words, settings);
 }
 
 static inline struct kaiverohm_report

@@ -90,7 +90,10 @@ static void keep_out(const struct buffer *output)
     append_text(&all_out, "log ");
     append_number(&all_out, log_bytes.length);
     append_text(&all_out, "\n");
-    append(&all_out, output->bytes, output->length);
+    if (eight_bits)
+        run_responses(&all_out, true, log_bytes.bytes, log_bytes.length);
+    else
+        append(&all_out, output->bytes, output->length);
 }
 
 static void keep(const struct buffer *output)
@@ -102,10 +105,17 @@ static void keep(const struct buffer *output)
     sections[section_count - 1].bytes += log_bytes.length;
 }
 
-void finish(void)
+/* What the log program prints for the log. */
+static struct buffer printed(void)
 {
     struct buffer output = { 0 };
-    run_log(&output, log_bytes.bytes, log_bytes.length);
+    (eight_bits ? run_log_of_8_bits : run_log)(&output, log_bytes.bytes, log_bytes.length);
+    return output;
+}
+
+void finish(void)
+{
+    struct buffer output = printed();
     keep(&output);
     release(&output);
 }
@@ -137,8 +147,7 @@ void must_be_same(const char *name, const struct buffer *is, const struct buffer
 void wants(const char *lines)
 {
     struct buffer wanted = lines_text(lines);
-    struct buffer output = { 0 };
-    run_log(&output, log_bytes.bytes, log_bytes.length);
+    struct buffer output = printed();
     must_be_same(log_name, &output, &wanted);
     keep(&output);
     release(&output);
@@ -180,8 +189,7 @@ static struct buffer pdu_lines(const struct buffer *output)
 
 void finish_delivering(const struct buffer *pdus)
 {
-    struct buffer output = { 0 };
-    run_log(&output, log_bytes.bytes, log_bytes.length);
+    struct buffer output = printed();
     struct buffer delivered = pdu_lines(&output);
     must_be_same(log_name, &delivered, pdus);
     keep(&output);
@@ -213,4 +221,6 @@ void release_bundle(void)
     release(&all_in);
     release(&all_out);
     release(&log_bytes);
+    memset(sections, 0, sizeof sections);
+    section_count = 0;
 }

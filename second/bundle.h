@@ -1,4 +1,6 @@
-/* The bundle: many logs, each with what the log program prints for it. */
+/* The bundle: many logs of one width, each with what comes out for it. With IDs
+   of 16 bits that is what the log program prints; with IDs of 8 bits the line of
+   each answer with the response behind it. */
 
 #ifndef SECOND_BUNDLE_H
 #define SECOND_BUNDLE_H
@@ -19,7 +21,7 @@ void put_raw(const uint8_t *bytes, size_t count);
 void put_pdu(struct pdu pdu);
 void put_pdu_without(struct pdu pdu, unsigned lost);
 
-/* The log ends. Its output has to be these lines, said by hand from the
+/* The log ends. The log program has to print these lines, said by hand from the
    paper: ", " stands between two lines. */
 void wants(const char *lines);
 
@@ -36,7 +38,7 @@ void append_pdu(struct buffer *pdus, struct pdu pdu);
 /* Of the log that has not ended yet. */
 size_t log_size(void);
 
-/* Of the whole bundle. */
+/* Of the whole bundle. Once it is released another one begins. */
 const struct buffer *bundle_in(void);
 const struct buffer *bundle_out(void);
 void print_sections(FILE *to);
@@ -58,5 +60,8 @@ void bundle_sizes(void);
 void bundle_messages(void);
 void bundle_mixes(void);
 void bundle_broken(void);
+
+/* With IDs of 8 bits alone. */
+void bundle_widths(void);
 
 #endif

@@ -36,7 +36,7 @@ static void shuffled(struct random *random, unsigned msglen, unsigned code)
 {
     struct box box;
     box.priority = below(random, 4);
-    box.source = below(random, 65536);
+    box.source = below(random, either(65536, 256));
     box.letter = below(random, 4);
     box.mbox = below(random, 4);
     size_t last = 8 * (size_t)between(random, 1, (uint32_t)ssize_of(code) / 8);

@@ -131,6 +131,18 @@ static unsigned remaining(const struct sender *senders, unsigned flows)
     return count;
 }
 
+/* With IDs of 8 bits, now and then a packet with IDs of 16: a segment of a
+   message, or of the PDU that the flow is sending. */
+static void put_other_width(struct random *random, const struct sender *sender)
+{
+    if (!eight_bits || !one_in(random, 4))
+        return;
+    if (one_in(random, 2))
+        put(widened(random_segment(random)));
+    else if (sender->next < packets_of(sender->pdu))
+        put(widened(packet_of(sender->pdu, sender->next)));
+}
+
 static void allowed_losses(struct random *random, unsigned flows, unsigned each)
 {
     struct sender senders[16];
@@ -141,6 +153,7 @@ static void allowed_losses(struct random *random, unsigned flows, unsigned each)
         struct sender *sender = &senders[below(random, flows)];
         if (one_in(random, 8))
             put(random_segment(random));
+        put_other_width(random, sender);
         if (has_packet(sender))
             send_next(random, sender, &pdus);
     }
@@ -164,7 +177,7 @@ static struct packet damaged(struct random *random, struct packet packet)
         return with_flipped(packet, below(random, (uint32_t)packet.length), bit);
     if (way == 4)
         return with_flipped(packet, 0, bit);
-    return with_flipped(packet, between(random, 5, 8), bit);
+    return with_flipped(packet, at(between(random, 5, 8)), bit);
 }
 
 static void put_damaged(struct random *random, struct packet packet, unsigned chance)
@@ -204,11 +217,11 @@ static void noise(struct random *random, unsigned packets)
         for (size_t k = 0; k < sizeof packet.bytes; k++)
             packet.bytes[k] = (uint8_t)any(random);
         if (!one_in(random, 8))
-            packet = with_byte(packet, 0, one_in(random, 2) ? 0x19 : 0x1B);
+            packet = with_type(packet, 0, one_in(random, 2) ? 9 : 11);
         if (!one_in(random, 8))
-            packet = with_byte(with_byte(packet, 1, 0), 2, 1);
+            packet = to_device(packet, LOG_DEVICE);
         if (!one_in(random, 8))
-            packet = with_byte(with_byte(packet, 3, 0), 4, 3);
+            packet = from_device(packet, 3);
         put(packet);
     }
     finish();

@@ -82,17 +82,17 @@ static void message_refused(const char *name, unsigned number, struct packet bad
 static void row_1(void)
 {
     section("row 1");
-    for (size_t length = 0; length < 5; length++) {
+    for (size_t length = 0; length < at(5); length++) {
         leaves_all("1: a start under 5 bytes", 1, cut_to(start(), length));
         leaves_all("1: a message under 5 bytes", 1,
                    cut_to(message_packet(box, 0, 9, 0, 8), length));
     }
-    for (size_t length = 5; length < 7; length++) {
+    for (size_t length = at(5); length < at(7); length++) {
         for (int i = 0; i < 4; i++)
             leaves_all("1: type 9 under 7 bytes", 1, cut_to(full(kinds[i]), length));
         leaves_all("1: type 11 under 7 bytes", 1, cut_to(message_packet(box, 0, 9, 0, 8), length));
     }
-    for (size_t length = 7; length < 9; length++) {
+    for (size_t length = at(7); length < at(9); length++) {
         leaves_all("1: start under 9 bytes", 1, cut_to(full(START), length));
         leaves_all("1: single under 9 bytes", 1, cut_to(full(SINGLE), length));
         leaves_all("1: end under 9 bytes", 1, cut_to(full(END), length));
@@ -100,13 +100,13 @@ static void row_1(void)
 
     begin("1: the missing bytes of the head stand in the next record");
     put(start());
-    put(cut_to(start(), 4));
+    put(cut_to(start(), at(4)));
     put_record((const uint8_t[]){ 0x05, 0xC0 }, 2);
     put(end());
     wants("held, refused 1, refused 1, pdu 2 5 7 40, end 4");
 }
 
-/* tt is 01; flipping its bits gives 00, 11 and 10. */
+/* tt is 01, or 00; flipping its bits gives the three others. */
 static void row_2(void)
 {
     static const unsigned flips[3] = { 0x10, 0x20, 0x30 };
@@ -121,13 +121,14 @@ static void row_2(void)
 
 static void row_3(void)
 {
-    static const unsigned others[8] = { 0, 2, 3, 256, 257, 0x8001, 65534, 65535 };
+    static const unsigned wide[8] = { 0, 2, 3, 256, 257, 0x8001, 65534, 65535 };
+    static const unsigned narrow[8] = { 0, 2, 3, 16, 17, 129, 254, 255 };
     section("row 3");
     for (int i = 0; i < 8; i++) {
-        struct packet bad = with_byte(start(), 1, others[i] >> 8);
-        leaves_all("3: a start for another", 3, with_byte(bad, 2, others[i] & 255));
-        bad = with_byte(message_packet(box, 3, 10, 1, 16), 1, others[i] >> 8);
-        message_refused("3: a message for another", 3, with_byte(bad, 2, others[i] & 255));
+        unsigned other = either(wide[i], narrow[i]);
+        leaves_all("3: a start for another", 3, to_device(start(), other));
+        message_refused("3: a message for another", 3,
+                        to_device(message_packet(box, 3, 10, 1, 16), other));
     }
 }
 
@@ -137,8 +138,8 @@ static void row_4(void)
     for (unsigned type = 0; type < 16; type++) {
         if (type == 9 || type == 11)
             continue;
-        leaves_all("4: another type", 4, with_byte(start(), 0, 0x10 | type));
-        message_refused("4: another type", 4, bare_packet(1, type, 1, 5 + type));
+        leaves_all("4: another type", 4, with_type(start(), 0, type));
+        message_refused("4: another type", 4, bare_packet(our_tt(), type, 1, at(5) + type));
     }
 }
 
@@ -146,10 +147,10 @@ static void row_5(void)
 {
     section("row 5");
     for (int i = 0; i < 4; i++) {
-        struct packet bad = with_flipped(full(kinds[i]), 6, BIT_XH);
+        struct packet bad = with_flipped(full(kinds[i]), at(6), BIT_XH);
         leaves_all("5: xh", 5, bad);
-        leaves_all("5: xh with reserved bits", 5, with_flipped(bad, 6, RESERVED_BITS));
-        leaves_all("5: xh, 7 bytes", 5, cut_to(bad, 7));
+        leaves_all("5: xh with reserved bits", 5, with_flipped(bad, at(6), RESERVED_BITS));
+        leaves_all("5: xh, 7 bytes", 5, cut_to(bad, at(7)));
     }
 }
 
@@ -162,18 +163,18 @@ static void row_6(void)
         struct packet none = stream_packet(flow, kinds[i], 40, 0);
         struct packet good = full(kinds[i]);
         closes("6: no data", 6, none);
-        closes("6: no data, P set", 6, with_flipped(none, 6, BIT_P));
-        closes("6: no data, O set", 6, with_flipped(none, 6, BIT_O));
+        closes("6: no data, P set", 6, with_flipped(none, at(6), BIT_P));
+        closes("6: no data, O set", 6, with_flipped(none, at(6), BIT_O));
         closes("6: one byte of data", 6, longer_by(none, 1));
         closes("6: odd bytes, one less", 6, cut_to(good, good.length - 1));
         closes("6: odd bytes, one more", 6, longer_by(good, 1));
         closes("6: odd bytes, one less, P set", 6,
-               with_flipped(cut_to(good, good.length - 1), 6, BIT_P));
-        closes("6: O is 1, an even number of half-words", 6, with_flipped(good, 6, BIT_O));
+               with_flipped(cut_to(good, good.length - 1), at(6), BIT_P));
+        closes("6: O is 1, an even number of half-words", 6, with_flipped(good, at(6), BIT_O));
         closes("6: O is 0, an odd number of half-words", 6,
-               with_flipped(stream_packet(flow, kinds[i], 34, 2), 6, BIT_O));
+               with_flipped(stream_packet(flow, kinds[i], 34, 2), at(6), BIT_O));
         closes("6: O and P are 1, an even number of half-words", 6,
-               with_flipped(good, 6, BIT_O | BIT_P));
+               with_flipped(good, at(6), BIT_O | BIT_P));
     }
 }
 
@@ -186,8 +187,8 @@ static void row_7(void)
         closes("7: start not MTU", 7, stream_packet(flow, START, 7, not_mtu[i]));
         closes("7: continuation not MTU", 7, stream_packet(flow, CONTINUATION, 0, not_mtu[i]));
     }
-    closes("7: start with a pad", 7, with_flipped(start(), 6, BIT_P));
-    closes("7: continuation with a pad", 7, with_flipped(full(CONTINUATION), 6, BIT_P));
+    closes("7: start with a pad", 7, with_flipped(start(), at(6), BIT_P));
+    closes("7: continuation with a pad", 7, with_flipped(full(CONTINUATION), at(6), BIT_P));
     for (size_t i = 0; i < sizeof over_mtu / sizeof over_mtu[0]; i++) {
         unsigned length = 32 + (unsigned)over_mtu[i];
         closes("7: end over MTU", 7, stream_packet(flow, END, length, over_mtu[i]));
@@ -285,10 +286,15 @@ static void row_9(void)
     wants_after_full_room("held dropped, pdu 2 5 7 32 dropped, end 66");
 }
 
+static unsigned first_source(void)
+{
+    return either(300, 240);
+}
+
 static void put_sixteen_starts(void)
 {
     for (unsigned i = 0; i < 16; i++) {
-        const struct flow of = { .priority = i % 4, .source = 300 + i, .cos = i };
+        const struct flow of = { .priority = i % 4, .source = first_source() + i, .cos = i };
         put(stream_packet(of, START, i, 32));
     }
 }
@@ -300,7 +306,7 @@ static void wants_after_sixteen(const char *lines)
 
 static void row_10(void)
 {
-    const struct flow first = { .priority = 0, .source = 300, .cos = 0 };
+    const struct flow first = { .priority = 0, .source = first_source(), .cos = 0 };
     section("row 10");
 
     begin("10: a start and a single, no context free");
@@ -318,8 +324,10 @@ static void row_10(void)
     put(stream_packet(first, SINGLE, 72, 9));
     put(end());
     put(stream_packet(first, SINGLE, 73, 9));
-    wants_after_sixteen("held dropped, pdu 300 0 71 9 dropped, held, refused 10, "
-                        "pdu 2 5 7 40, pdu 300 0 73 9, end 22");
+    wants_after_sixteen(eight_bits ? "held dropped, pdu 240 0 71 9 dropped, held, refused 10, "
+                                     "pdu 2 5 7 40, pdu 240 0 73 9, end 22"
+                                   : "held dropped, pdu 300 0 71 9 dropped, held, refused 10, "
+                                     "pdu 2 5 7 40, pdu 300 0 73 9, end 22");
 
     begin("10: no more after a context is closed by 6");
     put_sixteen_starts();
@@ -527,35 +535,36 @@ void bundle_rows(void)
 
 static struct packet for_another(struct packet packet)
 {
-    return with_byte(packet, 2, 9);
+    return to_device(packet, 9);
 }
 
 static void order_of_heads(void)
 {
     section("two rows at once: rows 1 to 5");
-    leaves_all("1 before 2", 1, cut_to(with_flipped(start(), 0, 0x10), 4));
-    leaves_all("1 before 3", 1, cut_to(for_another(start()), 4));
-    leaves_all("1 before 4", 1, bare_packet(1, 5, 1, 4));
+    leaves_all("1 before 2", 1, cut_to(with_flipped(start(), 0, 0x10), at(4)));
+    leaves_all("1 before 3", 1, cut_to(for_another(start()), at(4)));
+    leaves_all("1 before 4", 1, bare_packet(our_tt(), 5, 1, at(4)));
     leaves_all("2 before 3", 2, with_flipped(for_another(start()), 0, 0x10));
     leaves_all("2 before 4", 2, bare_packet(2, 5, 1, 20));
-    leaves_all("2 before 1", 2, cut_to(with_flipped(start(), 0, 0x30), 5));
-    leaves_all("2 before 3, 4 and 1", 2, bare_packet(0, 5, 9, 5));
-    leaves_all("3 before 4", 3, bare_packet(1, 5, 9, 20));
-    leaves_all("3 before 1", 3, cut_to(for_another(start()), 6));
-    leaves_all("3 before 5", 3, for_another(with_flipped(start(), 6, BIT_XH)));
-    leaves_all("3 before 6", 3, for_another(with_flipped(start(), 6, BIT_O)));
+    leaves_all("2 before 1", 2, cut_to(with_flipped(start(), 0, 0x30), at(5)));
+    leaves_all("2 before 3, 4 and 1", 2, bare_packet(other_tt(), 5, 9, at(5)));
+    leaves_all("3 before 4", 3, bare_packet(our_tt(), 5, 9, 20));
+    leaves_all("3 before 1", 3, cut_to(for_another(start()), at(6)));
+    leaves_all("3 before 5", 3, for_another(with_flipped(start(), at(6), BIT_XH)));
+    leaves_all("3 before 6", 3, for_another(with_flipped(start(), at(6), BIT_O)));
     message_refused("3 before 20", 3, for_another(message_packet(box, 0, 0, 0, 8)));
-    leaves_all("4 before 1", 4, bare_packet(1, 5, 1, 5));
-    leaves_all("4 before 1", 4, bare_packet(1, 13, 1, 6));
+    leaves_all("4 before 1", 4, bare_packet(our_tt(), 5, 1, at(5)));
+    leaves_all("4 before 1", 4, bare_packet(our_tt(), 13, 1, at(6)));
     for (int i = 0; i < 4; i++) {
-        struct packet extended = with_flipped(full(kinds[i]), 6, BIT_XH);
-        leaves_all("1 before 5", 1, cut_to(extended, 6));
-        leaves_all("5 before 1", 5, cut_to(extended, 8));
-        leaves_all("5 before 6, O wrong", 5, with_flipped(extended, 6, BIT_O));
+        struct packet extended = with_flipped(full(kinds[i]), at(6), BIT_XH);
+        leaves_all("1 before 5", 1, cut_to(extended, at(6)));
+        leaves_all("5 before 1", 5, cut_to(extended, at(8)));
+        leaves_all("5 before 6, O wrong", 5, with_flipped(extended, at(6), BIT_O));
         leaves_all("5 before 6, odd bytes", 5, longer_by(extended, 1));
         leaves_all("5 before 6, no data", 5,
-                   with_flipped(stream_packet(flow, kinds[i], 40, 0), 6, BIT_XH));
-        leaves_all("5 before 7", 5, with_flipped(stream_packet(flow, kinds[i], 40, 64), 6, BIT_XH));
+                   with_flipped(stream_packet(flow, kinds[i], 40, 0), at(6), BIT_XH));
+        leaves_all("5 before 7", 5,
+                   with_flipped(stream_packet(flow, kinds[i], 40, 64), at(6), BIT_XH));
     }
 }
 
@@ -564,7 +573,7 @@ static void order_of_6_and_7(void)
     section("two rows at once: rows 6 and 7");
     for (int i = 0; i < 4; i++) {
         closes("6 before 7: O wrong, over MTU", 6,
-               with_flipped(stream_packet(flow, kinds[i], 40, 34), 6, BIT_O));
+               with_flipped(stream_packet(flow, kinds[i], 40, 34), at(6), BIT_O));
         closes("6 before 7: odd bytes, over MTU", 6,
                longer_by(stream_packet(flow, kinds[i], 40, 64), 1));
         closes("7 before 8 or 11", 7, stream_packet(flow, kinds[i], 5, 66));
@@ -576,7 +585,7 @@ static void order_of_6_and_7(void)
     wants_after_full_room("refused 7 dropped, refused 8, end 66");
 
     begin_full_room("6 before 9");
-    put(with_flipped(full(END), 6, BIT_O));
+    put(with_flipped(full(END), at(6), BIT_O));
     put(full(END));
     wants_after_full_room("refused 6 dropped, refused 8, end 66");
 
@@ -592,7 +601,7 @@ static void order_of_8_10_and_11(void)
 
     begin("6 before 10, 7 before 10");
     put_sixteen_starts();
-    put(with_flipped(start(), 6, BIT_O));
+    put(with_flipped(start(), at(6), BIT_O));
     put(stream_packet(flow, SINGLE, 7, 34));
     put(stream_packet(flow, START, 7, 31));
     put(start());

@@ -63,10 +63,10 @@ static void ignored(void)
     section("reserved bits and pad bytes set");
     for (unsigned bits = 0x08; bits <= RESERVED_BITS; bits += 0x08) {
         begin("reserved bits");
-        put(with_flipped(stream_packet(flow, SINGLE, 7, 3), 6, bits));
-        put(with_flipped(stream_packet(flow, START, 8, 32), 6, bits));
-        put(with_flipped(stream_packet(flow, CONTINUATION, 0, 32), 6, bits));
-        put(with_flipped(stream_packet(flow, END, 69, 5), 6, bits));
+        put(with_flipped(stream_packet(flow, SINGLE, 7, 3), at(6), bits));
+        put(with_flipped(stream_packet(flow, START, 8, 32), at(6), bits));
+        put(with_flipped(stream_packet(flow, CONTINUATION, 0, 32), at(6), bits));
+        put(with_flipped(stream_packet(flow, END, 69, 5), at(6), bits));
         wants("pdu 2 5 7 3, held, held, pdu 2 5 8 69, end 4");
     }
 
@@ -80,9 +80,9 @@ static void ignored(void)
     wants("pdu 2 5 7 1, pdu 2 5 7 31, held, pdu 2 5 8 33, held, pdu 2 5 9 63, end 6");
 
     begin("both");
-    put(with_flipped(last_byte_set(stream_packet(flow, SINGLE, 65535, 7)), 6, RESERVED_BITS));
-    put(with_flipped(stream_packet(flow, START, 0, 32), 6, RESERVED_BITS));
-    put(with_flipped(last_byte_set(stream_packet(flow, END, 41, 9)), 6, RESERVED_BITS));
+    put(with_flipped(last_byte_set(stream_packet(flow, SINGLE, 65535, 7)), at(6), RESERVED_BITS));
+    put(with_flipped(stream_packet(flow, START, 0, 32), at(6), RESERVED_BITS));
+    put(with_flipped(last_byte_set(stream_packet(flow, END, 41, 9)), at(6), RESERVED_BITS));
     wants("pdu 2 5 65535 7, held, pdu 2 5 0 41, end 3");
 }
 
@@ -90,7 +90,8 @@ static void ignored(void)
 
 static void priorities(void)
 {
-    static const unsigned sources[] = { 0, 1, 2, 255, 256, 65535 };
+    static const unsigned wide[] = { 0, 1, 2, 255, 256, 65535 };
+    static const unsigned narrow[] = { 0, 1, 2, 127, 128, 255 };
     section("priorities and extreme fields");
 
     begin("the packets of one PDU at four priorities");
@@ -117,9 +118,10 @@ static void priorities(void)
     }
     wants("held, held, held, msg 2 3 3 32, end 4");
 
-    for (size_t i = 0; i < sizeof sources / sizeof sources[0]; i++) {
-        const struct flow of = { .priority = (unsigned)i % 4, .source = sources[i], .cos = 255 };
-        const struct box box = { .priority = 3, .source = sources[i], .letter = 0, .mbox = 0 };
+    for (unsigned i = 0; i < sizeof wide / sizeof wide[0]; i++) {
+        unsigned source = either(wide[i], narrow[i]);
+        const struct flow of = { .priority = i % 4, .source = source, .cos = 255 };
+        const struct box box = { .priority = 3, .source = source, .letter = 0, .mbox = 0 };
         begin("extreme sources, cos and streams");
         put_pdu((struct pdu){ .flow = of, .stream = 65535, .length = 33 });
         put_pdu((struct pdu){ .flow = of, .stream = 256, .length = 32 });

@@ -42,6 +42,30 @@ void shuffle(struct random *random, unsigned *numbers, unsigned count)
     }
 }
 
+/* ---- The width of the IDs ------------------------------------------------ */
+
+bool eight_bits = false;
+
+size_t at(size_t place)
+{
+    return eight_bits ? place - 2 : place;
+}
+
+unsigned either(unsigned of_16_bits, unsigned of_8_bits)
+{
+    return eight_bits ? of_8_bits : of_16_bits;
+}
+
+unsigned our_tt(void)
+{
+    return either(1, 0);
+}
+
+unsigned other_tt(void)
+{
+    return either(0, 1);
+}
+
 /* ---- Packets ------------------------------------------------------------ */
 
 static void add(struct packet *packet, unsigned byte)
@@ -55,19 +79,26 @@ static void add_half_word(struct packet *packet, unsigned value)
     add(packet, value & 255);
 }
 
+static void add_id(struct packet *packet, unsigned id)
+{
+    if (!eight_bits)
+        add(packet, id >> 8);
+    add(packet, id & 255);
+}
+
 static void add_data(struct packet *packet, size_t bytes)
 {
     for (size_t i = 0; i < bytes; i++)
-        add(packet, (unsigned)(packet->bytes[5] + 7 * i + 1));
+        add(packet, (unsigned)(packet->bytes[at(5)] + 7 * i + 1));
 }
 
-/* Priority, tt 01 and type; from a source to our device. */
+/* Priority, tt and type; from a source to our device. */
 static struct packet head_of(unsigned priority, unsigned type, unsigned source)
 {
     struct packet packet = { .length = 0 };
-    add(&packet, priority << 6 | 1 << 4 | type);
-    add_half_word(&packet, LOG_DEVICE);
-    add_half_word(&packet, source);
+    add(&packet, priority << 6 | our_tt() << 4 | type);
+    add_id(&packet, LOG_DEVICE);
+    add_id(&packet, source);
     return packet;
 }
 
@@ -101,6 +132,7 @@ struct packet packet_of(struct pdu pdu, unsigned number)
         .source = (uint16_t)pdu.flow.source,
         .cos = (uint8_t)pdu.flow.cos,
         .stream_id = (uint16_t)pdu.stream,
+        .eight_bits = eight_bits,
     };
     for (size_t i = 0; i < pdu.length; i++)
         bytes[i] = (uint8_t)(pdu.stream + 7 * i);
@@ -124,8 +156,8 @@ struct packet bare_packet(unsigned tt, unsigned type, unsigned destination, size
 {
     struct packet packet = { .length = 0 };
     add(&packet, tt << 4 | type);
-    add_half_word(&packet, destination);
-    add_half_word(&packet, 2);
+    add_id(&packet, destination);
+    add_id(&packet, 2);
     packet.length = length;
     return packet;
 }
@@ -144,6 +176,28 @@ struct packet with_byte(struct packet packet, size_t place, unsigned value)
     return packet;
 }
 
+struct packet with_type(struct packet packet, unsigned priority, unsigned type)
+{
+    return with_byte(packet, 0, priority << 6 | our_tt() << 4 | type);
+}
+
+static struct packet with_id(struct packet packet, size_t place, unsigned id)
+{
+    if (eight_bits)
+        return with_byte(packet, place, id);
+    return with_byte(with_byte(packet, place, id >> 8), place + 1, id & 255);
+}
+
+struct packet to_device(struct packet packet, unsigned destination)
+{
+    return with_id(packet, 1, destination);
+}
+
+struct packet from_device(struct packet packet, unsigned source)
+{
+    return with_id(packet, either(3, 2), source);
+}
+
 struct packet cut_to(struct packet packet, size_t length)
 {
     packet.length = length;
@@ -155,4 +209,15 @@ struct packet longer_by(struct packet packet, size_t bytes)
     for (size_t i = 0; i < bytes; i++)
         add(&packet, 0xEE);
     return packet;
+}
+
+struct packet widened(struct packet packet)
+{
+    struct packet wide = { .length = 0 };
+    add(&wide, packet.bytes[0] | 1 << 4);
+    add_half_word(&wide, packet.bytes[1]);
+    add_half_word(&wide, packet.bytes[2]);
+    for (size_t i = 3; i < packet.length; i++)
+        add(&wide, packet.bytes[i]);
+    return wide;
 }

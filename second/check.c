@@ -1,6 +1,9 @@
 /* Checks of the second program itself, against the paper's own words, by
    hand. Lent blocks are exactly as long as they are said to be, so that the
-   sanitizers see a step outside. */
+   sanitizers see a step outside.
+
+   Numbers that differ by the width of the IDs stand here twice, as written out
+   by hand. What differs in places alone is tried at both widths (both_widths). */
 
 #include "cases.h"
 
@@ -60,6 +63,16 @@ static void give_back(struct second_lent lent)
     free(lent.response);
 }
 
+/* The state's words, in their order. */
+_Static_assert(offsetof(struct second_endpoint, eight_bits) == 3 * 8, "the fourth word");
+_Static_assert(offsetof(struct second_endpoint, stream) == 4 * 8, "then 16 of 5 words");
+_Static_assert(offsetof(struct second_endpoint, message) == 84 * 8, "then 8 of 8 words");
+
+/* Words that mean IDs of 8 bits: any but 0. */
+static const uint64_t widths[] = { 1, 2, 8, 16, UINT64_MAX };
+
+enum { WIDTHS = sizeof widths / sizeof widths[0] };
+
 /* ---- The sample ---------------------------------------------------------- */
 
 static const uint8_t sample_log[] = {
@@ -67,18 +80,23 @@ static const uint8_t sample_log[] = {
     0x1B, 0x00, 0x01, 0x00, 0x02, 0x09, 0x60, 0x11, 0x12, 0x13, 0x14, 0x15, 0x16, 0x17, 0x18,
 };
 
+static bool is_text(struct buffer text, const char *wanted)
+{
+    bool is = text.length == strlen(wanted) && same(text.bytes, wanted, text.length);
+    release(&text);
+    return is;
+}
+
 static void sample(void)
 {
-    const char *wanted = "pdu 2 5 7 3\nmsg 2 1 2 8\nend 2\n";
     struct buffer text = { 0 };
     run_log(&text, sample_log, sizeof sample_log);
-    must(text.length == strlen(wanted) && same(text.bytes, wanted, text.length),
+    must(is_text(text, "pdu 2 5 7 3\nmsg 2 1 2 8\nend 2\n"),
          "the sample log gives the sample output");
-    release(&text);
 
     static const uint8_t response[] = { 0x5D, 0x00, 0x02, 0x00, 0x01, 0x10, 0x60 };
     static struct log_endpoint endpoint;
-    log_setup(&endpoint);
+    log_setup(&endpoint, false);
     log_read(&endpoint, sample_log + 1, 13);
     must(same(endpoint.stream_memory, "\xAA\xBB\xCC\0", 4), "three bytes are stored");
     log_read(&endpoint, sample_log + 15, 15);
@@ -86,18 +104,57 @@ static void sample(void)
     must(same(endpoint.message_memory, sample_log + 22, 8), "eight bytes are stored");
 }
 
+/* The same log with IDs of 8 bits: tt 00, and the IDs' first bytes left out. */
+static const uint8_t sample_log_of_8_bits[] = {
+    0x0B, 0x09, 0x01, 0x02, 0x05, 0xC1, 0x00, 0x07, 0xAA, 0xBB, 0xCC, 0x00, 0x0D,
+    0x0B, 0x01, 0x02, 0x09, 0x60, 0x11, 0x12, 0x13, 0x14, 0x15, 0x16, 0x17, 0x18,
+};
+
+static void sample_of_8_bits(void)
+{
+    const uint8_t *log = sample_log_of_8_bits;
+    const size_t length = sizeof sample_log_of_8_bits;
+    struct buffer text = { 0 };
+    run_log_of_8_bits(&text, log, length);
+    must(is_text(text, "pdu 2 5 7 3\nmsg 2 1 2 8\nend 2\n"), "the output is the same");
+    text = (struct buffer){ 0 };
+    must(run_responses(&text, true, log, length), "the log is clean");
+    must(is_text(text, "pdu 2 5 7 3\nnone\nmsg 2 1 2 8\n4d02011060\n"),
+         "the response is 4D 02 01 10 60");
+    text = (struct buffer){ 0 };
+    must(!run_responses(&text, true, log, length - 1), "a cut log is not clean");
+    must(is_text(text, "pdu 2 5 7 3\nnone\n"), "and stops there");
+
+    text = (struct buffer){ 0 };
+    run_log(&text, log, length);
+    must(is_text(text, "refused 2\nrefused 2\nend 2\n"), "8 bits at an endpoint of 16");
+    text = (struct buffer){ 0 };
+    run_log_of_8_bits(&text, sample_log, sizeof sample_log);
+    must(is_text(text, "refused 2\nrefused 2\nend 2\n"), "and the other way round");
+}
+
 /* ---- Examples 1 to 5 and 13, of the writer ------------------------------- */
 
 static uint8_t pdu[SECOND_LARGEST_PDU + 1];
 static uint8_t out[300];
 
-static const struct second_heading heading = {
-    .priority = 0, .destination = 1, .source = 2, .cos = 5, .stream_id = 7
-};
+/* Of the width in use. */
+static struct second_heading heading(void)
+{
+    const struct second_heading made = {
+        .priority = 0,
+        .destination = 1,
+        .source = 2,
+        .cos = 5,
+        .stream_id = 7,
+        .eight_bits = eight_bits,
+    };
+    return made;
+}
 
 static struct second_answer write_at(uint64_t mtu, size_t length, uint64_t number)
 {
-    return second_write_segment(out, sizeof out, heading, mtu, pdu, length, number);
+    return second_write_segment(out, sizeof out, heading(), mtu, pdu, length, number);
 }
 
 static void examples(void)
@@ -124,17 +181,73 @@ static void examples(void)
     must(refused_by(write_at(32, 0, 0), 14), "example 13: L=0");
 }
 
-/* The order is 18, 17, 14, 15, 16. */
+/* With IDs of 8 bits: two bytes less, and two bytes earlier. */
+static void examples_of_8_bits(void)
+{
+    eight_bits = true;
+    must(write_at(32, 32, 0).length == 39 && out[4] == 0xC0, "example 1, 8 bits: 39 bytes");
+    must(same(out, "\x09\x01\x02\x05\xC0\x00\x07", 7), "its head");
+    must(same(out + 7, pdu, 32), "its data");
+    must(write_at(32, 33, 0).length == 39 && out[4] == 0x80, "example 2, 8 bits: the start");
+    must(write_at(32, 33, 1).length == 9 && out[4] == 0x43, "example 2, 8 bits: the end");
+    must(same(out, "\x09\x01\x02\x05\x43\x00\x21", 7), "its head");
+    must(out[7] == pdu[32] && out[8] == 0, "its data and its pad");
+    must(write_at(32, 64, 1).length == 39 && out[4] == 0x40, "example 3, 8 bits: the end");
+    must(out[5] == 0x00 && out[6] == 0x40, "its length");
+    must(write_at(32, 65, 1).length == 37 && out[4] == 0x00, "example 4, 8 bits");
+    must(same(out, "\x09\x01\x02\x05\x00", 5), "its head");
+    must(same(out + 5, pdu + 32, 32), "its data");
+    must(write_at(256, 65536, 255).length == 263, "example 5, 8 bits: the end");
+    must(out[5] == 0x00 && out[6] == 0x00, "its length");
+    eight_bits = false;
+}
+
+/* 47 for either ID over 255, where the width is 8 bits; no byte changes. */
+static void writer_47(void)
+{
+    static const uint16_t ids[] = { 0, 255, 256, 65535 };
+    for (unsigned i = 0; i < 16; i++)
+        for (unsigned k = 0; k < WIDTHS; k++) {
+            bool over = ids[i / 4] > 255 || ids[i % 4] > 255;
+            struct second_heading h = heading();
+            h.destination = ids[i / 4];
+            h.source = ids[i % 4];
+            h.eight_bits = widths[k];
+            uint8_t *bytes = block(39, 0xEE);
+            struct second_answer answer = second_write_segment(bytes, 39, h, 32, pdu, 32, 0);
+            must(over ? refused_by(answer, 47) : answer.length == 39, "47 exactly if over 255");
+            must(over || (bytes[1] == ids[i / 4] && bytes[2] == ids[i % 4]), "both IDs");
+            for (int n = 0; n < 39 && over; n++)
+                must(bytes[n] == 0xEE, "47 changes no byte");
+            h.eight_bits = 0;
+            must(second_write_segment(out, 41, h, 32, pdu, 32, 0).length == 41, "none with 16");
+            must(out[0] == 0x19 && out[1] == ids[i / 4] >> 8 && out[2] == (ids[i / 4] & 255)
+                     && out[3] == ids[i % 4] >> 8 && out[4] == (ids[i % 4] & 255),
+                 "all 16 bits");
+            free(bytes);
+        }
+}
+
+/* The order is 47, 18, 17, 14, 15, 16. */
 static void writer_order(void)
 {
-    struct second_heading wrong = heading;
+    const struct second_heading right = heading();
+    struct second_heading wrong = right;
     wrong.priority = 4;
     must(refused_by(second_write_segment(NULL, 0, wrong, 33, NULL, 0, 9), 18), "18 first");
     must(refused_by(second_write_segment(NULL, 0, wrong, 32, NULL, 0, 9), 17), "then 17");
-    must(refused_by(second_write_segment(NULL, 0, heading, 32, NULL, 0, 9), 14), "then 14");
-    must(refused_by(second_write_segment(NULL, 0, heading, 32, pdu, 65537, 9), 14), "too many");
-    must(refused_by(second_write_segment(NULL, 0, heading, 32, pdu, 65, 3), 15), "then 15");
-    must(refused_by(second_write_segment(NULL, 0, heading, 32, pdu, 65, 2), 16), "then 16");
+    must(refused_by(second_write_segment(NULL, 0, right, 32, NULL, 0, 9), 14), "then 14");
+    must(refused_by(second_write_segment(NULL, 0, right, 32, pdu, 65537, 9), 14), "too many");
+    must(refused_by(second_write_segment(NULL, 0, right, 32, pdu, 65, 3), 15), "then 15");
+    must(refused_by(second_write_segment(NULL, 0, right, 32, pdu, 65, 2), 16), "then 16");
+    wrong.eight_bits = 1;
+    wrong.destination = 256;
+    must(refused_by(second_write_segment(NULL, 0, wrong, 33, NULL, 0, 9), 47), "47 before 18");
+    wrong.destination = 255;
+    wrong.source = 256;
+    must(refused_by(second_write_segment(NULL, 0, wrong, 33, NULL, 0, 9), 47), "the source too");
+    wrong.source = 255;
+    must(refused_by(second_write_segment(NULL, 0, wrong, 33, NULL, 0, 9), 18), "then 18");
     must(second_segment_count(33, 5) == 0, "no count for a bad MTU");
     must(second_segment_count(32, 0) == 0, "no count for no bytes");
     must(second_segment_count(32, 65537) == 0, "no count for 65,537 bytes");
@@ -147,11 +260,11 @@ static void writer_bytes(uint64_t mtu, size_t length, uint64_t number)
     uint8_t *shorter = block(need - 1, 0xEE);
     uint8_t *longer = block(need + 1, 0xEE);
     struct second_answer answer =
-        second_write_segment(shorter, need - 1, heading, mtu, pdu, length, number);
+        second_write_segment(shorter, need - 1, heading(), mtu, pdu, length, number);
     must(refused_by(answer, 16), "one byte short is 16");
     for (size_t i = 0; i < need - 1; i++)
         must(shorter[i] == 0xEE, "16 changes no byte");
-    second_write_segment(longer, need + 1, heading, mtu, pdu, length, number);
+    second_write_segment(longer, need + 1, heading(), mtu, pdu, length, number);
     must(same(longer, out, need), "the packet is the same");
     must(longer[need] == 0xEE, "the byte behind it stays");
     free(shorter);
@@ -163,7 +276,7 @@ static void writer_bytes(uint64_t mtu, size_t length, uint64_t number)
 static void read_back(uint64_t mtu, size_t length, uint64_t room)
 {
     struct second_endpoint state;
-    second_setup(&state, 1, mtu, room);
+    second_setup(&state, 1, mtu, room, eight_bits);
     struct second_lent lent = lend(room);
     uint64_t count = second_segment_count(mtu, length);
     struct second_answer answer = { 0 };
@@ -211,24 +324,48 @@ static bool all_zero(const struct second_endpoint *state)
 static void setups(void)
 {
     struct second_endpoint state;
-    must(refused_by(second_setup(&state, 9, 31, 5), 18), "setup: 18 before 19");
+    must(refused_by(second_setup(&state, 9, 31, 5, 0), 18), "setup: 18 before 19");
     must(all_zero(&state) && second_refusal19(&state), "zeros, which 19 names");
-    must(refused_by(second_setup(&state, 9, 34, 2048), 18), "setup: no multiple of 4");
-    must(refused_by(second_setup(&state, 9, 260, 2048), 18), "setup: over 256");
-    must(refused_by(second_setup(&state, 9, 64, 63), 19), "setup: R under MTU");
+    must(refused_by(second_setup(&state, 9, 34, 2048, 0), 18), "setup: no multiple of 4");
+    must(refused_by(second_setup(&state, 9, 260, 2048, 0), 18), "setup: over 256");
+    must(refused_by(second_setup(&state, 9, 64, 63, 0), 19), "setup: R under MTU");
     must(all_zero(&state), "zeros again");
-    must(refused_by(second_setup(&state, 9, 64, 65537), 19), "setup: R over 65,536");
-    must(second_setup(&state, 9, 64, 64).kind == SECOND_READY, "setup: R is MTU");
-    must(second_setup(&state, 9, 256, 65536).kind == SECOND_READY, "setup: the largest");
+    must(refused_by(second_setup(&state, 9, 64, 65537, 0), 19), "setup: R over 65,536");
+    must(second_setup(&state, 9, 64, 64, 0).kind == SECOND_READY, "setup: R is MTU");
+    must(second_setup(&state, 9, 256, 65536, 0).kind == SECOND_READY, "setup: the largest");
     must(state.device == 9 && state.mtu == 256 && state.room == 65536, "its three numbers");
+    must(state.eight_bits == 0, "and its width");
     must(!second_refusal19(&state), "a fresh state is good");
+}
+
+/* 47 comes before 18 and 19, and is never given with IDs of 16 bits. */
+static void setups_of_8_bits(void)
+{
+    struct second_endpoint state;
+    for (unsigned i = 0; i < WIDTHS; i++) {
+        const uint64_t width = widths[i];
+        must(refused_by(second_setup(&state, 256, 32, 64, width), 47), "setup: 256 is 47");
+        must(all_zero(&state) && second_refusal19(&state), "zeros, which 19 names");
+        must(refused_by(second_setup(&state, 65535, 33, 5, width), 47), "47 before 18 and 19");
+        must(all_zero(&state), "zeros again");
+        must(refused_by(second_setup(&state, 255, 33, 5, width), 18), "then 18");
+        must(all_zero(&state), "zeros again");
+        must(refused_by(second_setup(&state, 255, 32, 5, width), 19), "then 19");
+        must(second_setup(&state, 255, 32, 64, width).kind == SECOND_READY, "255 is allowed");
+        must(state.device == 255 && state.eight_bits == width, "the word is kept as it is");
+        must(!second_refusal19(&state), "19 names no width");
+        must(second_setup(&state, 0, 32, 64, width).kind == SECOND_READY, "0 is allowed");
+    }
+    must(second_setup(&state, 256, 32, 64, 0).kind == SECOND_READY, "16 bits: 256");
+    must(second_setup(&state, 65535, 32, 64, 0).kind == SECOND_READY, "16 bits: 65,535");
+    must(state.device == 65535 && state.eight_bits == 0, "its ID");
 }
 
 /* A good state with one open context of each kind. */
 static struct second_endpoint good_state(void)
 {
     struct second_endpoint state;
-    second_setup(&state, 1, 32, 100);
+    second_setup(&state, 1, 32, 100, eight_bits);
     state.stream[3] = (struct second_stream){ 1, 2, 5, 7, 64 };
     state.message[2] = (struct second_message){ 1, 2, 1, 2, 3, 10, 0x8 | 0x1, 8 };
     return state;
@@ -347,10 +484,13 @@ static void row_12(void)
     wrong.message_length = 32769;
     must(refused_by(read_one(&state, wrong, single), 12), "12: message memory long");
     wrong = lent;
-    wrong.response_length = 6;
+    wrong.response_length = eight_bits ? 4 : 6;
     must(refused_by(read_one(&state, wrong, single), 12), "12: response short");
     must(refused_by(read_one(&state, wrong, cut_to(single, 0)), 12), "12 before 1");
     must(same(&state, &before, sizeof state), "12 leaves all");
+    wrong.response_length = eight_bits ? 5 : 7;
+    must(refused_by(read_one(&state, wrong, cut_to(single, 0)), 1), "no more is needed");
+    wrong.response_length = 0;
     state.mtu = 0;
     must(refused_by(read_one(&state, wrong, single), 19), "19 before 12");
     give_back(lent);
@@ -373,7 +513,7 @@ static void lower_number(void)
     state.message[6] = (struct second_message){ 1, 2, 1, 2, 1, 9, 1, 0 };
     answer = read_one(&state, lent, message_packet(box, 1, 9, 1, 8));
     must(refused_by(answer, 23), "message 2 before message 6");
-    must(lent.response[5] == 0x17, "and its ERROR");
+    must(lent.response[at(5)] == 0x17, "and its ERROR");
     read_one(&state, lent, message_packet(box, 3, 10, 1, 16));
     answer = read_one(&state, lent, message_packet(box, 3, 10, 2, 16));
     must(answer.kind == SECOND_MESSAGE && answer.context == 2 && answer.length == 56, "message 2");
@@ -385,14 +525,15 @@ static void lower_number(void)
 /* Every field of a context that is taken, whatever stood there before. */
 static void taken(void)
 {
-    const struct flow flow = { .priority = 3, .source = 513, .cos = 255 };
-    const struct box box = { .priority = 3, .source = 513, .letter = 3, .mbox = 1 };
-    const struct second_stream stream = { 1, 513, 255, 65535, 32 };
-    const struct second_message message = { 1, 513, 3, 1, 15, 10, 0x8000, 8 };
+    const unsigned source = either(513, 253);
+    const struct flow flow = { .priority = 3, .source = source, .cos = 255 };
+    const struct box box = { .priority = 3, .source = source, .letter = 3, .mbox = 1 };
+    const struct second_stream stream = { 1, source, 255, 65535, 32 };
+    const struct second_message message = { 1, source, 3, 1, 15, 10, 0x8000, 8 };
     struct second_endpoint state;
-    second_setup(&state, 1, 32, 64);
-    state.stream[0] = (struct second_stream){ 0, 513, 255, 9, 9 };
-    state.message[0] = (struct second_message){ 0, 513, 3, 1, 99, 99, 99, 99 };
+    second_setup(&state, 1, 32, 64, eight_bits);
+    state.stream[0] = (struct second_stream){ 0, source, 255, 9, 9 };
+    state.message[0] = (struct second_message){ 0, source, 3, 1, 99, 99, 99, 99 };
     struct second_lent lent = lend(64);
     read_one(&state, lent, stream_packet(flow, START, 65535, 32));
     must(same(&state.stream[0], &stream, sizeof stream), "a stream context is taken");
@@ -406,12 +547,157 @@ static void taken(void)
     give_back(lent);
 }
 
+/* ---- Both widths, byte by byte -------------------------------------------- */
+
+static uint8_t kept[7];
+
+/* Reads one packet at a fresh endpoint, with a response buffer of exactly the
+   bytes that the width needs. What stands in it then is kept. */
+static struct second_answer read_fresh(uint16_t device, uint64_t width, const uint8_t *bytes,
+                                       size_t length)
+{
+    const size_t response = width ? 5 : 7;
+    struct packet packet = { .length = length };
+    struct second_endpoint state;
+    struct second_lent lent = lend(64);
+    memcpy(packet.bytes, bytes, length);
+    free(lent.response);
+    lent.response = block(response, 0xEE);
+    lent.response_length = response;
+    second_setup(&state, device, 32, 64, width);
+    struct second_answer answer = read_one(&state, lent, packet);
+    memcpy(kept, lent.response, response);
+    give_back(lent);
+    return answer;
+}
+
+/* Row 1: every length below the limit, and the limit itself, where another row
+   comes to speak: 2, 3 and 4 behind the first limit, 5, 6 and 20 behind the
+   second, 6 behind the third. */
+static void limits(void)
+{
+    static const struct {
+        uint64_t width;
+        size_t limit;
+        unsigned number;
+        uint8_t bytes[9];
+    } cases[] = {
+        { 0, 5, 2, { 0x09, 0, 1, 0, 2 } },
+        { 0, 5, 3, { 0x19, 0, 3, 0, 2 } },
+        { 0, 5, 4, { 0x15, 0, 1, 0, 2 } },
+        { 0, 7, 5, { 0x19, 0, 1, 0, 2, 5, 0xC4 } },
+        { 0, 7, 6, { 0x19, 0, 1, 0, 2, 5, 0x00 } },
+        { 0, 7, 20, { 0x1B, 0, 1, 0, 2, 8, 0x60 } },
+        { 0, 9, 6, { 0x19, 0, 1, 0, 2, 5, 0x80, 0, 7 } },
+        { 0, 9, 6, { 0x19, 0, 1, 0, 2, 5, 0x40, 0, 7 } },
+        { 0, 9, 6, { 0x19, 0, 1, 0, 2, 5, 0xC0, 0, 7 } },
+        { 1, 3, 2, { 0x19, 1, 2 } },
+        { 1, 3, 3, { 0x09, 3, 2 } },
+        { 1, 3, 4, { 0x05, 1, 2 } },
+        { 1, 5, 5, { 0x09, 1, 2, 5, 0xC4 } },
+        { 1, 5, 6, { 0x09, 1, 2, 5, 0x00 } },
+        { 1, 5, 20, { 0x0B, 1, 2, 8, 0x60 } },
+        { 1, 7, 6, { 0x09, 1, 2, 5, 0x80, 0, 7 } },
+        { 1, 7, 6, { 0x09, 1, 2, 5, 0x40, 0, 7 } },
+        { 1, 7, 6, { 0x09, 1, 2, 5, 0xC0, 0, 7 } },
+    };
+    for (size_t i = 0; i < sizeof cases / sizeof cases[0]; i++)
+        for (size_t length = 0; length <= cases[i].limit; length++) {
+            unsigned number = length < cases[i].limit ? 1 : cases[i].number;
+            must(refused_by(read_fresh(1, cases[i].width, cases[i].bytes, length), number),
+                 "row 1 at its limits");
+        }
+}
+
+/* tt 01 is 16 bits, 00 is 8 bits, 10 and 11 are neither. */
+static void every_tt(void)
+{
+    static const uint8_t of_16_bits[] = { 0x09, 0, 1, 0, 2, 5, 0xC2, 0, 7, 1, 2 };
+    static const uint8_t of_8_bits[] = { 0x09, 1, 2, 5, 0xC2, 0, 7, 1, 2 };
+    for (unsigned tt = 0; tt < 4; tt++) {
+        uint8_t wide[sizeof of_16_bits], narrow[sizeof of_8_bits];
+        memcpy(wide, of_16_bits, sizeof wide);
+        memcpy(narrow, of_8_bits, sizeof narrow);
+        wide[0] = narrow[0] = (uint8_t)(tt << 4 | 9);
+        struct second_answer answer = read_fresh(1, 0, wide, sizeof wide);
+        must(tt == 1 ? answer.kind == SECOND_PDU : refused_by(answer, 2), "16 bits: tt 01 alone");
+        answer = read_fresh(1, 1, narrow, sizeof narrow);
+        must(tt == 0 ? answer.kind == SECOND_PDU : refused_by(answer, 2), "8 bits: tt 00 alone");
+        must(tt != 0
+                 || (answer.source == 2 && answer.cos_or_letter == 5 && answer.length == 2
+                     && answer.stream_or_mailbox == 7),
+             "its fields");
+    }
+}
+
+/* Our own ID at its edges; the response has the request's IDs swapped. */
+static void own_ids(void)
+{
+    static const uint8_t narrow[2] = { 0, 255 };
+    static const uint16_t wide[4] = { 0, 255, 256, 65535 };
+    uint8_t message[15] = { 0x8B, 0, 77, 0x09, 0x6F };
+    for (int i = 0; i < 2; i++) {
+        message[1] = narrow[i];
+        struct second_answer answer = read_fresh(narrow[i], 1, message, 13);
+        must(answer.kind == SECOND_MESSAGE && answer.source == 77, "8 bits: a message");
+        must(answer.stream_or_mailbox == 62 && answer.length == 8, "its mailbox and length");
+        const uint8_t response[5] = { 0xCD, 77, narrow[i], 0x10, 0x6F };
+        must(answer.response == 5 && same(kept, response, 5), "8 bits: its response");
+        must(refused_by(read_fresh(narrow[1 - i], 1, message, 13), 3), "8 bits: not ours");
+    }
+    memcpy(message, "\x9B\0\0\0\x4D\x09\x6F", 7);
+    for (int i = 0; i < 4; i++) {
+        message[1] = (uint8_t)(wide[i] >> 8);
+        message[2] = (uint8_t)wide[i];
+        struct second_answer answer = read_fresh(wide[i], 0, message, 15);
+        must(answer.kind == SECOND_MESSAGE && answer.source == 77, "16 bits: a message");
+        const uint8_t response[7] = { 0xDD, 0, 77, message[1], message[2], 0x10, 0x6F };
+        must(answer.response == 7 && same(kept, response, 7), "16 bits: its response");
+        must(refused_by(read_fresh(wide[i] ^ 0x100, 0, message, 15), 3), "all 16 bits count");
+    }
+}
+
+/* A packet of the other width is 1 below the endpoint's own limit, and else 2. */
+static void other_width(void)
+{
+    static const uint8_t wide[] = { 0x19, 0, 1, 0, 2, 5, 0xC2, 0, 7, 1, 2 };
+    static const uint8_t narrow[] = { 0x09, 1, 2, 5, 0xC2, 0, 7, 1, 2 };
+    for (size_t length = 0; length <= sizeof narrow; length++)
+        must(refused_by(read_fresh(1, 0, narrow, length), length < 5 ? 1 : 2),
+             "8 bits at an endpoint of 16: 3 or 4 bytes are 1, more are 2");
+    for (size_t length = 0; length <= sizeof wide; length++)
+        must(refused_by(read_fresh(1, 1, wide, length), length < 3 ? 1 : 2),
+             "16 bits at an endpoint of 8");
+    for (unsigned device = 0; device <= 65535; device += 257)
+        must(refused_by(read_fresh((uint16_t)device, 0, narrow, sizeof narrow), 2), "any ID");
+}
+
+/* Every word but 0 means 8 bits, in setup and in a state that was written over. */
+static void any_width_word(void)
+{
+    const struct flow flow = { .priority = 0, .source = 2, .cos = 5 };
+    for (unsigned i = 0; i < WIDTHS; i++) {
+        struct second_endpoint state;
+        struct second_lent lent = lend(64);
+        second_setup(&state, 1, 32, 64, 0);
+        read_one(&state, lent, stream_packet(flow, START, 7, 32));
+        state.eight_bits = widths[i];
+        must(refused_by(read_one(&state, lent, stream_packet(flow, END, 40, 8)), 2), "not 16");
+        eight_bits = true;
+        struct second_answer answer = read_one(&state, lent, stream_packet(flow, END, 40, 8));
+        must(answer.kind == SECOND_PDU && answer.length == 40, "but 8");
+        must(state.eight_bits == widths[i], "the word stays");
+        eight_bits = false;
+        give_back(lent);
+    }
+}
+
 /* Odd R, with a pad: the pad must not be stored in the next room. */
 static void odd_room(void)
 {
     const struct flow flow = { .priority = 0, .source = 2, .cos = 5 };
     struct second_endpoint state;
-    second_setup(&state, 1, 32, 33);
+    second_setup(&state, 1, 32, 33, eight_bits);
     struct second_lent lent = lend(33);
     struct packet end = stream_packet(flow, END, 33, 1);
     read_one(&state, lent, stream_packet(flow, START, 7, 32));
@@ -424,19 +710,20 @@ static void odd_room(void)
 /* Segments are stored at their places, whatever order they come in. */
 static void message_places(void)
 {
-    const struct box box = { .priority = 3, .source = 65535, .letter = 3, .mbox = 3 };
+    const struct box box = { .priority = 3, .source = either(65535, 255), .letter = 3, .mbox = 3 };
     struct second_endpoint state;
-    second_setup(&state, 1, 32, 64);
+    second_setup(&state, 1, 32, 64, eight_bits);
     struct second_lent lent = lend(64);
     static const unsigned order[] = { 15, 3, 0, 14, 1, 2, 7, 6, 5, 4, 8, 13, 12, 9, 10, 11 };
     struct second_answer answer = { 0 };
     for (unsigned i = 0; i < 16; i++) {
         struct packet packet = message_packet(box, 15, 14, order[i], order[i] == 15 ? 248 : 256);
-        for (size_t k = 7; k < packet.length; k++)
-            packet.bytes[k] = (uint8_t)(order[i] + k);
+        for (size_t k = 0; k < packet.length - at(7); k++)
+            packet.bytes[at(7) + k] = (uint8_t)(order[i] + k + 7);
         answer = read_one(&state, lent, packet);
         must(i == 15 || answer.kind == SECOND_HELD, "held up to the last");
-        must(lent.response[0] == 0xDD && lent.response[5] == 0x10, "DONE at priority 3");
+        must(lent.response[0] == (eight_bits ? 0xCD : 0xDD), "at priority 3");
+        must(lent.response[at(5)] == 0x10, "DONE");
     }
     must(answer.kind == SECOND_MESSAGE && answer.length == 15 * 256 + 248, "4,088 bytes");
     for (unsigned i = 0; i < 4088; i++)
@@ -468,7 +755,8 @@ static struct second_endpoint random_state(struct random *random)
 {
     struct second_endpoint state;
     uint64_t mtu = 32 + 4 * (uint64_t)below(random, 3);
-    second_setup(&state, 1, mtu, mtu + below(random, 70));
+    uint64_t room = mtu + below(random, 70);
+    second_setup(&state, 1, mtu, room, eight_bits ? widths[below(random, WIDTHS)] : 0);
     uint32_t full = between(random, 1, 8);
     for (int i = 0; i < SECOND_STREAM_CONTEXTS; i++)
         if (!one_in(random, full))
@@ -500,6 +788,8 @@ static struct packet random_packet(struct random *random, uint64_t mtu)
         packet = message_packet(box, below(random, 4), ssize, below(random, 5),
                                 one_in(random, 4) ? below(random, 30) : 8 * (ssize - 8));
     }
+    if (eight_bits && one_in(random, 12))
+        packet = widened(packet);
     if (one_in(random, 6))
         packet = with_flipped(packet, below(random, 9), 1u << below(random, 8));
     if (one_in(random, 10))
@@ -512,7 +802,7 @@ struct outcome {
     const struct second_endpoint *after;
     struct second_answer answer;
     bool memory_same;
-    const uint8_t *response;
+    const uint8_t *response; /* of 9 bytes */
     const struct packet *packet;
 };
 
@@ -543,24 +833,38 @@ static int wanted_status(const struct outcome *o)
     return 0;
 }
 
+/* The response to a packet, as the paper has it, of either width. */
+static struct packet wanted_response(const struct outcome *o, unsigned status)
+{
+    static const uint8_t of_16_bits[4] = { 0x5D, 0x9D, 0xDD, 0xDD };
+    static const uint8_t of_8_bits[4] = { 0x4D, 0x8D, 0xCD, 0xCD };
+    const uint8_t *to = o->packet->bytes;
+    if (o->before->eight_bits)
+        return (struct packet){
+            .bytes = { of_8_bits[to[0] >> 6], to[2], 1, (uint8_t)(0x10 | status), to[4] },
+            .length = 5,
+        };
+    return (struct packet){
+        .bytes = { of_16_bits[to[0] >> 6], to[3], to[4], 0, 1, (uint8_t)(0x10 | status), to[6] },
+        .length = 7,
+    };
+}
+
 static void check_response(const struct outcome *o)
 {
-    static const uint8_t first_byte[4] = { 0x5D, 0x9D, 0xDD, 0xDD };
     int status = wanted_status(o);
-    must(o->response[7] == 0xEE && o->response[8] == 0xEE, "no byte behind the response");
-    for (int i = 0; i < 7 && status < 0; i++)
-        must(o->response[i] == 0xEE, "no response");
-    if (status < 0)
-        return;
-    must(o->response[0] == first_byte[o->packet->bytes[0] >> 6], "one priority above");
-    must(o->response[3] == 0 && o->response[4] == 1, "from us");
-    must(o->response[5] == (0x10 | status), "its status");
-    must(o->response[1] == o->packet->bytes[3] && o->response[2] == o->packet->bytes[4], "to it");
-    must(o->response[6] == o->packet->bytes[6], "its byte 6");
+    struct packet wanted = { .length = 0 };
+    if (status >= 0)
+        wanted = wanted_response(o, (unsigned)status);
+    must(o->answer.response == wanted.length, "as many bytes as the answer says");
+    must(same(o->response, wanted.bytes, wanted.length), "the response");
+    for (size_t i = wanted.length; i < 9; i++)
+        must(o->response[i] == 0xEE, "no other byte of it");
 }
 
 static void one_random(struct random *random)
 {
+    eight_bits = one_in(random, 2);
     struct second_endpoint state = random_state(random);
     const struct second_endpoint before = state;
     uint64_t room = state.room > 65536 ? 50 : state.room;
@@ -589,8 +893,21 @@ static void one_random(struct random *random)
 static void any_state(void)
 {
     struct random random = seeded(7);
-    for (int i = 0; i < 10000; i++)
+    for (int i = 0; i < 20000; i++)
         one_random(&random);
+    eight_bits = false;
+}
+
+/* What differs by the width in places alone. */
+static void both_widths(void)
+{
+    writer_order();
+    round_trips();
+    row_12();
+    lower_number();
+    taken();
+    odd_room();
+    message_places();
 }
 
 int main(void)
@@ -598,18 +915,24 @@ int main(void)
     for (size_t i = 0; i < sizeof pdu; i++)
         pdu[i] = (uint8_t)(i * 7 + i / 256 + 3);
     sample();
+    sample_of_8_bits();
     examples();
-    writer_order();
-    round_trips();
+    examples_of_8_bits();
+    writer_47();
     setups();
+    setups_of_8_bits();
     row_19();
     abandoning();
     rooms();
-    row_12();
-    lower_number();
-    taken();
-    odd_room();
-    message_places();
+    both_widths();
+    eight_bits = true;
+    both_widths();
+    eight_bits = false;
+    limits();
+    every_tt();
+    own_ids();
+    other_width();
+    any_width_word();
     any_state();
     printf("%u checks passed\n", checks);
     return 0;

@@ -1,6 +1,6 @@
 #include "endpoint.h"
 
-_Static_assert(sizeof(struct second_endpoint) == 147 * 8, "a state is 147 words");
+_Static_assert(sizeof(struct second_endpoint) == 148 * 8, "a state is 148 words");
 
 /* ---- Small helpers ---------------------------------------------------- */
 
@@ -32,6 +32,42 @@ static struct second_answer refused(unsigned number)
     struct second_answer answer = { .kind = SECOND_REFUSED, .refusal = number };
     return answer;
 }
+
+/* ---- The width of the IDs ------------------------------------------------
+   Document 01's places and lengths are those of IDs of 16 bits. With IDs of 8
+   bits everything behind them stands two bytes earlier. */
+
+static size_t moved(uint64_t eight_bits, size_t place)
+{
+    return eight_bits ? place - 2 : place;
+}
+
+/* 01: 16-bit IDs. 00: 8-bit IDs. */
+static unsigned tt_for(uint64_t eight_bits)
+{
+    return eight_bits ? 0 : 1;
+}
+
+static bool id_allowed(uint64_t eight_bits, uint64_t id)
+{
+    return !eight_bits || id <= 255;
+}
+
+/* Byte 0 and the two IDs of a packet that is written. */
+static void put_head(uint8_t *out, uint64_t eight_bits, uint64_t priority, unsigned type,
+                     uint64_t destination, uint64_t source)
+{
+    out[0] = (uint8_t)(priority << 6 | tt_for(eight_bits) << 4 | type);
+    if (eight_bits) {
+        out[1] = (uint8_t)destination;
+        out[2] = (uint8_t)source;
+    } else {
+        put_half_word(out + 1, destination);
+        put_half_word(out + 3, source);
+    }
+}
+
+/* ---- What is allowed ----------------------------------------------------- */
 
 /* A multiple of 4 from 32 to 256. */
 static bool mtu_allowed(uint64_t mtu)
@@ -123,6 +159,12 @@ struct reading {
     size_t length;
 };
 
+/* A place of document 01, or a length, in packets of our width. */
+static size_t at(const struct reading *r, size_t place)
+{
+    return moved(r->state->eight_bits, place);
+}
+
 /* Byte 0: priority 2 bits, tt 2 bits, type 4 bits. Then the two IDs. */
 
 static unsigned priority(const struct reading *r)
@@ -142,12 +184,12 @@ static unsigned type(const struct reading *r)
 
 static unsigned destination(const struct reading *r)
 {
-    return half_word(r->packet + 1);
+    return r->state->eight_bits ? r->packet[1] : half_word(r->packet + 1);
 }
 
 static unsigned source(const struct reading *r)
 {
-    return half_word(r->packet + 3);
+    return r->state->eight_bits ? r->packet[2] : half_word(r->packet + 3);
 }
 
 static bool is_stream(const struct reading *r)
@@ -164,32 +206,32 @@ static bool is_message(const struct reading *r)
 
 static unsigned class_of_service(const struct reading *r)
 {
-    return r->packet[5];
+    return r->packet[at(r, 5)];
 }
 
 static bool bit_s(const struct reading *r)
 {
-    return r->packet[6] & 0x80;
+    return r->packet[at(r, 6)] & 0x80;
 }
 
 static bool bit_e(const struct reading *r)
 {
-    return r->packet[6] & 0x40;
+    return r->packet[at(r, 6)] & 0x40;
 }
 
 static bool bit_xh(const struct reading *r)
 {
-    return r->packet[6] & 0x04;
+    return r->packet[at(r, 6)] & 0x04;
 }
 
 static bool bit_o(const struct reading *r)
 {
-    return r->packet[6] & 0x02;
+    return r->packet[at(r, 6)] & 0x02;
 }
 
 static bool bit_p(const struct reading *r)
 {
-    return r->packet[6] & 0x01;
+    return r->packet[at(r, 6)] & 0x01;
 }
 
 static bool is_start_or_single(const struct reading *r)
@@ -214,13 +256,13 @@ static bool is_end(const struct reading *r)
 
 static unsigned stream_id(const struct reading *r)
 {
-    return half_word(r->packet + 7);
+    return half_word(r->packet + at(r, 7));
 }
 
 /* 0 means 65,536. */
 static uint64_t length_field(const struct reading *r)
 {
-    unsigned field = half_word(r->packet + 7);
+    unsigned field = half_word(r->packet + at(r, 7));
     return field == 0 ? 65536 : field;
 }
 
@@ -228,33 +270,33 @@ static uint64_t length_field(const struct reading *r)
 
 static unsigned msglen(const struct reading *r)
 {
-    return r->packet[5] >> 4;
+    return r->packet[at(r, 5)] >> 4;
 }
 
 static unsigned ssize(const struct reading *r)
 {
-    return r->packet[5] & 15;
+    return r->packet[at(r, 5)] & 15;
 }
 
 static unsigned letter(const struct reading *r)
 {
-    return r->packet[6] >> 6;
+    return r->packet[at(r, 6)] >> 6;
 }
 
 static unsigned mbox(const struct reading *r)
 {
-    return r->packet[6] >> 4 & 3;
+    return r->packet[at(r, 6)] >> 4 & 3;
 }
 
 static unsigned msgseg(const struct reading *r)
 {
-    return r->packet[6] & 15;
+    return r->packet[at(r, 6)] & 15;
 }
 
 /* With msglen 0 the last field of byte 6 is xmbox. */
 static unsigned xmbox(const struct reading *r)
 {
-    return r->packet[6] & 15;
+    return r->packet[at(r, 6)] & 15;
 }
 
 static bool is_single_message(const struct reading *r)
@@ -278,8 +320,8 @@ static unsigned segment(const struct reading *r)
 static size_t head(const struct reading *r)
 {
     if (is_stream(r) && (bit_s(r) || bit_e(r)))
-        return 9;
-    return 7;
+        return at(r, 9);
+    return at(r, 7);
 }
 
 static const uint8_t *data(const struct reading *r)
@@ -374,17 +416,19 @@ static bool wrong_memory(const struct reading *r)
         return true;
     if (r->lent->message_length != SECOND_MESSAGE_MEMORY)
         return true;
-    return r->lent->response_length < SECOND_RESPONSE_BYTES;
+    return r->lent->response_length < at(r, SECOND_RESPONSE_BYTES);
 }
+
+/* The lengths of row 1 are those of document 01, at our width. */
 
 static bool under_5(const struct reading *r)
 {
-    return r->length < 5;
+    return r->length < at(r, 5);
 }
 
-static bool tt_not_01(const struct reading *r)
+static bool tt_not_ours(const struct reading *r)
 {
-    return tt(r) != 1;
+    return tt(r) != tt_for(r->state->eight_bits);
 }
 
 static bool not_ours(const struct reading *r)
@@ -399,7 +443,7 @@ static bool not_9_or_11(const struct reading *r)
 
 static bool under_7(const struct reading *r)
 {
-    return r->length < 7;
+    return r->length < at(r, 7);
 }
 
 static bool extended(const struct reading *r)
@@ -409,7 +453,7 @@ static bool extended(const struct reading *r)
 
 static bool s_or_e_under_9(const struct reading *r)
 {
-    return is_stream(r) && (bit_s(r) || bit_e(r)) && r->length < 9;
+    return is_stream(r) && (bit_s(r) || bit_e(r)) && r->length < at(r, 9);
 }
 
 /* No data, odd bytes of data, or O wrong. */
@@ -506,7 +550,7 @@ static const struct row {
     { 19, bad_state,               ALL },
     { 12, wrong_memory,            ALL },
     {  1, under_5,                 ALL },
-    {  2, tt_not_01,               ALL },
+    {  2, tt_not_ours,             ALL },
     {  3, not_ours,                ALL },
     {  4, not_9_or_11,             ALL },
     {  1, under_7,                 ALL },
@@ -540,15 +584,15 @@ static const struct row *first_row(const struct reading *r)
 
 enum status { DONE = 0, RETRY = 3, ERROR = 7 };
 
-static void respond(const struct reading *r, enum status status)
+/* Answers how many bytes it has written. */
+static uint64_t respond(const struct reading *r, enum status status)
 {
     uint8_t *out = r->lent->response;
     unsigned above = priority(r) < 3 ? priority(r) + 1 : 3;
-    out[0] = (uint8_t)(above << 6 | 1 << 4 | 13);
-    put_half_word(out + 1, source(r));
-    put_half_word(out + 3, r->state->device);
-    out[5] = (uint8_t)(1 << 4 | status);
-    out[6] = r->packet[6];
+    put_head(out, r->state->eight_bits, above, 13, source(r), r->state->device);
+    out[at(r, 5)] = (uint8_t)(1 << 4 | status);
+    out[at(r, 6)] = r->packet[at(r, 6)];
+    return at(r, SECOND_RESPONSE_BYTES);
 }
 
 /* ---- What a packet changes --------------------------------------------- */
@@ -570,9 +614,9 @@ static struct second_answer refuse(struct second_endpoint *state, const struct r
 {
     struct second_answer answer = refused(row->number);
     if (row->leaves == ALL_AND_ERROR)
-        respond(r, ERROR);
+        answer.response = respond(r, ERROR);
     if (row->leaves == ALL_AND_RETRY)
-        respond(r, RETRY);
+        answer.response = respond(r, RETRY);
     if (row->leaves == CLOSED && flow_open(r)) {
         answer.dropped = true;
         close_stream(state, flow_context(r));
@@ -660,7 +704,6 @@ static struct second_answer accept_single_message(struct second_endpoint *state,
     int context = free_message(r);
     store_message_data(r, context);
     close_message(state, context);
-    respond(r, DONE);
     return message_answer(r, context, 4 * xmbox(r) + mbox(r), data_bytes(r));
 }
 
@@ -690,12 +733,20 @@ static struct second_answer accept_multi_message(struct second_endpoint *state,
     c->marks |= (uint64_t)1 << msgseg(r);
     if (msgseg(r) == msglen(r))
         c->last = data_bytes(r);
-    respond(r, DONE);
     if (c->marks != all_marks(c->msglen))
         return plain(SECOND_HELD);
     uint64_t length = c->msglen * ssize_bytes(c->ssize) + c->last;
     close_message(state, context);
     return message_answer(r, context, mbox(r), length);
+}
+
+/* An accepted segment writes DONE. */
+static struct second_answer accept_message(struct second_endpoint *state, const struct reading *r)
+{
+    struct second_answer answer =
+        is_single_message(r) ? accept_single_message(state, r) : accept_multi_message(state, r);
+    answer.response = respond(r, DONE);
+    return answer;
 }
 
 /* ---- The calls --------------------------------------------------------- */
@@ -714,16 +765,16 @@ struct second_answer second_read(struct second_endpoint *state, struct second_le
         return accept_start_or_single(state, r);
     if (is_continuation_or_end(r))
         return accept_continuation_or_end(state, r);
-    if (is_single_message(r))
-        return accept_single_message(state, r);
-    return accept_multi_message(state, r);
+    return accept_message(state, r);
 }
 
-/* 18 before 19. Refused, it hands back a state of zeros. */
+/* 47 first, then 18 before 19. Refused, it hands back a state of zeros. */
 struct second_answer second_setup(struct second_endpoint *state, uint16_t device, uint64_t mtu,
-                                  uint64_t room)
+                                  uint64_t room, uint64_t eight_bits)
 {
     *state = (struct second_endpoint){ 0 };
+    if (!id_allowed(eight_bits, device))
+        return refused(47);
     if (!mtu_allowed(mtu))
         return refused(18);
     if (!room_allowed(mtu, room))
@@ -731,6 +782,7 @@ struct second_answer second_setup(struct second_endpoint *state, uint16_t device
     state->device = device;
     state->mtu = mtu;
     state->room = room;
+    state->eight_bits = eight_bits;
     return plain(SECOND_READY);
 }
 
@@ -810,6 +862,9 @@ struct second_answer second_write_segment(uint8_t *out, size_t out_length,
                                           struct second_heading heading, uint64_t mtu,
                                           const uint8_t *pdu, size_t pdu_length, uint64_t number)
 {
+    const uint64_t eight_bits = heading.eight_bits;
+    if (!id_allowed(eight_bits, heading.destination) || !id_allowed(eight_bits, heading.source))
+        return refused(47);
     if (!mtu_allowed(mtu))
         return refused(18);
     if (heading.priority > 3)
@@ -827,20 +882,18 @@ struct second_answer second_write_segment(uint8_t *out, size_t out_length,
     bool pad = bytes % 2 == 1;
     size_t half_words = (bytes + 1) / 2;
     bool odd = half_words % 2 == 1;
-    size_t behind = s || e ? 9 : 7;
+    size_t behind = moved(eight_bits, s || e ? 9 : 7);
     size_t length = behind + 2 * half_words;
     if (out_length < length)
         return refused(16);
 
-    out[0] = (uint8_t)(heading.priority << 6 | 1 << 4 | 9);
-    put_half_word(out + 1, heading.destination);
-    put_half_word(out + 3, heading.source);
-    out[5] = heading.cos;
-    out[6] = (uint8_t)(s << 7 | e << 6 | odd << 1 | pad);
+    put_head(out, eight_bits, heading.priority, 9, heading.destination, heading.source);
+    out[moved(eight_bits, 5)] = heading.cos;
+    out[moved(eight_bits, 6)] = (uint8_t)(s << 7 | e << 6 | odd << 1 | pad);
     if (s)
-        put_half_word(out + 7, heading.stream_id);
+        put_half_word(out + moved(eight_bits, 7), heading.stream_id);
     if (!s && e)
-        put_half_word(out + 7, pdu_length); /* 65,536 is written as 0 */
+        put_half_word(out + moved(eight_bits, 7), pdu_length); /* 65,536 is written as 0 */
     copy(out + behind, pdu + from, bytes);
     if (pad)
         out[length - 1] = 0;

@@ -1,6 +1,6 @@
-/* The endpoint of document 01, written a second time: in C, from the paper
-   and docs/DECISIONS.md. It shares nothing with the proved code or its
-   definitions.
+/* The endpoint of document 01, written a second time: in C, from the paper,
+   request M-112 of document 02 and docs/DECISIONS.md. It shares nothing with
+   the proved code or its definitions.
 
    Every memory is lent and comes with its length. Nothing is kept between
    calls but the state. Any bytes, any lengths and any numbers in the state
@@ -19,12 +19,12 @@ enum {
     SECOND_MESSAGE_CONTEXTS = 8,
     SECOND_MESSAGE_ROOM = 4096,
     SECOND_MESSAGE_MEMORY = 32768,
-    SECOND_RESPONSE_BYTES = 7,
+    SECOND_RESPONSE_BYTES = 7, /* with IDs of 8 bits 5 */
     SECOND_LARGEST_PDU = 65536
 };
 
 /* Fields are wider than they need be, so that a test can set up any state.
-   The state is 147 words of 64 bits, in the order in which they stand here. */
+   The state is 148 words of 64 bits, in the order in which they stand here. */
 
 struct second_stream {
     uint64_t open; /* 0 is free, anything else is open; we write 1 */
@@ -48,7 +48,8 @@ struct second_message {
 struct second_endpoint {
     uint64_t device;
     uint64_t mtu;
-    uint64_t room; /* R */
+    uint64_t room;       /* R */
+    uint64_t eight_bits; /* 0: a device ID has 16 bits; anything else: 8 */
     struct second_stream stream[SECOND_STREAM_CONTEXTS];
     struct second_message message[SECOND_MESSAGE_CONTEXTS];
 };
@@ -60,7 +61,7 @@ struct second_lent {
     uint8_t *message_memory;
     size_t message_length; /* has to be 32,768 */
     uint8_t *response;
-    size_t response_length; /* has to be 7 or more */
+    size_t response_length; /* has to be 7 or more; with IDs of 8 bits 5 */
 };
 
 enum second_kind {
@@ -84,6 +85,7 @@ struct second_answer {
     uint64_t cos_or_letter;
     uint64_t stream_or_mailbox;
     uint64_t length;
+    uint64_t response; /* reading, any kind: the bytes of response written */
 };
 
 /* A part of a memory of the caller. */
@@ -99,13 +101,14 @@ struct second_heading {
     uint16_t source;
     uint8_t cos;
     uint16_t stream_id;
+    uint64_t eight_bits; /* as above */
 };
 
 /* Row 19: a state that every call refuses. */
 bool second_refusal19(const struct second_endpoint *state);
 
 struct second_answer second_setup(struct second_endpoint *state, uint16_t device, uint64_t mtu,
-                                  uint64_t room);
+                                  uint64_t room, uint64_t eight_bits);
 
 struct second_answer second_read(struct second_endpoint *state, struct second_lent lent,
                                  const uint8_t *packet, size_t length);

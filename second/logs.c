@@ -111,10 +111,10 @@ struct record next_record(const uint8_t *log, size_t length, size_t place)
 
 /* ---- The log program --------------------------------------------------- */
 
-void log_setup(struct log_endpoint *endpoint)
+void log_setup(struct log_endpoint *endpoint, bool eight_bits)
 {
     *endpoint = (struct log_endpoint){ 0 };
-    second_setup(&endpoint->state, LOG_DEVICE, LOG_MTU, LOG_ROOM);
+    second_setup(&endpoint->state, LOG_DEVICE, LOG_MTU, LOG_ROOM, eight_bits);
 }
 
 struct second_answer log_read(struct log_endpoint *endpoint, const uint8_t *packet, size_t length)
@@ -163,14 +163,14 @@ void append_answer(struct buffer *out, struct second_answer answer)
     append_text(out, "\n");
 }
 
-void run_log(struct buffer *out, const uint8_t *log, size_t length)
+static void run(struct buffer *out, bool eight_bits, const uint8_t *log, size_t length)
 {
     if (length > LARGEST_LOG) {
         append_text(out, "bad log\n");
         return;
     }
     static struct log_endpoint endpoint;
-    log_setup(&endpoint);
+    log_setup(&endpoint, eight_bits);
     uint64_t records = 0;
     struct record record = next_record(log, length, 0);
     while (record.kind == RECORD) {
@@ -185,4 +185,39 @@ void run_log(struct buffer *out, const uint8_t *log, size_t length)
     append_text(out, "end ");
     append_number(out, records);
     append_text(out, "\n");
+}
+
+void run_log(struct buffer *out, const uint8_t *log, size_t length)
+{
+    run(out, false, log, length);
+}
+
+void run_log_of_8_bits(struct buffer *out, const uint8_t *log, size_t length)
+{
+    run(out, true, log, length);
+}
+
+/* ---- Answers with their responses --------------------------------------- */
+
+static void append_response(struct buffer *out, const uint8_t *response, size_t length)
+{
+    if (length == 0)
+        append_text(out, "none");
+    else
+        append_hex(out, response, length);
+    append_text(out, "\n");
+}
+
+bool run_responses(struct buffer *out, bool eight_bits, const uint8_t *log, size_t length)
+{
+    static struct log_endpoint endpoint;
+    log_setup(&endpoint, eight_bits);
+    struct record record = next_record(log, length, 0);
+    while (record.kind == RECORD) {
+        struct second_answer answer = log_read(&endpoint, record.packet, record.length);
+        append_answer(out, answer);
+        append_response(out, endpoint.response, answer.response);
+        record = next_record(log, length, record.next);
+    }
+    return record.kind == CLEAN_END;
 }

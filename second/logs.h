@@ -31,7 +31,8 @@ void release(struct buffer *buffer);
 /* One record: a length and the packet. At most 16,383 bytes. */
 void append_record(struct buffer *log, const uint8_t *packet, size_t length);
 
-/* An endpoint with its memories, set up as the log program does it. */
+/* An endpoint with its memories, set up as the log program does it, for IDs of
+   16 bits or of 8. */
 struct log_endpoint {
     struct second_endpoint state;
     uint8_t stream_memory[SECOND_STREAM_CONTEXTS * LOG_ROOM];
@@ -39,7 +40,7 @@ struct log_endpoint {
     uint8_t response[SECOND_RESPONSE_BYTES];
 };
 
-void log_setup(struct log_endpoint *endpoint);
+void log_setup(struct log_endpoint *endpoint, bool eight_bits);
 struct second_answer log_read(struct log_endpoint *endpoint, const uint8_t *packet, size_t length);
 
 /* The line for an answer, with its newline. */
@@ -59,5 +60,13 @@ struct record next_record(const uint8_t *log, size_t length, size_t place);
 
 /* The log program: the whole output of a whole log. */
 void run_log(struct buffer *out, const uint8_t *log, size_t length);
+
+/* The same, if its endpoint had IDs of 8 bits. */
+void run_log_of_8_bits(struct buffer *out, const uint8_t *log, size_t length);
+
+/* For each record the line of its answer, and a line with the response that was
+   written, in hex, or `none`. Stops at a record that is bad, and says whether
+   there was none. */
+bool run_responses(struct buffer *out, bool eight_bits, const uint8_t *log, size_t length);
 
 #endif

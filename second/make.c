@@ -30,7 +30,8 @@ static void save_vectors(struct vectors made, const char *in_name, const char *o
     release(&made.out);
 }
 
-static void save_bundle(void)
+/* What logs of either width have. */
+static void bundle_both(void)
 {
     bundle_paper();
     bundle_rows();
@@ -39,11 +40,31 @@ static void save_bundle(void)
     bundle_sizes();
     bundle_messages();
     bundle_mixes();
-    bundle_broken();
+}
+
+static void save_bundle(const char *in_name, const char *out_name)
+{
+    printf("logs with IDs of %u bits\n", either(16, 8));
     print_sections(stdout);
-    save("crates/outside_logs/stdin", bundle_in());
-    save("crates/outside_logs/stdout", bundle_out());
+    save(in_name, bundle_in());
+    save(out_name, bundle_out());
     release_bundle();
+}
+
+static void save_logs(void)
+{
+    bundle_both();
+    bundle_broken();
+    save_bundle("crates/outside_logs/stdin", "crates/outside_logs/stdout");
+}
+
+static void save_logs_of_8_bits(void)
+{
+    eight_bits = true;
+    bundle_both();
+    bundle_widths();
+    save_bundle("crates/outside_narrow/stdin", "crates/outside_narrow/stdout");
+    eight_bits = false;
 }
 
 int main(int count, char **words)
@@ -53,7 +74,8 @@ int main(int count, char **words)
         return 1;
     }
     directory = words[1];
-    save_bundle();
+    save_logs();
+    save_logs_of_8_bits();
     save_vectors(responses(), "crates/outside_responses/stdin", "crates/outside_responses/stdout");
     save_vectors(segments(), "crates/outside_segments/stdin", "crates/outside_segments/stdout");
     save_vectors(wheels(), "logs/wheels.log", "logs/wheels.txt");

@@ -10,10 +10,13 @@ struct vectors {
     struct buffer out;
 };
 
-/* One log; each answer's line and the response behind it. */
+/* One clean log, of the width in use: messages of every kind, and what has no response. */
+struct buffer responses_log(void);
+
+/* That log; each answer's line and the response behind it. */
 struct vectors responses(void);
 
-/* Cases for the segment writer; its packets and refusals. */
+/* Cases for the segment writer, of both widths; its packets and refusals. */
 struct vectors segments(void);
 
 /* A log of the README or of the report, and its output. */

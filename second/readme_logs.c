@@ -75,7 +75,7 @@ struct vectors wheels(void)
     three_parts(&log, 2, 0);
     three_parts(&log, 2, 1);
     /* A packet for device 4. */
-    send(&log, with_byte(stream_packet(stranger, SINGLE, 9, 20), 2, 4));
+    send(&log, to_device(stream_packet(stranger, SINGLE, 9, 20), 4));
     three_parts(&log, 2, 2);
     three_parts(&log, 2, 3);
 

@@ -16,10 +16,11 @@ static const struct flow flow = { .priority = 2, .source = 2, .cos = 5 };
 /* Several sources and all priorities, in turn. */
 static struct box box_of(unsigned number)
 {
-    static const unsigned sources[] = { 0, 2, 255, 256, 65535, 513 };
+    static const unsigned wide[] = { 0, 2, 255, 256, 65535, 513 };
+    static const unsigned narrow[] = { 0, 2, 255, 1, 254, 77 };
     const struct box box = {
         .priority = number % 4,
-        .source = sources[number / 4 % 6],
+        .source = either(wide[number / 4 % 6], narrow[number / 4 % 6]),
         .letter = number / 3 % 4,
         .mbox = number / 5 % 4,
     };
@@ -77,8 +78,9 @@ static void errors_23_and_24(void)
 
 static void retries(void)
 {
+    const unsigned others = either(1000, 100);
     for (unsigned i = 0; i < 8; i++) {
-        const struct box box = { .priority = 1, .source = 1000 + i, .letter = 2, .mbox = 3 };
+        const struct box box = { .priority = 1, .source = others + i, .letter = 2, .mbox = 3 };
         send(message_packet(box, 1, 9, 0, 8));
     }
     for (unsigned i = 0; i < 32; i++) {
@@ -87,7 +89,7 @@ static void retries(void)
         send(message_packet(box_of(i), 0, 15, i % 16, 8));
     }
     for (unsigned i = 0; i < 8; i++) {
-        const struct box box = { .priority = 0, .source = 1000 + i, .letter = 2, .mbox = 3 };
+        const struct box box = { .priority = 0, .source = others + i, .letter = 2, .mbox = 3 };
         send(message_packet(box, 1, 9, 1, 8));
     }
 }
@@ -98,13 +100,13 @@ static void no_response(void)
     send((struct packet){ .length = 0 });
     for (unsigned i = 0; i < 16; i++) {
         struct packet message = message_packet(box_of(i), 0, 9, i, 8);
-        send(cut_to(message, i % 7));
+        send(cut_to(message, i % at(7)));
         send(with_flipped(message, 0, 0x10));
-        send(with_byte(message, 2, 2 + i));
+        send(to_device(message, 2 + i));
         send(with_flipped(message, 0, 0x04));
         send(message);
         send(stream_packet(flow, START, i, 32));
-        send(with_flipped(stream_packet(flow, END, 40, 8), 6, BIT_XH));
+        send(with_flipped(stream_packet(flow, END, 40, 8), at(6), BIT_XH));
         send(stream_packet(flow, CONTINUATION, 0, 32));
         send(message_packet(box_of(i), 0, 9, i, 9));
         send(stream_packet(flow, END, 72, 8));
@@ -121,7 +123,7 @@ static void mixed(void)
         unsigned which = below(&random, 12);
         const struct box box = {
             .priority = below(&random, 4),
-            .source = 250 + which,
+            .source = either(250, 244) + which,
             .letter = which % 4,
             .mbox = which / 4,
         };
@@ -135,37 +137,9 @@ static void mixed(void)
     }
 }
 
-/* A response's first byte is never 0. */
-static void append_response(struct buffer *out, const uint8_t *response)
+struct buffer responses_log(void)
 {
-    if (response[0] == 0)
-        append_text(out, "none");
-    else
-        append_hex(out, response, SECOND_RESPONSE_BYTES);
-    append_text(out, "\n");
-}
-
-static void run(struct buffer *out, const uint8_t *log, size_t length)
-{
-    static struct log_endpoint endpoint;
-    log_setup(&endpoint);
-    struct record record = next_record(log, length, 0);
-    while (record.kind == RECORD) {
-        for (int i = 0; i < SECOND_RESPONSE_BYTES; i++)
-            endpoint.response[i] = 0;
-        append_answer(out, log_read(&endpoint, record.packet, record.length));
-        append_response(out, endpoint.response);
-        record = next_record(log, length, record.next);
-    }
-    if (record.kind == BAD_LOG || length > LARGEST_LOG) {
-        fputs("the responses' log is not clean\n", stderr);
-        exit(1);
-    }
-}
-
-struct vectors responses(void)
-{
-    struct vectors made = { 0 };
+    log_bytes = (struct buffer){ 0 };
     single_messages();
     whole_messages();
     errors_20_to_22();
@@ -173,7 +147,16 @@ struct vectors responses(void)
     retries();
     no_response();
     mixed();
-    made.in = log_bytes;
-    run(&made.out, made.in.bytes, made.in.length);
+    return log_bytes;
+}
+
+struct vectors responses(void)
+{
+    struct vectors made = { .in = responses_log() };
+    bool clean = run_responses(&made.out, eight_bits, made.in.bytes, made.in.length);
+    if (!clean || made.in.length > LARGEST_LOG) {
+        fputs("the responses' log is not clean\n", stderr);
+        exit(1);
+    }
     return made;
 }

@@ -1,4 +1,5 @@
-/* The segment writer: cases of 20 bytes, and what it says for each. */
+/* The segment writer: cases of 21 bytes, and what it says for each. Those with
+   IDs of 16 bits come first, then the same kinds with IDs of 8. */
 
 #include "make.h"
 
@@ -16,7 +17,10 @@ struct segment_case {
     uint32_t length;
     unsigned seed;
     uint32_t room;
+    unsigned width; /* 0: IDs of 16 bits; anything else: 8 */
 };
+
+enum { CASE_BYTES = 21 };
 
 static void put_bytes(uint32_t number, int bytes)
 {
@@ -36,6 +40,7 @@ static void keep(struct segment_case c)
     put_bytes(c.length, 4);
     put_bytes(c.seed, 1);
     put_bytes(c.room, 3);
+    put_bytes(c.width, 1);
 }
 
 static uint32_t get_bytes(const uint8_t *bytes, int count)
@@ -61,6 +66,7 @@ static struct segment_case plain(uint32_t mtu, uint32_t length)
         .length = length,
         .seed = 0xA0,
         .room = 300,
+        .width = eight_bits,
     };
     return made;
 }
@@ -99,18 +105,51 @@ static void lengths(void)
 
 static void headings(void)
 {
-    static const unsigned ids[] = { 0, 1, 255, 256, 32768, 65535 };
+    static const unsigned wide[] = { 0, 1, 255, 256, 32768, 65535 };
+    static const unsigned narrow[] = { 0, 1, 2, 127, 128, 255 };
+    const unsigned *ids = eight_bits ? narrow : wide;
     for (unsigned priority = 0; priority <= 3; priority++)
         for (unsigned i = 0; i < 6; i++) {
             struct segment_case c = plain(32, 33 + priority);
             c.priority = priority;
             c.destination = ids[i];
             c.source = ids[(i + 1) % 6];
-            c.stream = ids[(i + 2) % 6];
+            c.stream = wide[(i + 2) % 6];
             c.cos = 51 * i;
             c.seed = 40 * i + priority;
             keep(c);
         }
+}
+
+/* IDs over 255, with everything else right and wrong. Any width but 0 is 8 bits;
+   with 16 there is no such refusal. */
+static void refusal_47(void)
+{
+    static const unsigned ids[] = { 0, 255, 256, 65535 };
+    static const unsigned widths[] = { 0, 1, 2, 8, 16, 255 };
+    for (unsigned i = 0; i < 16; i++)
+        for (size_t k = 0; k < sizeof widths / sizeof widths[0]; k++) {
+            struct segment_case c = plain(32, 33);
+            c.destination = ids[i / 4];
+            c.source = ids[i % 4];
+            c.width = widths[k];
+            keep(c);
+        }
+    for (unsigned i = 0; i < 2; i++) {
+        struct segment_case c = plain(32, 33);
+        c.destination = i == 0 ? 256 : 255;
+        c.source = i == 0 ? 255 : 256;
+        c.room = 0;
+        keep(c);
+        c.length = 0;
+        keep(c);
+        c.length = 65537;
+        keep(c);
+        c.priority = 4;
+        keep(c);
+        c.mtu = 33;
+        keep(c);
+    }
 }
 
 /* MTUs that are not allowed, with everything else right and wrong. */
@@ -163,6 +202,12 @@ static void refusal_14(void)
     }
 }
 
+/* A room of so many bytes, where the packet has IDs of 16 bits. */
+static uint32_t room_of(uint32_t length)
+{
+    return length < 2 ? length : (uint32_t)at(length);
+}
+
 /* Rooms around the lengths of the packets. 15 comes before 16: the last
    number of each case is past the count. */
 static void refusal_16(void)
@@ -171,7 +216,7 @@ static void refusal_16(void)
     for (size_t i = 0; i < sizeof single / sizeof single[0]; i++)
         for (uint32_t length = 31; length <= 33; length++) {
             struct segment_case c = plain(32, length);
-            c.room = single[i];
+            c.room = room_of(single[i]);
             keep(c);
             c.length = 1;
             keep(c);
@@ -180,14 +225,14 @@ static void refusal_16(void)
         }
     for (uint32_t room = 38; room <= 41; room++) {
         struct segment_case c = plain(32, 96);
-        c.room = room;
+        c.room = room_of(room);
         keep(c);
         c.length = 125;
         keep(c);
     }
     for (uint32_t room = 262; room <= 265; room++) {
         struct segment_case c = plain(256, 600);
-        c.room = room;
+        c.room = room_of(room);
         keep(c);
     }
 }
@@ -196,19 +241,19 @@ static void refusal_16(void)
 static void largest(void)
 {
     struct segment_case c = plain(252, 65536);
-    c.room = 25;
+    c.room = room_of(25);
     keep(c);
     c = plain(100, 65536);
-    c.room = 45;
+    c.room = room_of(45);
     keep(c);
     c = plain(100, 65535);
-    c.room = 45;
+    c.room = room_of(45);
     keep(c);
     c = plain(32, 65536);
-    c.room = 38;
+    c.room = room_of(38);
     keep(c);
     c = plain(256, 65281);
-    c.room = 11;
+    c.room = room_of(11);
     keep(c);
 }
 
@@ -216,11 +261,11 @@ static void random_cases(void)
 {
     struct random random = seeded(6);
     for (unsigned i = 0; i < 120; i++) {
-        struct segment_case c = { .room = 300 };
+        struct segment_case c = { .room = 300, .width = eight_bits };
         c.mtu = 32 + 4 * below(&random, 57);
         c.priority = below(&random, 4);
-        c.destination = below(&random, 65536);
-        c.source = below(&random, 65536);
+        c.destination = below(&random, either(65536, 256));
+        c.source = below(&random, either(65536, 256));
         c.cos = below(&random, 256);
         c.stream = below(&random, 65536);
         c.length = between(&random, 1, 300);
@@ -233,6 +278,10 @@ static void random_cases(void)
             c.mtu = below(&random, 300);
         if (one_in(&random, 20))
             c.length = 300 + below(&random, 600);
+        if (eight_bits && one_in(&random, 12))
+            c.destination = below(&random, 65536);
+        if (eight_bits && one_in(&random, 12))
+            c.source = below(&random, 65536);
         keep(c);
     }
 }
@@ -268,6 +317,7 @@ static void run_case(struct buffer *out, const uint8_t *bytes)
         .source = (uint16_t)get_bytes(bytes + 7, 2),
         .cos = bytes[9],
         .stream_id = (uint16_t)get_bytes(bytes + 10, 2),
+        .eight_bits = bytes[20],
     };
     for (uint32_t i = 0; i < length; i++)
         pdu[i] = (uint8_t)(seed + 7 * i + i / 256);
@@ -280,9 +330,9 @@ static void run_case(struct buffer *out, const uint8_t *bytes)
         run_number(out, heading, mtu, pdu, length, room, number);
 }
 
-struct vectors segments(void)
+/* What cases of either width have. */
+static void both(void)
 {
-    struct vectors made = { 0 };
     examples();
     lengths();
     headings();
@@ -292,8 +342,18 @@ struct vectors segments(void)
     refusal_16();
     largest();
     random_cases();
+}
+
+struct vectors segments(void)
+{
+    struct vectors made = { 0 };
+    both();
+    eight_bits = true;
+    both();
+    refusal_47();
+    eight_bits = false;
     made.in = cases;
-    for (size_t place = 0; place < made.in.length; place += 20)
+    for (size_t place = 0; place < made.in.length; place += CASE_BYTES)
         run_case(&made.out, made.in.bytes + place);
     return made;
 }

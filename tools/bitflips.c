@@ -320,7 +320,7 @@ static struct run run(const struct packet *const *order, unsigned count, unsigne
     struct board board = { .times = { 0 } };
     for (int i = 0; i < MOST_SENT; i++)
         board.last[i] = -1;
-    second_setup(&state, DEVICE, mtu, ROOM);
+    second_setup(&state, DEVICE, mtu, ROOM, 0);
     for (unsigned i = 0; i < count; i++) {
         struct second_answer answer = read_packet(&state, order[i]->bytes, order[i]->length);
         board.flows[order[i]->sent] = order[i]->flow;
@@ -1188,7 +1188,7 @@ static void how_long(void)
 static struct second_answer alone(const uint8_t *packet, size_t length)
 {
     static struct second_endpoint state;
-    second_setup(&state, DEVICE, mtu, ROOM);
+    second_setup(&state, DEVICE, mtu, ROOM, 0);
     return read_packet(&state, packet, length);
 }
 
@@ -1213,7 +1213,7 @@ static void type_9_as_11(void)
     for (unsigned cos = 0; cos < 256; cos++)
         for (size_t length = 1; length <= 96; length++)
             for (unsigned k = 0; k < second_segment_count(mtu, length); k++) {
-                const struct second_heading heading = { 1, DEVICE, 2, (uint8_t)cos, 7 };
+                const struct second_heading heading = { 1, DEVICE, 2, (uint8_t)cos, 7, 0 };
                 struct second_answer written =
                     second_write_segment(packet, sizeof packet, heading, mtu, pdu, length, k);
                 packet[0] ^= 2;

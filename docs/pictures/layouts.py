@@ -4,13 +4,15 @@
     docs/pictures/layouts.py           writes the pictures
     docs/pictures/layouts.py --check   holds the table against stored packets, and the pictures against the table
 
-The check takes packets apart by the table's places: the paper's sample, and the second program's cases under
-crates/outside_segments, crates/outside_responses and crates/outside_logs. It compares every field with what the case
-says was meant, or with the line printed for the packet. It ends with 1 at the first difference.
+Each picture has a packet at both widths of the IDs. The check takes packets apart by the table's places: the paper's
+sample, and the second program's cases under crates/outside_segments (both widths), crates/outside_responses and
+crates/outside_logs (16 bits) and crates/outside_narrow (8 bits). It compares every field with what the case says was
+meant, or with the line printed for the packet. It ends with 1 at the first difference.
 """
 import collections
 import html
 import pathlib
+import re
 import sys
 
 HERE = pathlib.Path(__file__).resolve().parent
@@ -21,34 +23,59 @@ import command
 Field = collections.namedtuple("Field", "name byte bit width value")
 
 
-class Layout:
-    """One packet: its picture's name, title and notes, its fields in order, where its data begin (None: no data)."""
+IDS = (2, 1)  # the bytes of an ID: with 16 bits, with 8
 
-    def __init__(self, picture, title):
-        self.picture, self.title, self.notes, self.fields, self.data = picture, title, [], [], None
+
+def header(ids):
+    """Where the fields of a type begin: behind byte 0 and the two IDs."""
+    return 1 + 2 * ids
+
+
+def tt_of(ids):
+    return ids - 1
+
+
+class Layout:
+    """One packet at one width: its picture's name, title and notes, its fields in order, where its data begin (None: no data)."""
+
+    def __init__(self, ids, picture, title):
+        self.ids, self.picture, self.title, self.notes, self.fields, self.data = ids, picture, title, [], [], None
 
     def head(self):
         """How many bytes the fields take."""
         return max(f.byte * 8 + f.bit + f.width for f in self.fields) // 8
 
 
-def read_table():
+def place_of(words, ids):
+    """A byte as the table names it, at that width."""
+    named = {"ID1": 1, "ID2": 1 + ids}
+    return named[words] if words in named else header(ids) + int(words) if words.startswith("+") else int(words)
+
+
+def field_of(words, ids):
+    """name, byte, bit, width, value"""
+    width = 8 * ids if words[3] == "ID" else int(words[3])
+    value = f"{tt_of(ids):02b}" if words[4] == "tt" else words[4]
+    return Field(words[0].replace("_", " "), place_of(words[1], ids), int(words[2]), width, value)
+
+
+def read_table(ids):
+    """The table's packets, with IDs of so many bytes."""
     layouts = {}
     for line in command.text(HERE / "layouts.txt").splitlines():
         words = line.split()
         if not words or words[0].startswith("#"):
             continue
         if words[0] == "packet":
-            layouts[words[1]] = Layout(words[2], " ".join(words[3:]))
+            layouts[words[1]] = Layout(ids, words[2], " ".join(words[3:]))
             continue
         for name in layouts if words[1] == "all" else words[1].split(","):
             if words[0] == "note":
                 layouts[name].notes.append(" ".join(words[2:]))
             elif words[0] == "data":
-                layouts[name].data = int(words[2])
+                layouts[name].data = place_of(words[2], ids)
             elif words[0] == "field":
-                byte, bit, width = map(int, words[3:6])
-                layouts[name].fields.append(Field(words[2].replace("_", " "), byte, bit, width, words[6]))
+                layouts[name].fields.append(field_of(words[2:7], ids))
             else:
                 sys.exit(f"layouts.txt: what is this line? {line}")
     for layout in layouts.values():
@@ -59,7 +86,7 @@ def read_table():
 # ---- The pictures
 
 BIT, LEFT, ROW, NUMBERS = 24, 20, 52, 44  # width of a bit; margin; height of a field; height of the numbers over it
-ACROSS = 40  # bits in a row: bytes 0 to 4, then bytes 5 on
+ACROSS = 40  # bits in a row: byte 0 and the IDs, then what is behind them
 WIDTH = ACROSS * BIT + 2 * LEFT
 INK, SOFT, PANEL, EDGE = "#22272e", "#5c6670", "#fdfcf8", "#c9c6bb"
 KINDS = {  # fill and outline
@@ -100,7 +127,7 @@ def box(field, first, y):
 
 def data_box(layout, y):
     """From where data begin to the right edge, which is torn."""
-    x = LEFT + (layout.data - 5) * 8 * BIT
+    x = LEFT + (layout.data - header(layout.ids)) * 8 * BIT
     end = LEFT + ACROSS * BIT
     fill, line = KINDS["data"]
     step = ROW / 4
@@ -110,28 +137,44 @@ def data_box(layout, y):
             text((x + end) / 2, y + 41, f"from byte {layout.data}", 12, SOFT)]
 
 
-def picture(layout):
-    rows = [(0, 5, 48), (5, layout.head() - 5, 48 + NUMBERS + ROW + 12)]  # first byte, bytes, y
-    under = rows[1][2] + NUMBERS + ROW
-    height = under + 16 + 22 * len(layout.notes) + 8
-    parts = [
-        f'<svg xmlns="http://www.w3.org/2000/svg" viewBox="0 0 {WIDTH} {height}" width="{WIDTH}" height="{height}" '
-        f'font-family="Helvetica, Arial, \'Liberation Sans\', sans-serif" role="img" aria-labelledby="title">',
-        f'<title id="title">{html.escape(layout.title)}</title>',
-        f'<rect x="1" y="1" width="{WIDTH - 2}" height="{height - 2}" rx="10" fill="{PANEL}" stroke="{EDGE}" stroke-width="1.5"/>',
-        text(LEFT, 32, layout.title, 18, anchor="start", weight="bold"),
-    ]
-    for first, count, y in rows:
-        parts += numbers(first, count, y)
+WORDS, PAUSE = 34, 12  # height of the words over a packet; between the two rows of one
+
+
+def drawn(layout, y):
+    """A packet from y on: how wide its IDs are, byte 0 and the IDs, and under them what is behind. And where it ends."""
+    behind = header(layout.ids)
+    top = y + WORDS
+    under = top + NUMBERS + ROW + PAUSE
+    size = f"{layout.head()} bytes" if layout.data is None else f"a head of {layout.head()} bytes"
+    parts = [text(LEFT, y + 22, f"IDs of {8 * layout.ids} bits: {size}", 15, SOFT, "start", "bold")]
+    for first, count, at in [(0, behind, top), (behind, layout.head() - behind, under)]:
+        parts += numbers(first, count, at)
         for field in layout.fields:
             if first <= field.byte < first + count:
-                parts += box(field, first, y + NUMBERS)
+                parts += box(field, first, at + NUMBERS)
     if layout.data is not None:
-        parts += data_box(layout, rows[1][2] + NUMBERS)
-    for i, note in enumerate(layout.notes):
-        parts.append(text(LEFT, under + 30 + 22 * i, note, 14, anchor="start"))
-    parts.append("</svg>")
-    return "\n".join(parts) + "\n"
+        parts += data_box(layout, under + NUMBERS)
+    return parts, under + NUMBERS + ROW
+
+
+def picture(layouts):
+    """One packet at each width."""
+    title, notes = layouts[0].title, layouts[0].notes
+    parts, y = [], 40
+    for layout in layouts:
+        more, end = drawn(layout, y)
+        parts, y = parts + more, end + 14
+    for i, note in enumerate(notes):
+        parts.append(text(LEFT, y + 16 + 22 * i, note, 14, anchor="start"))
+    height = y + 10 + 22 * len(notes)
+    head = [
+        f'<svg xmlns="http://www.w3.org/2000/svg" viewBox="0 0 {WIDTH} {height}" width="{WIDTH}" height="{height}" '
+        f'font-family="Helvetica, Arial, \'Liberation Sans\', sans-serif" role="img" aria-labelledby="title">',
+        f'<title id="title">{html.escape(title)}</title>',
+        f'<rect x="1" y="1" width="{WIDTH - 2}" height="{height - 2}" rx="10" fill="{PANEL}" stroke="{EDGE}" stroke-width="1.5"/>',
+        text(LEFT, 32, title, 18, anchor="start", weight="bold"),
+    ]
+    return "\n".join(head + parts + ["</svg>"]) + "\n"
 
 
 # ---- The check
@@ -192,8 +235,9 @@ def records(log):
         place += length
 
 
-def check_paper(layouts):
+def check_paper(tables):
     """The paper's sample log and the response it gives, field by field as the paper writes them."""
+    layouts = tables[2]
     stream, message = records((ROOT / "logs/paper.log").read_bytes())
     head = {"priority": 0, "tt": 1, "destination": 1, "source": 2}
     box_of = {"letter": 1, "mbox": 2, "msgseg": 0}
@@ -208,15 +252,18 @@ def check_paper(layouts):
     return 3, count
 
 
-def check_segments(layouts):
-    """The writer's cases: what went in stands in 20 bytes, what came out in hex."""
+CASE = 21  # the bytes of one of the writer's cases
+
+
+def check_segments(tables):
+    """The writer's cases: what went in stands in 21 bytes, the last of which chooses the width, and what came out in hex."""
     cases = (ROOT / "crates/outside_segments/stdin").read_bytes()
     lines = iter(command.text(ROOT / "crates/outside_segments/stdout").splitlines())
     packets = fields = 0
-    for at in range(0, len(cases), 20):
-        case = cases[at:at + 20]
+    for at in range(0, len(cases), CASE):
+        case = cases[at:at + CASE]
         number = lambda first, last: int.from_bytes(case[first:last], "big")
-        mtu, length, seed = number(0, 4), number(12, 16), case[16]
+        mtu, length, seed, ids = number(0, 4), number(12, 16), case[16], 1 if case[20] else 2
         count = int(next(lines).split()[1])
         pdu = bytes((seed + 7 * i + i // 256) % 256 for i in range(length)) if count else b""
         for k in range(count + 1):
@@ -226,11 +273,11 @@ def check_segments(layouts):
             data = pdu[k * mtu:(k + 1) * mtu]
             data += bytes(len(data) % 2)
             first, last = k == 0, k == count - 1
-            wanted = {"priority": case[4], "tt": 1, "type": 9, "destination": number(5, 7), "source": number(7, 9), "cos": case[9],
+            wanted = {"priority": case[4], "tt": tt_of(ids), "type": 9, "destination": number(5, 7), "source": number(7, 9), "cos": case[9],
                       "S": first, "E": last, "reserved": 0, "xh": 0, "O": len(data) // 2 % 2, "P": min(mtu, length - k * mtu) % 2,
                       "streamID": number(10, 12), "PDU length": length % 65536}
             kind = "start" if first else "end" if last else "continuation"
-            fields += compare(layouts[kind], bytes.fromhex(line), wanted, data, f"outside_segments, case {at // 20 + 1}")
+            fields += compare(tables[ids][kind], bytes.fromhex(line), wanted, data, f"outside_segments, case {at // CASE + 1}")
             packets += 1
     return packets, fields
 
@@ -254,33 +301,39 @@ def check_message(values, data, answer, where):
             fail(f"{where}: the fields do not give {answer}")
 
 
-def check_responses(layouts):
-    """Messages and their responses: each packet, the line printed for it, and the seven bytes sent back."""
+STATUS = {"held": 0, "msg": 0, "refused": 7, "refused 25": 3}
+
+
+def check_response(layouts, packet, answer, response, where):
+    """A message, the line printed for it, and the bytes sent back. Answers how many fields it compared."""
+    values, data = take_apart(layouts["message"], packet)
+    ids = layouts["message"].ids
+    check_message(values, data, answer, where)
+    fields = compare(layouts["message"], packet, values | {"tt": tt_of(ids), "type": 11, "destination": 1}, data, where)
+    wanted = {"priority": min(values["priority"] + 1, 3), "tt": tt_of(ids), "type": 13, "destination": values["source"], "source": 1,
+              "transaction": 1, "status": STATUS.get(answer, STATUS[answer.split()[0]]),
+              "letter": values["letter"], "mbox": values["mbox"], "msgseg": values["msgseg"]}
+    if len(response) != 2 * layouts["response"].head():
+        fail(f"{where}: a response of {len(response) // 2} bytes")
+    return fields + compare(layouts["response"], bytes.fromhex(response), wanted, None, where)
+
+
+def check_responses(tables):
+    """Messages and their responses, with IDs of 16 bits."""
     log = records((ROOT / "crates/outside_responses/stdin").read_bytes())
     lines = command.text(ROOT / "crates/outside_responses/stdout").splitlines()
-    status = {"held": 0, "msg": 0, "refused": 7, "refused 25": 3}
     packets = fields = 0
     for n, (packet, answer, response) in enumerate(zip(log, lines[::2], lines[1::2]), 1):
-        where = f"outside_responses, record {n}"
-        if response == "none":
-            continue
-        values, data = take_apart(layouts["message"], packet)
-        check_message(values, data, answer, where)
-        fields += compare(layouts["message"], packet, values | {"tt": 1, "type": 11, "destination": 1}, data, where)
-        wanted = {"priority": min(values["priority"] + 1, 3), "tt": 1, "type": 13, "destination": values["source"], "source": 1,
-                  "transaction": 1, "status": status.get(answer, status[answer.split()[0]]),
-                  "letter": values["letter"], "mbox": values["mbox"], "msgseg": values["msgseg"]}
-        if len(response) != 14:
-            fail(f"{where}: a response of {len(response) // 2} bytes")
-        fields += compare(layouts["response"], bytes.fromhex(response), wanted, None, where)
-        packets += 2
+        if response != "none":
+            fields += check_response(tables[2], packet, answer, response, f"outside_responses, record {n}")
+            packets += 2
     return packets, fields
 
 
 def check_printed(layouts, packet, answer, where):
     """A packet of a log, right or wrong, by the places of the table: rows 2 to 5 and delivered singles. Answers how many fields it compared."""
     values, _ = take_apart(layouts["continuation"], packet)
-    if values["tt"] != 1:
+    if values["tt"] != tt_of(layouts["continuation"].ids):
         row = "refused 2"
     elif values["destination"] != 1:
         row = "refused 3"
@@ -303,48 +356,74 @@ def check_printed(layouts, packet, answer, where):
     return 8
 
 
-def check_logs(layouts):
-    """Logs with packets right and wrong, and the lines printed for them. Only here tt, type and xh are wrong and reserved bits set."""
-    bundle = (ROOT / "crates/outside_logs/stdin").read_bytes()
-    lines = iter(command.text(ROOT / "crates/outside_logs/stdout").splitlines())
-    place = number = packets = fields = 0
+def logs_of(crate):
+    """The logs of a bundle, each with its number and the lines printed for it."""
+    bundle = (ROOT / "crates" / crate / "stdin").read_bytes()
+    lines = iter(re.split(r"^log (?=\d+$)", command.text(ROOT / "crates" / crate / "stdout"), flags=re.M)[1:])
+    place = number = 0
     while place < len(bundle):
         length = int.from_bytes(bundle[place:place + 4], "big")
         log, place, number = bundle[place + 4:place + 4 + length], place + 4 + length, number + 1
-        if next(lines) != f"log {length}":
-            fail(f"outside_logs: log {number} has not {length} bytes")
-        found = records(log)
-        for line in lines:
-            if line == "bad log" or line.startswith("end "):
-                break
-            packet = next(found)
-            if len(packet) >= 9:
-                fields += check_printed(layouts, packet, line, f"outside_logs, log {number}")
+        said = next(lines).splitlines()
+        if said[0] != str(length):
+            fail(f"{crate}: log {number} has not {length} bytes")
+        yield f"{crate}, log {number}", log, said[1:]
+
+
+def check_logs(tables):
+    """Logs with packets right and wrong, and the lines printed for them. Only here tt, type and xh are wrong and reserved bits set."""
+    packets = fields = 0
+    for where, log, lines in logs_of("outside_logs"):
+        for line, packet in zip(lines[:-1], records(log)):  # the last line is the log's end
+            if len(packet) >= header(2) + 4:
+                fields += check_printed(tables[2], packet, line, where)
                 packets += 1
     return packets, fields
 
 
-def check(layouts):
-    check_tiling(layouts)
+def check_narrow(tables):
+    """The same with IDs of 8 bits, and the responses."""
     packets = fields = 0
-    for part in (check_paper, check_segments, check_responses, check_logs):
-        more_packets, more_fields = part(layouts)
+    for where, log, lines in logs_of("outside_narrow"):
+        for answer, response, packet in zip(lines[::2], lines[1::2], records(log)):
+            if len(packet) >= header(1) + 4:
+                fields += check_printed(tables[1], packet, answer, where)
+                packets += 1
+            if response != "none":
+                fields += check_response(tables[1], packet, answer, response, where)
+                packets += 1
+    return packets, fields
+
+
+def pictures(tables):
+    """Each picture's file, and what belongs into it."""
+    for name, layout in tables[IDS[0]].items():
+        yield HERE / f"{layout.picture}.svg", picture([tables[ids][name] for ids in IDS])
+
+
+def check(tables):
+    for layouts in tables.values():
+        check_tiling(layouts)
+    packets = fields = 0
+    for part in (check_paper, check_segments, check_responses, check_logs, check_narrow):
+        more_packets, more_fields = part(tables)
         packets, fields = packets + more_packets, fields + more_fields
-    for layout in layouts.values():
-        stored = HERE / f"{layout.picture}.svg"
-        if not stored.exists() or command.text(stored) != picture(layout):
+    count = 0
+    for stored, wanted in pictures(tables):
+        if not stored.exists() or command.text(stored) != wanted:
             fail(f"{stored.name} is not what the table gives; docs/pictures/layouts.py writes it")
-    print(f"layouts: {packets:,} packets and {fields:,} fields agree with the table, and {len(layouts)} pictures")
+        count += 1
+    print(f"layouts: {packets:,} packets and {fields:,} fields agree with the table, and {count} pictures")
 
 
 def main(argv):
-    layouts = read_table()
+    tables = {ids: read_table(ids) for ids in IDS}
     if argv:
-        check(layouts)
+        check(tables)
         return
-    for layout in layouts.values():
-        (HERE / f"{layout.picture}.svg").write_text(picture(layout), encoding="utf-8")
-        print(f"wrote {layout.picture}.svg")
+    for stored, wanted in pictures(tables):
+        stored.write_text(wanted, encoding="utf-8")
+        print(f"wrote {stored.name}")
 
 
 command.call(__doc__, main, [], ["--check"])

@@ -29,9 +29,15 @@ static int refused(struct kaiverohm_report r, enum kaiverohm_refusal number)
            && (enum kaiverohm_refusal)r.number == number;
 }
 
+static struct kaiverohm_answer set_up(uint16_t device, uint64_t mtu, uint64_t room, uint64_t narrow)
+{
+    const struct kaiverohm_settings settings = { device, mtu, room, narrow };
+    return kaiverohm_desk_setup(&desk, settings);
+}
+
 static void fresh(void)
 {
-    WANT(is(kaiverohm_desk_setup(&desk, DEVICE, MTU, ROOM), KAIVEROHM_READY, 0));
+    WANT(is(set_up(DEVICE, MTU, ROOM, 0), KAIVEROHM_READY, 0));
 }
 
 /* ---- packets */
@@ -86,6 +92,22 @@ static void heads(void)
     WANT(refused(came(0x19, 9, 5, 0x04, "", MTU), KAIVEROHM_REFUSAL_EXTENDED));
 }
 
+/* With IDs of 8 bits: 2 for the other width, 47 for an ID that is too wide. */
+static void eight_bits(void)
+{
+    WANT(is(set_up(DEVICE, MTU, ROOM, 1), KAIVEROHM_REFUSED, KAIVEROHM_REFUSAL_WIDE_ID));
+    WANT(is(set_up(DEVICE & 0xff, MTU, ROOM, 1), KAIVEROHM_READY, 0));
+    WANT(refused(start_came(9), KAIVEROHM_REFUSAL_ID_WIDTH));
+    memcpy(packet, "\x0b\x02\x09\x09\x60\x61\x62\x63\x64\x65\x66\x67\x68", 13);
+    struct kaiverohm_report r = kaiverohm_desk_read(&desk, packet, 13);
+    WANT(r.kind == KAIVEROHM_MESSAGE && r.source == 9 && r.response == 5);
+    WANT(memcmp(response, "\x4d\x09\x02\x10\x60", 5) == 0);
+    WANT(memcmp(kaiverohm_desk_bytes(&desk, &r), "\x61\x62\x63\x64\x65\x66\x67\x68", 8) == 0);
+    const struct kaiverohm_heading wide = { 256, 2, 3, 4, 0, 1 };
+    WANT(is(kaiverohm_write_segment(packet, sizeof packet, wide, MTU, streams, 9, 0),
+            KAIVEROHM_REFUSED, KAIVEROHM_REFUSAL_WIDE_ID));
+}
+
 static void segments(void)
 {
     fresh();
@@ -121,7 +143,7 @@ static struct kaiverohm_answer written(size_t out, uint64_t mtu, uint8_t priorit
                                        uint64_t number)
 {
     static uint8_t bytes[100];
-    const struct kaiverohm_heading heading = { DEVICE, 2, 3, 4, priority };
+    const struct kaiverohm_heading heading = { DEVICE, 2, 3, 4, priority, 0 };
     return kaiverohm_write_segment(packet, out, heading, mtu, bytes, pdu, number);
 }
 
@@ -157,17 +179,21 @@ static void faults_of_the_caller(void)
 static void words(void)
 {
     static const char *const some[] = {
-        "no refusal", "whole head", "16 bits",     "another device", "nor type",      "extended",
-        "O wrong",    "the MTU",    "its flow",    "than a room",    "16 stream",     "as it says",
-        "buffer",     "no such c",  "over 65",     "no such s",      "out is short",  "priority",
-        "the MTU is", "state",      "is reserved", "wrong length",   "past the last", "than before",
-        "already",    "8 message",
+        "no refusal",  "whole head",   "another width", "another device", "nor type",
+        "extended",    "O wrong",      "the MTU",       "its flow",       "than a room",
+        "16 stream",   "as it says",   "buffer",        "no such c",      "over 65",
+        "no such s",   "out is short", "priority",      "the MTU is",     "state",
+        "is reserved", "wrong length", "past the last", "than before",    "already",
+        "8 message",
     };
     enum { COUNT = sizeof some / sizeof some[0] };
     WANT(COUNT == KAIVEROHM_REFUSAL_MESSAGES_FULL + 1);
     for (uint64_t n = 0; n < COUNT; n++)
         WANT(strstr(kaiverohm_refusal_words(n), some[n]) != NULL);
-    WANT(strcmp(kaiverohm_refusal_words(COUNT), some[0]) == 0);
+    for (uint64_t n = COUNT; n < 60; n++)
+        if (n != KAIVEROHM_REFUSAL_WIDE_ID)
+            WANT(strcmp(kaiverohm_refusal_words(n), some[0]) == 0);
+    WANT(strstr(kaiverohm_refusal_words(KAIVEROHM_REFUSAL_WIDE_ID), "over 255") != NULL);
     WANT(strcmp(kaiverohm_refusal_words((UINT64_C(1) << 32) + 1), some[0]) == 0);
     WANT(strcmp(kaiverohm_refusal_words(UINT64_MAX), some[0]) == 0);
 }
@@ -178,14 +204,13 @@ static void limits(void)
 {
     const uint64_t least = KAIVEROHM_SMALLEST_MTU, most = KAIVEROHM_LARGEST_MTU;
     const uint64_t step = KAIVEROHM_MTU_STEP, room = KAIVEROHM_LARGEST_ROOM;
-    WANT(kaiverohm_desk_setup(&desk, 1, least, room).kind == KAIVEROHM_READY);
-    WANT(kaiverohm_desk_setup(&desk, 1, least + step, room).kind == KAIVEROHM_READY);
-    WANT(kaiverohm_desk_setup(&desk, 1, most, room).kind == KAIVEROHM_READY);
-    WANT(kaiverohm_desk_setup(&desk, 1, least - step, room).kind == KAIVEROHM_REFUSED);
-    WANT(kaiverohm_desk_setup(&desk, 1, least + step / 2, room).kind == KAIVEROHM_REFUSED);
-    WANT(kaiverohm_desk_setup(&desk, 1, most + step, room).kind == KAIVEROHM_REFUSED);
-    WANT(is(kaiverohm_desk_setup(&desk, 1, most, room + 1), KAIVEROHM_REFUSED,
-            KAIVEROHM_REFUSAL_STATE));
+    WANT(set_up(1, least, room, 0).kind == KAIVEROHM_READY);
+    WANT(set_up(1, least + step, room, 0).kind == KAIVEROHM_READY);
+    WANT(set_up(1, most, room, 0).kind == KAIVEROHM_READY);
+    WANT(set_up(1, least - step, room, 0).kind == KAIVEROHM_REFUSED);
+    WANT(set_up(1, least + step / 2, room, 0).kind == KAIVEROHM_REFUSED);
+    WANT(set_up(1, most + step, room, 0).kind == KAIVEROHM_REFUSED);
+    WANT(is(set_up(1, most, room + 1, 0), KAIVEROHM_REFUSED, KAIVEROHM_REFUSAL_STATE));
 }
 
 /* ---- the desk */
@@ -198,7 +223,7 @@ static void made_of_arrays(void)
     WANT(desk.response == response && desk.response_length == sizeof response);
     WANT(KAIVEROHM_STREAM_MEMORY(ROOM + 1) == 16 * (ROOM + 1));
     fresh();
-    WANT(state[0] == DEVICE && state[1] == MTU && state[2] == ROOM);
+    WANT(state[0] == DEVICE && state[1] == MTU && state[2] == ROOM && state[3] == 0);
 }
 
 /* The second of two flows ends: its bytes stand in the second room. */
@@ -308,6 +333,7 @@ int main(void)
 {
     made_of_arrays();
     heads();
+    eight_bits();
     segments();
     message_segments();
     writer();

@@ -3,7 +3,9 @@
    same state and the same bytes in every lent memory. Every buffer of the
    library has guard bytes on both sides.
 
-   Random, from a seed that is printed: differ [SEED [PACKETS]].
+   Random, from a seed that is printed: differ [SEED [PACKETS]]. The width of the
+   IDs is random too, anew at each setup; each of the two reads at least that many
+   packets. Now and then a packet has the other one.
 
    One difference is expected. A context's open word may hold any number but 0.
    On an accepted segment the library writes 1 there, the second program leaves
@@ -20,9 +22,13 @@
 
 enum { GUARD = 64, WORDS = KAIVEROHM_STATE_WORDS, PACKET = 700, BURST = 40 };
 
+/* The words of a state where the contexts begin. */
+enum { STREAMS = 4, MESSAGES = STREAMS + 16 * 5 };
+
 static uint64_t seed;
 static unsigned long long packets, bursts, calls, states19, twins;
-static unsigned long long refusals[32], kinds[8], stops[5];
+static unsigned long long refusals[48], kinds[8], stops[5];
+static unsigned long long read_at[2]; /* packets, by the width: 16 bits, 8 bits */
 
 static void fail(const char *format, ...)
 {
@@ -100,7 +106,8 @@ struct board {
     struct guarded state, streams, messages, response, packet;
     struct second_endpoint second;
     uint8_t *second_streams, *second_messages, *second_response;
-    uint64_t mtu, room;
+    uint16_t device;
+    uint64_t mtu, room, narrow;
 };
 
 static uint64_t *words(struct board *b)
@@ -121,6 +128,7 @@ static struct board board(uint64_t mtu, uint64_t room)
 {
     struct board b;
     memset(&b, 0, sizeof b);
+    b.device = 1;
     b.mtu = mtu;
     b.room = room;
     b.state = guarded(8 * (WORDS + 1));
@@ -162,20 +170,22 @@ static uint64_t *second_word(struct second_endpoint *s, size_t i)
         return &s->mtu;
     if (i == 2)
         return &s->room;
-    if (i < 83) {
-        struct second_stream *c = &s->stream[(i - 3) / 5];
+    if (i == 3)
+        return &s->eight_bits;
+    if (i < MESSAGES) {
+        struct second_stream *c = &s->stream[(i - STREAMS) / 5];
         uint64_t *field[] = { &c->open, &c->source, &c->cos, &c->stream_id, &c->held };
-        return field[(i - 3) % 5];
+        return field[(i - STREAMS) % 5];
     }
-    struct second_message *c = &s->message[(i - 83) / 8];
+    struct second_message *c = &s->message[(i - MESSAGES) / 8];
     uint64_t *field[] = { &c->open,   &c->source, &c->letter, &c->mbox,
                           &c->msglen, &c->ssize,  &c->marks,  &c->last };
-    return field[(i - 83) % 8];
+    return field[(i - MESSAGES) % 8];
 }
 
 static int is_open_word(size_t i)
 {
-    return i >= 83 ? (i - 83) % 8 == 0 : i >= 3 && (i - 3) % 5 == 0;
+    return i >= MESSAGES ? (i - MESSAGES) % 8 == 0 : i >= STREAMS && (i - STREAMS) % 5 == 0;
 }
 
 /* Any number but 0 says that a context is open. The library writes 1 into a
@@ -233,7 +243,7 @@ static void same_answer(struct kaiverohm_answer a, struct second_answer b, const
     calls++;
     kinds[kind_of(b.kind)]++;
     if (b.kind == SECOND_REFUSED)
-        refusals[b.refusal % 32]++;
+        refusals[b.refusal % 48]++;
     if (a.kind != kind_of(b.kind) || a.number != number)
         fail("%s: %llu %llu and %llu %llu", call, (unsigned long long)a.kind,
              (unsigned long long)a.number, (unsigned long long)kind_of(b.kind),
@@ -242,14 +252,12 @@ static void same_answer(struct kaiverohm_answer a, struct second_answer b, const
 
 /* `clear` says that the response's first byte was 0 before. No response begins
    with 0, so then the bytes tell whether one was written. */
-static void same_report(const struct kaiverohm_report *a, struct second_answer b,
-                        const uint8_t *packet, size_t length, int clear, const uint8_t *response)
+static void same_report(const struct kaiverohm_report *a, struct second_answer b, int clear,
+                        const uint8_t *response)
 {
-    int message = b.kind == SECOND_MESSAGE || (b.kind == SECOND_REFUSED && b.refusal >= 20)
-                  || (b.kind == SECOND_HELD && length > 0 && packet[0] % 16 == 11);
     kinds[kind_of(b.kind)]++;
     if (b.kind == SECOND_REFUSED)
-        refusals[b.refusal % 32]++;
+        refusals[b.refusal % 48]++;
     if (a->kind != kind_of(b.kind) || a->number != b.refusal || a->dropped != b.dropped
         || a->context != b.context || a->source != b.source || a->cos_or_letter != b.cos_or_letter
         || a->stream_or_mailbox != b.stream_or_mailbox || a->length != b.length)
@@ -262,9 +270,10 @@ static void same_report(const struct kaiverohm_report *a, struct second_answer b
              b.refusal, b.dropped, (unsigned long long)b.context, (unsigned long long)b.source,
              (unsigned long long)b.cos_or_letter, (unsigned long long)b.stream_or_mailbox,
              (unsigned long long)b.length);
-    if (a->response != (message ? 7u : 0u))
-        fail("report says %llu bytes of response", (unsigned long long)a->response);
-    if (clear && (response[0] != 0) != (a->response == 7))
+    if (a->response != b.response)
+        fail("report says %llu bytes of response, answer %llu", (unsigned long long)a->response,
+             (unsigned long long)b.response);
+    if (clear && (response[0] != 0) != (a->response != 0))
         fail("the response was written, and the report says not, or the other way");
 }
 
@@ -284,6 +293,45 @@ struct posting {
 static struct sending sendings[20];
 static struct posting postings[11];
 
+/* A number that says 8 bits: any but 0. */
+static uint64_t some_narrow(void)
+{
+    static const uint64_t some[] = { 1, 2, 8, 16, 255, 256, 1ull << 32, UINT64_MAX - UINT32_MAX };
+    switch (below(4)) {
+    case 0: return UINT64_MAX - below(3);
+    case 1: return draw() | 1;
+    default: return some[below(sizeof some / sizeof some[0])];
+    }
+}
+
+/* The width of a packet that a board sends to ours: now and then the other one. */
+static uint64_t some_width(const struct board *b)
+{
+    int narrow = (b->narrow != 0) != one_in(25);
+    return narrow ? some_narrow() : 0;
+}
+
+/* Where the fields of a type begin. */
+static size_t header(uint64_t narrow)
+{
+    return narrow ? 3 : 5;
+}
+
+/* Byte 0 and the IDs. Answers where the fields of the type begin. */
+static size_t put_head(uint8_t *packet, uint64_t narrow, unsigned type, unsigned destination,
+                       unsigned source)
+{
+    const uint8_t wide[] = { (uint8_t)(destination >> 8), (uint8_t)destination,
+                             (uint8_t)(source >> 8), (uint8_t)source };
+    packet[0] = (uint8_t)(below(4) << 6 | (narrow ? 0 : 1) << 4 | type);
+    memcpy(packet + 1, wide, 4);
+    if (narrow) {
+        packet[1] = (uint8_t)destination;
+        packet[2] = (uint8_t)source;
+    }
+    return header(narrow);
+}
+
 static size_t same_segment(uint8_t *packet, size_t room, struct kaiverohm_heading h, uint64_t mtu,
                            const uint8_t *pdu, size_t pdu_length, uint64_t number)
 {
@@ -291,7 +339,9 @@ static size_t same_segment(uint8_t *packet, size_t room, struct kaiverohm_headin
     uint8_t *theirs = malloc(room + 1);
     scatter(out.bytes, room);
     memcpy(theirs, out.bytes, room);
-    struct second_heading heading = { h.priority, h.destination, h.source, h.cos, h.stream };
+    struct second_heading heading = {
+        h.priority, h.destination, h.source, h.cos, h.stream, h.narrow
+    };
     struct kaiverohm_answer a =
         kaiverohm_write_segment(out.bytes, room, h, mtu, pdu, pdu_length, number);
     same_answer(a, second_write_segment(theirs, room, heading, mtu, pdu, pdu_length, number),
@@ -314,18 +364,25 @@ static void any_segment(void)
     struct kaiverohm_heading h;
     scatter((uint8_t *)&h, sizeof h);
     h.priority %= 6;
+    if (one_in(2))
+        h.narrow = 0;
+    if (!one_in(4))
+        h.destination &= 0x1ff >> below(2);
+    if (!one_in(4))
+        h.source &= 0x1ff >> below(2);
     scatter(pdu, sizeof pdu);
     uint64_t mtu = one_in(4) ? below(300) : 32 + 4 * below(57);
-    same_segment(packet, below(300), h, mtu, pdu, one_in(20) ? 0 : below(sizeof pdu), below(20));
+    size_t room = one_in(2) ? below(300) : mtu + 4 + below(6); /* full ones need 5, 7 or 9 more */
+    same_segment(packet, room, h, mtu, pdu, one_in(20) ? 0 : below(sizeof pdu), below(20));
 }
 
-static size_t stream_packet(uint8_t *packet, uint64_t mtu, uint64_t room)
+static size_t stream_packet(uint8_t *packet, const struct board *b)
 {
+    const uint64_t mtu = b->mtu, room = b->room;
     struct sending *s = &sendings[one_in(4) ? below(20) : below(4)];
     uint64_t count = kaiverohm_segment_count(mtu, s->length);
     size_t length;
     if (s->next >= count) {
-        s->heading.destination = 1;
         s->heading.source = (uint16_t)(1 + (s - sendings) % 5);
         s->heading.cos = (uint8_t)((s - sendings) / 5);
         s->heading.stream = (uint16_t)draw();
@@ -339,15 +396,21 @@ static size_t stream_packet(uint8_t *packet, uint64_t mtu, uint64_t room)
     }
     if (one_in(10))
         s->next++;
-    length = same_segment(packet, mtu + 9 + below(8), s->heading, mtu, s->pdu, s->length, s->next);
+    s->heading.destination = b->device;
+    s->heading.narrow = some_width(b);
+    if (s->heading.narrow)
+        s->heading.destination &= 0xff;
+    length = same_segment(packet, mtu + header(s->heading.narrow) + 4 + below(8), s->heading, mtu,
+                          s->pdu, s->length, s->next);
     s->next++;
     return length;
 }
 
-static size_t message_packet(uint8_t *packet)
+static size_t message_packet(uint8_t *packet, const struct board *b)
 {
     struct posting *p = &postings[one_in(3) ? below(11) : below(3)];
     unsigned number = 0, size;
+    size_t at;
     if (p->ssize == 0 || p->sent == (1u << (p->msglen + 1)) - 1 || one_in(30)) {
         p->source = (unsigned)(1 + (p - postings) % 6);
         p->letter = (unsigned)below(4);
@@ -362,18 +425,15 @@ static size_t message_packet(uint8_t *packet)
     while ((p->sent >> number & 1) != 0 && !one_in(4));
     p->sent |= 1u << number;
     size = number == p->msglen ? p->last : 1u << (p->ssize - 6);
-    packet[0] = (uint8_t)(below(4) << 6 | 1 << 4 | 11);
-    packet[1] = 0;
-    packet[2] = 1;
-    packet[3] = 0;
-    packet[4] = (uint8_t)p->source;
-    packet[5] = (uint8_t)(p->msglen << 4 | p->ssize);
-    packet[6] = (uint8_t)(p->letter << 6 | p->mbox << 4 | (p->msglen == 0 ? below(16) : number));
-    scatter(packet + 7, size);
-    return 7 + size;
+    at = put_head(packet, some_width(b), 11, b->device, p->source);
+    packet[at] = (uint8_t)(p->msglen << 4 | p->ssize);
+    packet[at + 1] =
+        (uint8_t)(p->letter << 6 | p->mbox << 4 | (p->msglen == 0 ? below(16) : number));
+    scatter(packet + at + 2, size);
+    return at + 2 + size;
 }
 
-static size_t damaged(uint8_t *packet, size_t length)
+static size_t damaged(uint8_t *packet, size_t length, const struct board *b)
 {
     switch (below(7)) {
     case 0:
@@ -382,7 +442,7 @@ static size_t damaged(uint8_t *packet, size_t length)
         return length;
     case 1:
         /* a byte of the fields */
-        packet[5 + below(4)] = (uint8_t)draw();
+        packet[header(b->narrow) + below(4)] = (uint8_t)draw();
         return length;
     case 2:
         /* cut */
@@ -398,10 +458,8 @@ static size_t damaged(uint8_t *packet, size_t length)
     case 5:
         /* any fields, ours, of type 9 or 11 */
         scatter(packet, PACKET);
-        packet[0] = (uint8_t)((packet[0] & 0xc0) | 0x10 | (one_in(2) ? 9 : 11));
-        packet[1] = 0;
-        packet[2] = 1;
-        return 5 + below(40);
+        return put_head(packet, some_width(b), one_in(2) ? 9 : 11, b->device, (unsigned)draw())
+               + below(40);
     default:
         /* cut to an even length */
         return length & ~(size_t)1;
@@ -409,17 +467,22 @@ static size_t damaged(uint8_t *packet, size_t length)
 }
 
 /* Now and then seventeen starts on seventeen flows, so that no context is free. */
-static size_t flood_packet(uint8_t *packet, uint64_t mtu, unsigned number)
+static size_t flood_packet(uint8_t *packet, const struct board *b, unsigned number)
 {
     struct kaiverohm_heading h = {
-        .destination = 1, .source = (uint16_t)(100 + number), .stream = 7, .cos = 200, .priority = 0
+        .destination = b->device,
+        .source = (uint16_t)(100 + number),
+        .stream = 7,
+        .cos = 200,
+        .priority = 0,
+        .narrow = b->narrow,
     };
     uint8_t pdu[512];
     scatter(pdu, sizeof pdu);
-    return same_segment(packet, mtu + 9, h, mtu, pdu, 2 * mtu, 0);
+    return same_segment(packet, b->mtu + 9, h, b->mtu, pdu, 2 * b->mtu, 0);
 }
 
-static size_t some_packet(uint8_t *packet, uint64_t mtu, uint64_t room)
+static size_t some_packet(uint8_t *packet, const struct board *b)
 {
     static unsigned flood;
     size_t length;
@@ -427,33 +490,54 @@ static size_t some_packet(uint8_t *packet, uint64_t mtu, uint64_t room)
     if (flood == 0 && one_in(300))
         flood = 17;
     if (flood > 0)
-        return flood_packet(packet, mtu, flood--);
-    length = below(5) < 3 ? stream_packet(packet, mtu, room) : message_packet(packet);
-    return one_in(5) ? damaged(packet, length) : length;
+        return flood_packet(packet, b, flood--);
+    length = below(5) < 3 ? stream_packet(packet, b) : message_packet(packet, b);
+    return one_in(5) ? damaged(packet, length, b) : length;
 }
 
 /* ---- setup, on both boards */
 
-static void set_up(struct board *b, uint64_t mtu, uint64_t room, const char *call)
+static void set_up(struct board *b, struct kaiverohm_settings s, const char *call)
 {
-    same_answer(kaiverohm_setup(words(b), WORDS, 1, mtu, room),
-                second_setup(&b->second, 1, mtu, room), call);
+    same_answer(kaiverohm_setup(words(b), WORDS, s),
+                second_setup(&b->second, s.device, s.mtu, s.room, s.narrow), call);
+    same_words(words(b), &b->second, call);
+}
+
+static struct kaiverohm_settings right_settings(const struct board *b)
+{
+    return (struct kaiverohm_settings){ b->device, b->mtu, b->room, b->narrow };
 }
 
 static void set_up_well(struct board *b)
 {
-    set_up(b, b->mtu, b->room, "setup");
+    set_up(b, right_settings(b), "setup");
 }
 
-/* An MTU and an R that are off, a state that is too long; then all is right. */
+/* A width, and an ID that it has: 0, 1, 255, and with 16 bits more. */
+static void choose_width(struct board *b, int narrow)
+{
+    static const uint16_t ids[] = { 0, 1, 1, 1, 255, 256, 257, 65535 };
+    b->narrow = narrow ? some_narrow() : 0;
+    b->device = ids[below(narrow ? 5 : 8)];
+}
+
+/* A device that is too wide, an MTU and an R that are off, one and then two of
+   them; a state that is too long. Then all is right. */
 static void setups(struct board *b)
 {
-    uint64_t off = one_in(2) ? b->mtu + 2 : 4 * below(80);
-    set_up(b, off, b->room, "setup, MTU off");
-    same_words(words(b), &b->second, "setup, MTU off");
-    set_up(b, b->mtu, 65537, "setup, R off");
-    same_words(words(b), &b->second, "setup, R off");
-    struct kaiverohm_answer a = kaiverohm_setup(words(b), WORDS + 1, 1, b->mtu, b->room);
+    struct kaiverohm_settings s = right_settings(b);
+    s.device = (uint16_t)draw();
+    s.narrow = one_in(2) ? some_narrow() : 0;
+    set_up(b, s, "setup, any device");
+    s.mtu = one_in(2) ? b->mtu + 2 : 4 * below(80);
+    set_up(b, s, "setup, MTU off");
+    s.room = 65537;
+    set_up(b, s, "setup, MTU and R off");
+    s = right_settings(b);
+    s.room = 65537;
+    set_up(b, s, "setup, R off");
+    struct kaiverohm_answer a = kaiverohm_setup(words(b), WORDS + 1, right_settings(b));
     if (a.kind != KAIVEROHM_REFUSED || a.number != 12)
         fail("setup of a long state");
     set_up_well(b);
@@ -494,6 +578,8 @@ static struct second_answer second_reads(struct board *b, struct lengths l, uint
         .response = response,
         .response_length = l.response,
     };
+    packets++;
+    read_at[b->second.eight_bits != 0]++;
     if (l.words != WORDS)
         return (struct second_answer){ .kind = SECOND_REFUSED, .refusal = 12 };
     return second_read(&b->second, lent, packet, length);
@@ -511,8 +597,7 @@ static void read_one(struct board *b, struct lengths l, const uint8_t *packet, s
         kaiverohm_read(words(b), l.words, b->streams.bytes, l.streams, b->messages.bytes,
                        l.messages, b->response.bytes, l.response, b->packet.bytes, length);
     struct second_answer there = second_reads(b, l, b->second_response, packet, length);
-    packets++;
-    same_report(&here, there, packet, length, clear && l.response >= 7, b->response.bytes);
+    same_report(&here, there, clear, b->response.bytes);
     same_bytes(b->packet.bytes, packet, length, "the packet");
     same_board(b, "read");
 }
@@ -635,7 +720,7 @@ static uint64_t odd_number(const struct board *b)
 static void twin_contexts(struct board *b)
 {
     int streams = one_in(2);
-    size_t count = streams ? 16 : 8, width = streams ? 5 : 8, first = streams ? 3 : 83;
+    size_t count = streams ? 16 : 8, width = streams ? 5 : 8, first = streams ? STREAMS : MESSAGES;
     size_t from = first + width * below(count), to = first + width * below(count);
     if (from == to || words(b)[from] == 0)
         return;
@@ -652,11 +737,11 @@ static void odd_state(struct board *b)
         return;
     }
     for (uint64_t k = 1 + below(3); k > 0; k--) {
-        size_t i = one_in(6) ? below(3) : 3 + below(WORDS - 3);
+        size_t i = one_in(6) ? below(STREAMS) : STREAMS + below(WORDS - STREAMS);
         words(b)[i] = *second_word(&b->second, i) = odd_number(b);
     }
     if (one_in(4)) /* an open message, nearly right */ {
-        size_t c = 83 + 8 * below(8);
+        size_t c = MESSAGES + 8 * below(8);
         uint64_t values[] = {
             1 + below(2),           below(6),     below(4), below(4), below(17), 8 + below(8),
             below(1u << below(17)), 8 * below(34)
@@ -688,12 +773,13 @@ static void put_back(struct board *b, const struct kept *kept)
     b->second = kept->second;
 }
 
-/* Some odd states are gone on from, with our own device, MTU and R. */
+/* Some odd states are gone on from, with what our own setup fixed. */
 static void go_on(struct board *b, int odd, const struct kept *kept)
 {
-    b->second.device = words(b)[0] = 1;
+    b->second.device = words(b)[0] = b->device;
     b->second.mtu = words(b)[1] = b->mtu;
     b->second.room = words(b)[2] = b->room;
+    b->second.eight_bits = words(b)[3] = b->narrow;
     if (odd && (!one_in(4) || second_refusal19(&b->second)))
         put_back(b, kept);
 }
@@ -702,8 +788,9 @@ static void go_on(struct board *b, int odd, const struct kept *kept)
 static void single(struct board *b)
 {
     uint8_t packet[PACKET + 16];
-    size_t length = some_packet(packet, b->mtu, b->room);
-    struct lengths lengths = right_lengths(b, one_in(2) ? 7 : 7 + below(10));
+    size_t length = some_packet(packet, b);
+    size_t reply = b->narrow ? 5 : 7;
+    struct lengths lengths = right_lengths(b, one_in(2) ? reply : reply + below(10));
     struct kept kept = keep(b);
     int odd = one_in(6);
     if (one_in(12))
@@ -718,14 +805,21 @@ static void single(struct board *b)
     go_on(b, odd, &kept);
 }
 
+/* So many packets at each width. */
 static void singles(uint64_t mtu, uint64_t room, unsigned long long count)
 {
     struct board b = board(mtu, room);
+    unsigned long long left[2] = { count, count };
     setups(&b);
-    while (count-- > 0) {
-        if (one_in(150))
-            set_up_well(&b);
+    while (left[0] + left[1] > 0) {
+        int narrow = b.narrow != 0;
+        if (left[narrow] == 0 || one_in(150)) {
+            narrow = left[0] == 0 || (left[1] > 0 && one_in(2));
+            choose_width(&b, narrow);
+            setups(&b);
+        }
         single(&b);
+        left[narrow]--;
     }
     no_board(&b);
 }
@@ -793,7 +887,7 @@ static void put_no_record(struct burst *u)
         put_byte(u, none[which].bytes[i]);
 }
 
-static void some_records(struct burst *u, uint64_t mtu, uint64_t room)
+static void some_records(struct burst *u, const struct board *b)
 {
     u->length = 0;
     u->count = below(BURST);
@@ -801,7 +895,7 @@ static void some_records(struct burst *u, uint64_t mtu, uint64_t room)
     u->bad = one_in(6);
     u->clear = one_in(2);
     for (size_t k = 0; k < u->count; k++) {
-        u->lengths[k] = some_packet(u->packets[k], mtu, room);
+        u->lengths[k] = some_packet(u->packets[k], b);
         u->starts[k] = u->length;
         put_record(u, u->packets[k], u->lengths[k]);
     }
@@ -855,9 +949,8 @@ static int same_packet(struct board *b, struct burst *u, size_t k)
     struct second_answer there =
         second_reads(b, l, u->their_replies + 8 * k, u->packets[k], u->lengths[k]);
     struct kaiverohm_report report;
-    packets++;
     memcpy(&report, u->reports.bytes + 72 * k, 72);
-    same_report(&report, there, u->packets[k], u->lengths[k], u->clear, u->replies.bytes + 8 * k);
+    same_report(&report, there, u->clear, u->replies.bytes + 8 * k);
     memcpy(u->their_reports + 72 * k, &report, 72);
     return there.kind == SECOND_PDU || there.kind == SECOND_MESSAGE;
 }
@@ -872,7 +965,7 @@ static struct kaiverohm_burst one_after_another(struct board *b, struct burst *u
 {
     if (second_refusal19(&b->second))
         return (struct kaiverohm_burst){ KAIVEROHM_BURST_REFUSED, 19, 0, 0 };
-    if (u->streams != 16 * b->second.room || u->replies_length < 7)
+    if (u->streams != 16 * b->second.room || u->replies_length < (b->second.eight_bits ? 5u : 7u))
         return (struct kaiverohm_burst){ KAIVEROHM_BURST_REFUSED, 12, 0, 0 };
     for (size_t k = 0; k < u->count; k++) {
         if (k == u->reports.length / 72 || k == u->replies_length / 8)
@@ -897,7 +990,7 @@ static void same_burst(struct kaiverohm_burst a, struct kaiverohm_burst b)
 static void burst(struct board *b)
 {
     static struct burst u;
-    some_records(&u, b->mtu, b->room);
+    some_records(&u, b);
     lend(&u, b);
     if (one_in(8))
         odd_state(b);
@@ -919,23 +1012,29 @@ static void many_bursts(uint64_t mtu, uint64_t room, unsigned count)
     set_up_well(&b);
     while (count-- > 0) {
         burst(&b);
+        if (one_in(8)) {
+            choose_width(&b, one_in(2));
+            set_up_well(&b);
+        }
         if (second_refusal19(&b.second) || b.second.mtu != mtu || b.second.room != room)
             set_up_well(&b);
-        b.second.device = words(&b)[0] = 1;
+        b.second.device = words(&b)[0] = b.device;
+        b.second.eight_bits = words(&b)[3] = b.narrow;
     }
     no_board(&b);
 }
 
 /* The longest PDU: 65,536 bytes, whose length is written as 0. One byte more is refused. */
-static void longest(void)
+static void longest(uint64_t narrow)
 {
     enum { LONGEST = KAIVEROHM_LARGEST_PDU };
     static uint8_t pdu[LONGEST + 1];
     struct board b = board(256, LONGEST);
     struct kaiverohm_heading h = {
-        .destination = 1, .source = 9, .stream = 3, .cos = 1, .priority = 1
+        .destination = 1, .source = 9, .stream = 3, .cos = 1, .priority = 1, .narrow = narrow
     };
     uint8_t packet[PACKET];
+    b.narrow = narrow;
     set_up_well(&b);
     scatter(pdu, LONGEST + 1);
     unsigned long long before = kinds[KAIVEROHM_DELIVERED];
@@ -955,11 +1054,12 @@ static void longest(void)
 
 static void print_counts(void)
 {
-    printf("packets %llu, bursts %llu, other calls %llu, ", packets, bursts, calls);
+    printf("packets %llu (%llu with IDs of 16 bits, %llu of 8), bursts %llu, other calls %llu, ",
+           packets, read_at[0], read_at[1], bursts, calls);
     printf("states that 19 names %llu, with twins %llu\n", states19, twins);
     printf("held %llu, delivered %llu, messages %llu, refused:", kinds[KAIVEROHM_HELD],
            kinds[KAIVEROHM_DELIVERED], kinds[KAIVEROHM_MESSAGE]);
-    for (unsigned n = 0; n < 32; n++)
+    for (unsigned n = 0; n < 48; n++)
         if (refusals[n] > 0)
             printf(" %u %llux", n, refusals[n]);
     printf("\nbursts: refused %llu, end %llu, bad %llu, full %llu, delivery %llu\n", stops[0],
@@ -969,7 +1069,7 @@ static void print_counts(void)
 /* Every answer has to occur, or the traffic is too tame. */
 static void all_occurred(void)
 {
-    for (unsigned n = 1; n <= 25; n++)
+    for (unsigned n = 1; n <= 47; n += n == 25 ? 22 : 1)
         if (refusals[n] == 0)
             fail("refusal %u did not occur", n);
     for (size_t i = 0; i < sizeof kinds / sizeof kinds[0]; i++)
@@ -994,10 +1094,11 @@ int main(int argc, char **argv)
     for (size_t i = 0; i < sizeof sizes / sizeof sizes[0]; i++) {
         memset(sendings, 0, sizeof sendings);
         memset(postings, 0, sizeof postings);
-        singles(sizes[i].mtu, sizes[i].room, total * sizes[i].share / 200);
-        many_bursts(sizes[i].mtu, sizes[i].room, (unsigned)(total * sizes[i].share / 200 / 15));
+        singles(sizes[i].mtu, sizes[i].room, total * sizes[i].share / 100);
+        many_bursts(sizes[i].mtu, sizes[i].room, (unsigned)(total * sizes[i].share / 100 / 15));
     }
-    longest();
+    longest(0);
+    longest(1);
     print_counts();
     if (total >= 10000)
         all_occurred();

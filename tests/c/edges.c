@@ -1,7 +1,7 @@
 /* The header's sentences, tried at their edges: every refusal in its order,
-   what it leaves in every buffer, numbers of 64 bits, lengths that are one off.
-   Every buffer ends at a page that nobody may touch, so a byte read or written
-   behind its end stops the program. */
+   what it leaves in every buffer, numbers of 64 bits, lengths that are one off,
+   at both widths of the IDs. Every buffer ends at a page that nobody may touch, so
+   a byte read or written behind its end stops the program. */
 
 #define _DEFAULT_SOURCE
 
@@ -20,6 +20,7 @@ enum {
     ROOM = 100,
     MOST = 70000,
     WORDS = KAIVEROHM_STATE_WORDS,
+    HEAD = 4, /* words of a state before its contexts */
     REPLY = KAIVEROHM_RESPONSE_BYTES,
     SLOT = KAIVEROHM_SLOT_BYTES,
     REPORT = KAIVEROHM_REPORT_WORDS,
@@ -28,6 +29,22 @@ enum {
 
 /* A number whose low 32 bits are 0. */
 #define FAR (UINT64_C(1) << 32)
+
+/* The width in use: 0 is 16 bits, any other number 8. */
+static uint64_t narrow;
+
+static const uint64_t widths[] = { 0, 1, FAR, UINT64_MAX };
+
+/* With IDs of 8 bits packets and responses have 2 bytes less. */
+static size_t reply(void)
+{
+    return narrow ? REPLY - 2 : REPLY;
+}
+
+static uint16_t own_id(void)
+{
+    return narrow ? DEVICE & 0xff : DEVICE;
+}
 
 /* ---- buffers that end at a closed page */
 
@@ -52,6 +69,16 @@ enum { STATE = 1, STREAMS = 2, MESSAGES = 4, RESPONSE = 8 };
 static uint64_t *state(size_t words)
 {
     return (uint64_t *)(void *)(state_end - 8 * words);
+}
+
+static uint64_t *stream_context(size_t n)
+{
+    return state(WORDS) + HEAD + 5 * n;
+}
+
+static uint64_t *message_context(size_t n)
+{
+    return state(WORDS) + HEAD + 5 * KAIVEROHM_STREAM_CONTEXTS + 8 * n;
 }
 
 /* The buffers as they stood, with the longest lengths that are lent. */
@@ -101,7 +128,8 @@ static void fresh(void)
     memset(streams_end - sizeof kept.streams, 0xe1, sizeof kept.streams);
     memset(messages_end - sizeof kept.messages, 0xe2, sizeof kept.messages);
     memset(response_end - sizeof kept.response, 0xe3, sizeof kept.response);
-    struct kaiverohm_answer a = kaiverohm_setup(state(WORDS), WORDS, DEVICE, MTU, ROOM);
+    const struct kaiverohm_settings settings = { own_id(), MTU, ROOM, narrow };
+    struct kaiverohm_answer a = kaiverohm_setup(state(WORDS), WORDS, settings);
     WANT(a.kind == KAIVEROHM_READY && a.number == 0);
 }
 
@@ -109,13 +137,31 @@ static void fresh(void)
 
 static uint8_t packet[MOST];
 
-/* The first bytes are given, the rest of the data count up. */
+/* With IDs of 8 bits the packet is the same but for tt's last bit and the first
+   byte of each ID, which is left out. */
+static size_t at_our_width(size_t length)
+{
+    if (!narrow)
+        return length;
+    packet[0] ^= 0x10;
+    packet[1] = packet[2];
+    packet[2] = packet[4];
+    memmove(packet + 3, packet + 5, length > 5 ? length - 5 : 0);
+    return length - 2;
+}
+
+/* The first bytes are given, with IDs of 16 bits; the rest of the data count up. */
 static size_t made(const char *head, size_t head_length, size_t data)
 {
     memcpy(packet, head, head_length);
     for (size_t i = 0; i < data; i++)
         packet[head_length + i] = (uint8_t)(i + 1);
-    return head_length + data;
+    return at_our_width(head_length + data);
+}
+
+static void set_source(unsigned source)
+{
+    packet[narrow ? 2 : 4] = (uint8_t)source;
 }
 
 #define MADE(head, data) made(head, sizeof head - 1, data)
@@ -133,7 +179,7 @@ static struct kaiverohm_report lent(size_t words, size_t streams, size_t message
 
 static struct kaiverohm_report read_it(size_t length)
 {
-    return lent(WORDS, STREAM_MEMORY, KAIVEROHM_MESSAGE_MEMORY, REPLY, length);
+    return lent(WORDS, STREAM_MEMORY, KAIVEROHM_MESSAGE_MEMORY, reply(), length);
 }
 
 /* The packet is refused by that number, and just these buffers are changed. */
@@ -142,7 +188,7 @@ static void refuses(size_t length, unsigned number, unsigned dropped, int change
     struct kaiverohm_report r = read_it(length);
     want(r.kind == KAIVEROHM_REFUSED && r.number == number && r.dropped == dropped, "refusal",
          line);
-    want(r.response == (number >= 20 ? REPLY : 0), "response", line);
+    want(r.response == (number >= 20 ? reply() : 0), "response", line);
     want(r.context == 0 && r.source == 0 && r.cos_or_letter == 0 && r.stream_or_mailbox == 0
              && r.length == 0,
          "fields that a refusal does not name are 0", line);
@@ -152,6 +198,15 @@ static void refuses(size_t length, unsigned number, unsigned dropped, int change
 #define REFUSES(length, number, dropped, changes) \
     refuses(length, number, dropped, changes, __LINE__)
 
+/* The response that stands at the buffer's beginning. It is given with IDs of 16
+   bits, ours as source; with 8 bits tt and the IDs' first bytes fall away. */
+static int replied(size_t lent_length, const char *wide)
+{
+    const uint8_t *is = response_end - lent_length, *w = (const uint8_t *)wide;
+    const uint8_t short_one[] = { w[0] ^ 0x10, w[2], w[4], w[5], w[6] };
+    return memcmp(is, narrow ? short_one : w, reply()) == 0;
+}
+
 /* ---- setup */
 
 static int setup_says(size_t words, uint16_t device, uint64_t mtu, uint64_t room)
@@ -159,12 +214,14 @@ static int setup_says(size_t words, uint16_t device, uint64_t mtu, uint64_t room
     fresh();
     memset(state_end - sizeof kept.state, 0xe7, sizeof kept.state);
     keep();
-    struct kaiverohm_answer a = kaiverohm_setup(state(words), words, device, mtu, room);
+    const struct kaiverohm_settings settings = { device, mtu, room, narrow };
+    struct kaiverohm_answer a = kaiverohm_setup(state(words), words, settings);
     WANT(memcmp(kept.state, state_end - sizeof kept.state, 8) == 0); /* the word before it */
     if (a.kind == KAIVEROHM_READY) {
         WANT(a.number == 0 && changed() == STATE);
         WANT(state(WORDS)[0] == device && state(WORDS)[1] == mtu && state(WORDS)[2] == room);
-        WANT(zeros(state(WORDS - 3), 8 * (WORDS - 3)));
+        WANT(state(WORDS)[3] == narrow);
+        WANT(zeros(state(WORDS - HEAD), 8 * (WORDS - HEAD)));
         return 0;
     }
     WANT(a.kind == KAIVEROHM_REFUSED);
@@ -177,7 +234,6 @@ static int setup_says(size_t words, uint16_t device, uint64_t mtu, uint64_t room
 
 static void setups(void)
 {
-    WANT(kaiverohm_state_length() == WORDS);
     WANT(setup_says(0, 1, 33, 0) == 12);
     WANT(setup_says(WORDS - 1, 1, MTU, ROOM) == 12);
     WANT(setup_says(WORDS + 1, 1, MTU, ROOM) == 12);
@@ -188,10 +244,19 @@ static void setups(void)
     WANT(setup_says(WORDS, 1, 33, 0) == 18);
     WANT(setup_says(WORDS, 1, MTU, MTU - 1) == 19);
     WANT(setup_says(WORDS, 0, MTU, MTU) == 0);
-    WANT(setup_says(WORDS, 0xffff, 256, 65536) == 0);
+    WANT(setup_says(WORDS, 0xff, 256, 65536) == 0);
     WANT(setup_says(WORDS, 1, 256, 65537) == 19);
     WANT(setup_says(WORDS, 1, MTU, FAR + ROOM) == 19);
     WANT(setup_says(WORDS, 1, MTU, UINT64_MAX) == 19);
+    /* 12; then 47, with IDs of 8 bits alone; then 18 and 19 */
+    static const uint16_t over[] = { 0x100, 0x101, 0xff00, 0xffff };
+    for (size_t i = 0; i < 4; i++) {
+        WANT(setup_says(WORDS - 1, over[i], 33, 0) == 12);
+        WANT(setup_says(WORDS, over[i], 33, 0) == (narrow ? 47 : 18));
+        WANT(setup_says(WORDS, over[i], MTU, 0) == (narrow ? 47 : 19));
+        WANT(setup_says(WORDS, over[i], MTU, ROOM) == (narrow ? 47 : 0));
+    }
+    WANT(setup_says(WORDS, 0xff, 33, 0) == 18);
 }
 
 /* ---- reading: 19, 12, then the packet's rows, each with the later ones true as well */
@@ -199,12 +264,13 @@ static void setups(void)
 static void lengths(void)
 {
     const size_t s = STREAM_MEMORY, m = KAIVEROHM_MESSAGE_MEMORY;
-    const size_t wrong[][4] = { { WORDS - 1, s, m, REPLY }, { WORDS + 1, s, m, REPLY },
-                                { 0, s, m, REPLY },         { WORDS, s - 1, m, REPLY },
-                                { WORDS, s + 1, m, REPLY }, { WORDS, 0, m, REPLY },
-                                { WORDS, s, m - 1, REPLY }, { WORDS, s, m + 1, REPLY },
-                                { WORDS, s, 0, REPLY },     { WORDS, s, m, REPLY - 1 },
-                                { WORDS, s, m, 0 },         { 0, 0, 0, 0 } };
+    const size_t enough = reply();
+    const size_t wrong[][4] = { { WORDS - 1, s, m, enough }, { WORDS + 1, s, m, enough },
+                                { 0, s, m, enough },         { WORDS, s - 1, m, enough },
+                                { WORDS, s + 1, m, enough }, { WORDS, 0, m, enough },
+                                { WORDS, s, m - 1, enough }, { WORDS, s, m + 1, enough },
+                                { WORDS, s, 0, enough },     { WORDS, s, m, enough - 1 },
+                                { WORDS, s, m, 0 },          { 0, 0, 0, 0 } };
     for (size_t i = 0; i < sizeof wrong / sizeof wrong[0]; i++) {
         fresh();
         size_t length = i % 2 ? START("\x09") : 0;
@@ -217,11 +283,12 @@ static void lengths(void)
         WANT(r.kind == KAIVEROHM_REFUSED && changed() == 0);
         WANT(r.number == (wrong[i][0] == WORDS ? 19 : 12));
     }
-    /* A longer response buffer is as good; the bytes behind the seventh stay. */
+    /* A longer response buffer is as good; the bytes behind the response stay. */
     fresh();
     struct kaiverohm_report r = lent(WORDS, s, m, 64, MADE("\x1b\x01\x02\x00\x09\x09\x60", 8));
-    WANT(r.kind == KAIVEROHM_MESSAGE && r.response == 7);
-    WANT(memcmp(response_end - 64, "\x5d\x00\x09\x01\x02\x10\x60\xe3", 8) == 0);
+    WANT(r.kind == KAIVEROHM_MESSAGE && r.response == reply());
+    WANT(replied(64, "\x5d\x00\x09\x01\x02\x10\x60"));
+    WANT(all(response_end - 64 + reply(), 64 - reply(), 0xe3));
 }
 
 static void states(void)
@@ -238,16 +305,16 @@ static void states(void)
     }
     /* A device that no packet can name is read as it stands. */
     fresh();
-    state(WORDS)[0] = DEVICE + 65536;
+    state(WORDS)[0] += narrow ? 256 : 65536;
     REFUSES(START("\x09"), 3, 0, 0);
     /* So is an open word that is not 1; what no packet is about stays. */
     fresh();
     read_it(START("\x08"));
     read_it(START("\x09"));
-    state(WORDS)[3] = 7;
-    state(WORDS)[8] = UINT64_MAX;
+    stream_context(0)[0] = 7;
+    stream_context(1)[0] = UINT64_MAX;
     REFUSES(MADE("\x19\x01\x02\x00\x09\x05\x00", 31), 6, 1, STATE);
-    WANT(state(WORDS)[3] == 7 && zeros(state(WORDS) + 8, 40));
+    WANT(stream_context(0)[0] == 7 && zeros(stream_context(1), 40));
 }
 
 /* ---- row 19, in every context: the paper's words once more */
@@ -281,16 +348,6 @@ static int bad_message(uint64_t msglen, uint64_t ssize, uint64_t marks, uint64_t
 }
 
 static const uint64_t opens[] = { 0, 1, 2, FAR, UINT64_MAX };
-
-static uint64_t *stream_context(size_t n)
-{
-    return state(WORDS) + 3 + 5 * n;
-}
-
-static uint64_t *message_context(size_t n)
-{
-    return state(WORDS) + 83 + 8 * n;
-}
 
 static void row_19_streams(void)
 {
@@ -333,6 +390,17 @@ static void row_19_messages(void)
                 WANT(is_state() == !(c[0] != 0 && bad_message(c[4], c[5], c[6], c[7])));
         }
         memset(c, 0, 64);
+    }
+}
+
+/* The width is any number. */
+static void row_19_widths(void)
+{
+    static const uint64_t words[] = { 0, 1, 2, 8, 16, 255, 256, FAR, FAR + 1, UINT64_MAX };
+    fresh();
+    for (size_t i = 0; i < sizeof words / sizeof words[0]; i++) {
+        state(WORDS)[3] = words[i];
+        WANT(is_state());
     }
 }
 
@@ -394,6 +462,56 @@ static void heads(void)
     REFUSES(MADE("\x19\x01\x02\x00\x09\x05\x40", 1), 1, 0, 0);
 }
 
+/* The first bytes are given as they are. */
+static size_t raw(const char *bytes, size_t length)
+{
+    memcpy(packet, bytes, length);
+    return length;
+}
+
+/* Row 2 is a packet of any width but ours; it leaves all. Row 1 before it has the
+   limit of our own width. */
+static void other_widths(void)
+{
+    static const char wide[] = "\x19\x01\x02\x00\x09\x05\xc2\x00\x07\x01\x02";
+    static const char short_one[] = "\x09\x02\x09\x05\xc2\x00\x07\x01\x02";
+    const char *other = narrow ? wide : short_one;
+    const size_t all_of_it = narrow ? sizeof wide - 1 : sizeof short_one - 1;
+    const size_t limit = narrow ? 3 : 5;
+    for (size_t length = 0; length <= all_of_it; length++)
+        REFUSES(raw(other, length), length < limit ? 1 : 2, 0, 0);
+    for (unsigned tt = 2; tt < 4; tt++) {
+        size_t length = raw(wide, sizeof wide - 1);
+        packet[0] = (uint8_t)(tt << 4 | 9);
+        REFUSES(length, 2, 0, 0);
+        length = raw(short_one, sizeof short_one - 1);
+        packet[0] = (uint8_t)(tt << 4 | 9);
+        REFUSES(length, 2, 0, 0);
+    }
+}
+
+/* Row 1 with IDs of 8 bits, in its own bytes: each limit, and one byte less. */
+static void limits_of_8_bits(void)
+{
+    fresh();
+    REFUSES(raw("\x05\x02", 2), 1, 0, 0);
+    REFUSES(raw("\x05\x02\x09", 3), 4, 0, 0);
+    REFUSES(raw("\x09\x02\x09\x05", 4), 1, 0, 0);
+    REFUSES(raw("\x09\x02\x09\x05\x00", 5), 6, 0, 0);
+    REFUSES(raw("\x09\x02\x09\x05\xc4", 5), 5, 0, 0);
+    REFUSES(raw("\x0b\x02\x09\x18", 4), 1, 0, 0);
+    REFUSES(raw("\x0b\x02\x09\x18\x02", 5), 20, 0, RESPONSE);
+    REFUSES(raw("\x09\x02\x09\x05\x80\x00", 6), 1, 0, 0);
+    REFUSES(raw("\x09\x02\x09\x05\x80\x00\x07", 7), 6, 0, 0);
+    REFUSES(raw("\x09\x02\x09\x05\x40\x00", 6), 1, 0, 0);
+    REFUSES(raw("\x09\x02\x09\x05\x40\x00\x07", 7), 6, 0, 0);
+    /* the smallest single, with IDs 0 and 255 */
+    state(WORDS)[0] = 0;
+    struct kaiverohm_report r = read_it(raw("\x09\x00\xff\x05\xc3\xff\xfe\x21\x00", 9));
+    WANT(r.kind == KAIVEROHM_DELIVERED && r.source == 255 && r.cos_or_letter == 5);
+    WANT(r.stream_or_mailbox == 0xfffe && r.length == 1 && streams_end[-STREAM_MEMORY] == 0x21);
+}
+
 /* Rows 1 to 7: with no context of the flow open, or with one. 6 and 7 close it. */
 static void rows_1_to_7(unsigned open)
 {
@@ -409,6 +527,8 @@ static void rows_1_to_7(unsigned open)
     REFUSES(MADE("\x19\x01\x02\x00\x09\x05\x02", 34), 7, open, closes);
     begin(open);
     REFUSES(MADE("\x19\x01\x02\x00\x09\x05\xc0\x00\x07", MOST - 9 - 3), 7, open, closes);
+    begin(open);
+    other_widths();
 }
 
 /* 8; and 9 before 11: rooms of 100 take three segments of 32, not a fourth. */
@@ -421,7 +541,7 @@ static void rows_8_9_and_11(void)
     for (int i = 0; i < 2; i++)
         WANT(read_it(MADE("\x19\x01\x02\x00\x09\x05\x00", MTU)).kind == KAIVEROHM_HELD);
     REFUSES(MADE("\x19\x01\x02\x00\x09\x05\x42\x00\x07", 6), 9, 1, STATE);
-    WANT(zeros(state(WORDS) + 3, 8 * (WORDS - 3)));
+    WANT(zeros(state(WORDS) + HEAD, 8 * (WORDS - HEAD)));
     read_it(START("\x09"));
     REFUSES(MADE("\x19\x01\x02\x00\x09\x05\x42\x00\x07", 6), 11, 1, STATE);
 }
@@ -432,7 +552,7 @@ static void row_10(void)
 {
     for (unsigned i = 0; i < KAIVEROHM_STREAM_CONTEXTS; i++) {
         size_t length = START("\x00");
-        packet[4] = (uint8_t)(0x10 + i);
+        set_source(0x10 + i);
         WANT(read_it(length).kind == KAIVEROHM_HELD && (changed() | STREAMS) == (STATE | STREAMS));
     }
     REFUSES(START("\x09"), 10, 0, 0);
@@ -455,7 +575,7 @@ static void messages(void)
 {
     fresh();
     REFUSES(MADE("\x1b\x01\x02\x00\x09\x18\x02", 7), 20, 0, RESPONSE);
-    WANT(memcmp(response_end - 7, "\x5d\x00\x09\x01\x02\x17\x02", 7) == 0);
+    WANT(replied(reply(), "\x5d\x00\x09\x01\x02\x17\x02"));
     memset(response_end - 7, 0, 7);
     REFUSES(MADE("\x1b\x01\x02\x00\x09\x19\x02", 7), 21, 0, RESPONSE);
     memset(response_end - 7, 0, 7);
@@ -464,19 +584,20 @@ static void messages(void)
     REFUSES(MADE("\x1b\x01\x02\x00\x09\x19\x02", 8), 22, 0, RESPONSE);
     /* a message of two segments: 23 before 24 */
     struct kaiverohm_report r = read_it(MADE("\x1b\x01\x02\x00\x09\x19\x00", 8));
-    WANT(r.kind == KAIVEROHM_HELD && r.response == 7 && changed() == (STATE | MESSAGES | RESPONSE));
+    WANT(r.kind == KAIVEROHM_HELD && r.response == reply());
+    WANT(changed() == (STATE | MESSAGES | RESPONSE));
     memset(response_end - 7, 0, 7);
     REFUSES(MADE("\x1b\x01\x02\x00\x09\x29\x00", 8), 23, 0, RESPONSE);
     memset(response_end - 7, 0, 7);
     REFUSES(MADE("\x1b\x01\x02\x00\x09\x19\x00", 8), 24, 0, RESPONSE);
     for (unsigned i = 1; i < KAIVEROHM_MESSAGE_CONTEXTS; i++) {
         size_t length = MADE("\x1b\x01\x02\x00\x00\x19\x00", 8);
-        packet[4] = (uint8_t)(0x10 + i);
+        set_source(0x10 + i);
         WANT(read_it(length).kind == KAIVEROHM_HELD);
     }
     memset(response_end - 7, 0, 7);
     REFUSES(MADE("\xdb\x01\x02\x00\x0a\x09\x00", 8), 25, 0, RESPONSE);
-    WANT(memcmp(response_end - 7, "\xdd\x00\x0a\x01\x02\x13\x00", 7) == 0);
+    WANT(replied(reply(), "\xdd\x00\x0a\x01\x02\x13\x00"));
     r = read_it(MADE("\x1b\x01\x02\x00\x17\x19\x01", 8));
     WANT(r.kind == KAIVEROHM_MESSAGE && r.context == 7 && r.length == 16 && r.source == 0x17);
 }
@@ -609,6 +730,29 @@ static void lengths_of_bursts(void)
         says(b, KAIVEROHM_BURST_REFUSED, 12, 0, 0, __LINE__);
         WANT(changed() == 0);
     }
+}
+
+/* With IDs of 8 bits: 5 bytes in all are enough for no refusal, 8 for a packet. */
+static void bursts_of_8_bits(void)
+{
+    static const char one[] = "\x0d\x0b\x02\x09\x09\x60\x61\x62\x63\x64\x65\x66\x67\x68";
+    fresh();
+    BURST(4, 27, one, 0, KAIVEROHM_BURST_REFUSED, 12, 0, 0);
+    WANT(changed() == 0);
+    BURST(0, 27, "", 0, KAIVEROHM_BURST_REFUSED, 12, 0, 0);
+    BURST(5, 27, "", 0, KAIVEROHM_BURST_END, 0, 0, 0);
+    BURST(5, 27, one, 0, KAIVEROHM_BURST_FULL, 0, 0, 0);
+    BURST(SLOT - 1, 27, one, 0, KAIVEROHM_BURST_FULL, 0, 0, 0);
+    WANT(changed() == 0);
+    BURST(SLOT, 27, one, 0, KAIVEROHM_BURST_END, 0, 1, 14);
+    WANT(memcmp(response_end - SLOT, "\x4d\x09\x02\x10\x60\xe3\xe3\xe3", SLOT) == 0);
+    const uint64_t *r = reports();
+    WANT(r[0] == KAIVEROHM_MESSAGE && r[3] == 5 && r[5] == 9 && r[8] == 8);
+    /* a packet of the other width has a report, and its slot stays */
+    BURST(2 * SLOT, 27, MESSAGE "\x0d\x0b\x02\x09\x09\x60\x61\x62\x63\x64\x65\x66\x67\x68", 0,
+          KAIVEROHM_BURST_END, 0, 2, 30);
+    WANT(r[0] == KAIVEROHM_REFUSED && r[1] == 2 && r[3] == 0 && r[9] == KAIVEROHM_MESSAGE);
+    WANT(all(response_end - 2 * SLOT, SLOT, 0xe3) && response_end[-SLOT] == 0x4d);
 }
 
 static void bursts(void)
@@ -826,11 +970,16 @@ static void rooms(void)
 
 /* ---- the segment writer */
 
+static uint16_t destination, source;
+
 static int writes(size_t out, uint64_t mtu, uint8_t priority, size_t pdu, uint64_t number)
 {
-    struct kaiverohm_heading h = {
-        .destination = 0xa1a2, .source = 0xb1b2, .stream = 0xc1c2, .cos = 0xd1, .priority = priority
-    };
+    struct kaiverohm_heading h = { .destination = destination,
+                                   .source = source,
+                                   .stream = 0xc1c2,
+                                   .cos = 0xd1,
+                                   .priority = priority,
+                                   .narrow = narrow };
     memset(reports_end - 400, 0xe4, 400);
     memset(packet_end - pdu, 0x11, pdu);
     struct kaiverohm_answer a =
@@ -844,23 +993,41 @@ static int writes(size_t out, uint64_t mtu, uint8_t priority, size_t pdu, uint64
     return -(int)a.number;
 }
 
+/* 47 for either ID, with IDs of 8 bits alone, before all else. */
+static void writer_47(void)
+{
+    static const uint16_t ids[] = { 0, 0xff, 0x100, 0xffff };
+    for (size_t i = 0; i < 16; i++) {
+        destination = ids[i / 4];
+        source = ids[i % 4];
+        int over = narrow && (destination > 255 || source > 255);
+        int length = narrow ? 39 : 41;
+        WANT(writes(41, 32, 0, 40, 0) == (over ? -47 : length));
+        WANT(writes(0, 33, 4, 0, 9) == (over ? -47 : -18));
+        WANT(writes(0, 32, 4, 0, 9) == (over ? -47 : -17));
+    }
+}
+
 static void writer(void)
 {
+    const int front = narrow ? 7 : 9;
     int longest = 0;
+    destination = narrow ? 0xa2 : 0xa1a2;
+    source = narrow ? 0xb2 : 0xb1b2;
     for (uint64_t mtu = 32; mtu <= 256; mtu += mtu < 64 ? 4 : 64)
         for (size_t pdu = 1; pdu < 3 * mtu; pdu += 1 + pdu % 7) {
             uint64_t count = kaiverohm_segment_count(mtu, pdu);
             WANT(count == (pdu + mtu - 1) / mtu);
             for (uint64_t k = 0; k < count; k++) {
-                int length = writes(mtu + 9, mtu, 3, pdu, k);
-                WANT(length > 0 && length <= (int)mtu + 9);
+                int length = writes(mtu + (size_t)front, mtu, 3, pdu, k);
+                WANT(length > 0 && length <= (int)mtu + front);
                 WANT(writes((size_t)length, mtu, 0, pdu, k) == length);
                 WANT(writes((size_t)length - 1, mtu, 0, pdu, k) == -16);
                 longest = length > longest ? length : longest;
             }
             WANT(writes(0, mtu, 0, pdu, count) == -15);
         }
-    WANT(longest == KAIVEROHM_LARGEST_PACKET);
+    WANT(longest == KAIVEROHM_LARGEST_PACKET - 9 + front);
     WANT(writes(0, 33, 4, 0, 9) == -18);
     WANT(writes(0, FAR + 32, 4, 0, 9) == -18);
     WANT(writes(0, 32, 4, 0, 9) == -17);
@@ -871,8 +1038,15 @@ static void writer(void)
     WANT(writes(0, 32, 3, 40, FAR) == -15);
     WANT(writes(0, 32, 3, 40, UINT64_MAX) == -15);
     WANT(writes(0, 32, 3, 40, 0) == -16);
-    WANT(writes(265, 32, 3, KAIVEROHM_LARGEST_PDU, 2047) == 41);
-    WANT(memcmp(reports_end - 265, "\xd9\xa1\xa2\xb1\xb2\xd1\x40\x00\x00\x11", 10) == 0);
+    WANT(writes(265, 32, 3, KAIVEROHM_LARGEST_PDU, 2047) == 32 + front);
+    if (narrow)
+        WANT(memcmp(reports_end - 265, "\xc9\xa2\xb2\xd1\x40\x00\x00\x11", 8) == 0);
+    else
+        WANT(memcmp(reports_end - 265, "\xd9\xa1\xa2\xb1\xb2\xd1\x40\x00\x00\x11", 10) == 0);
+}
+
+static void segment_counts(void)
+{
     WANT(kaiverohm_segment_count(32, KAIVEROHM_LARGEST_PDU) == 2048);
     WANT(kaiverohm_segment_count(32, KAIVEROHM_LARGEST_PDU + 1) == 0);
     WANT(kaiverohm_segment_count(32, UINT64_MAX) == 0);
@@ -948,20 +1122,12 @@ static void records_read_back(void)
     }
 }
 
-int main(void)
+/* What is tried at every width. */
+static void at_this_width(void)
 {
-    state_end = fenced(sizeof kept.state) + sizeof kept.state;
-    streams_end = fenced(sizeof kept.streams) + sizeof kept.streams;
-    messages_end = fenced(sizeof kept.messages) + sizeof kept.messages;
-    response_end = fenced(sizeof kept.response) + sizeof kept.response;
-    packet_end = fenced(MOST) + MOST;
-    reports_end = fenced(400) + 400;
-    records_end = fenced(RECORD + 8) + RECORD + 8;
     setups();
     lengths();
     states();
-    row_19_streams();
-    row_19_messages();
     wide_stream_numbers();
     wide_message_numbers();
     /* Twice: with no context of the flow open, and with one. */
@@ -971,11 +1137,37 @@ int main(void)
     row_10();
     whole_pdu();
     messages();
-    bursts();
     abandons();
+    writer();
+    writer_47();
+    if (narrow) {
+        limits_of_8_bits();
+        bursts_of_8_bits();
+    }
+}
+
+int main(void)
+{
+    state_end = fenced(sizeof kept.state) + sizeof kept.state;
+    streams_end = fenced(sizeof kept.streams) + sizeof kept.streams;
+    messages_end = fenced(sizeof kept.messages) + sizeof kept.messages;
+    response_end = fenced(sizeof kept.response) + sizeof kept.response;
+    packet_end = fenced(MOST) + MOST;
+    reports_end = fenced(400) + 400;
+    records_end = fenced(RECORD + 8) + RECORD + 8;
+    for (size_t i = 0; i < sizeof widths / sizeof widths[0]; i++) {
+        narrow = widths[i];
+        at_this_width();
+    }
+    narrow = 0;
+    WANT(kaiverohm_state_length() == WORDS);
+    row_19_streams();
+    row_19_messages();
+    row_19_widths();
+    bursts();
     asks();
     rooms();
-    writer();
+    segment_counts();
     record_writer();
     records_read_back();
     printf("edges: %u checks\n", checks);

@@ -54,12 +54,19 @@ _Static_assert(offsetof(struct kaiverohm_open_message, size) == 48, "open messag
 _Static_assert(offsetof(struct kaiverohm_open_message, marks) == 56, "open message");
 _Static_assert(offsetof(struct kaiverohm_open_message, last) == 64, "open message");
 
-_Static_assert(sizeof(struct kaiverohm_heading) == 8, "heading");
+_Static_assert(sizeof(struct kaiverohm_heading) == 16, "heading");
 _Static_assert(offsetof(struct kaiverohm_heading, destination) == 0, "heading");
 _Static_assert(offsetof(struct kaiverohm_heading, source) == 2, "heading");
 _Static_assert(offsetof(struct kaiverohm_heading, stream) == 4, "heading");
 _Static_assert(offsetof(struct kaiverohm_heading, cos) == 6, "heading");
 _Static_assert(offsetof(struct kaiverohm_heading, priority) == 7, "heading");
+_Static_assert(offsetof(struct kaiverohm_heading, narrow) == 8, "heading");
+
+_Static_assert(sizeof(struct kaiverohm_settings) == 32, "settings");
+_Static_assert(offsetof(struct kaiverohm_settings, device) == 0, "settings");
+_Static_assert(offsetof(struct kaiverohm_settings, mtu) == 8, "settings");
+_Static_assert(offsetof(struct kaiverohm_settings, room) == 16, "settings");
+_Static_assert(offsetof(struct kaiverohm_settings, narrow) == 24, "settings");
 
 _Static_assert(sizeof(struct kaiverohm_desk) == 64, "desk");
 _Static_assert(offsetof(struct kaiverohm_desk, state) == 0, "desk");
@@ -71,7 +78,7 @@ _Static_assert(offsetof(struct kaiverohm_desk, message_length) == 40, "desk");
 _Static_assert(offsetof(struct kaiverohm_desk, response) == 48, "desk");
 _Static_assert(offsetof(struct kaiverohm_desk, response_length) == 56, "desk");
 
-_Static_assert(KAIVEROHM_STATE_WORDS == 147, "sizes");
+_Static_assert(KAIVEROHM_STATE_WORDS == 148, "sizes");
 _Static_assert(KAIVEROHM_STREAM_CONTEXTS == 16 && KAIVEROHM_MESSAGE_CONTEXTS == 8, "sizes");
 _Static_assert(KAIVEROHM_MESSAGE_ROOM == 4096 && KAIVEROHM_MESSAGE_MEMORY == 32768, "sizes");
 _Static_assert(KAIVEROHM_RESPONSE_BYTES == 7 && KAIVEROHM_SLOT_BYTES == 8, "sizes");
@@ -87,16 +94,16 @@ _Static_assert(KAIVEROHM_BURST_REFUSED == 0 && KAIVEROHM_BURST_END == 1, "stops"
 _Static_assert(KAIVEROHM_BURST_BAD == 2 && KAIVEROHM_BURST_FULL == 3, "stops");
 _Static_assert(KAIVEROHM_BURST_DELIVERY == 4, "stops");
 
-/* All of this is interface 1. Where a line above or below has to change, and not
+/* All of this is interface 2. Where a line above or below has to change, and not
    only one to be added, the number rises, here, in the header and in
    crates/kaiverohm. */
-_Static_assert(KAIVEROHM_INTERFACE == 1, "interface");
+_Static_assert(KAIVEROHM_INTERFACE == 2, "interface");
 
 /* The types once more, as crates/kaiverohm/src/lib.rt has them: a pointer and
    a length for each slice. The compiler refuses a header that has others. */
 uint64_t kaiverohm_interface(void);
 uint64_t kaiverohm_state_length(void);
-struct kaiverohm_answer kaiverohm_setup(uint64_t *, size_t, uint16_t, uint64_t, uint64_t);
+struct kaiverohm_answer kaiverohm_setup(uint64_t *, size_t, struct kaiverohm_settings);
 struct kaiverohm_report kaiverohm_read(uint64_t *, size_t, uint8_t *, size_t, uint8_t *, size_t,
                                        uint8_t *, size_t, const uint8_t *, size_t);
 struct kaiverohm_burst kaiverohm_read_burst(uint64_t *, size_t, uint8_t *, size_t, uint8_t *,
@@ -128,6 +135,12 @@ static uint8_t response[KAIVEROHM_RESPONSE_BYTES];
 static uint8_t pdu[40], start[64], end[64];
 static const uint8_t message[] = "\x1b\xff\xfe\x12\x34\x09\x6f\x11\x12\x13\x14\x15\x16\x17\x18";
 
+/* What differs from these goes in by its name. */
+static const struct kaiverohm_settings settings = { .device = 0xfffe, .mtu = MTU, .room = ROOM };
+static const struct kaiverohm_heading heading = {
+    .destination = 0xfffe, .source = 0x1234, .stream = 0xabcd, .cos = 0x5a, .priority = 2
+};
+
 static int is(struct kaiverohm_answer a, uint64_t kind, uint64_t number)
 {
     return a.kind == kind && a.number == number;
@@ -143,21 +156,30 @@ static void versions(void)
          == 0);
 }
 
+/* The settings arrive field by field. */
 static void setups(void)
 {
+    struct kaiverohm_settings s = settings;
     WANT(kaiverohm_state_length() == WORDS);
-    WANT(is(kaiverohm_setup(state, 146, 1, MTU, ROOM), KAIVEROHM_REFUSED, 12));
-    WANT(is(kaiverohm_setup(state, WORDS, 1, 33, ROOM), KAIVEROHM_REFUSED, 18));
-    WANT(is(kaiverohm_setup(state, WORDS, 1, MTU, 31), KAIVEROHM_REFUSED, 19));
-    WANT(is(kaiverohm_setup(state, WORDS, 0xfffe, MTU, ROOM), KAIVEROHM_READY, 0));
+    WANT(is(kaiverohm_setup(state, 147, s), KAIVEROHM_REFUSED, 12));
+    s.mtu = 33;
+    WANT(is(kaiverohm_setup(state, WORDS, s), KAIVEROHM_REFUSED, 18));
+    s.mtu = MTU;
+    s.room = 31;
+    WANT(is(kaiverohm_setup(state, WORDS, s), KAIVEROHM_REFUSED, 19));
+    s.room = ROOM;
+    s.narrow = 1;
+    WANT(is(kaiverohm_setup(state, WORDS, s), KAIVEROHM_REFUSED, 47));
+    s.device = 0xfe;
+    s.narrow = UINT64_C(0x0123456789abcdef);
+    WANT(is(kaiverohm_setup(state, WORDS, s), KAIVEROHM_READY, 0));
+    WANT(state[0] == 0xfe && state[1] == MTU && state[2] == ROOM && state[3] == s.narrow);
+    WANT(is(kaiverohm_setup(state, WORDS, settings), KAIVEROHM_READY, 0));
     WANT(state[0] == 0xfffe && state[1] == MTU && state[2] == ROOM && state[3] == 0);
 }
 
 static struct kaiverohm_answer write_it(uint8_t *out, size_t length, uint64_t number)
 {
-    static const struct kaiverohm_heading heading = {
-        .destination = 0xfffe, .source = 0x1234, .stream = 0xabcd, .cos = 0x5a, .priority = 2
-    };
     return kaiverohm_write_segment(out, length, heading, MTU, pdu, sizeof pdu, number);
 }
 
@@ -172,6 +194,16 @@ static void writer(void)
     WANT(memcmp(start, "\x99\xff\xfe\x12\x34\x5a\x80\xab\xcd\x01", 10) == 0);
     WANT(is(write_it(end, 17, 1), KAIVEROHM_WRITTEN, 17));
     WANT(is(write_it(end, 16, 1), KAIVEROHM_REFUSED, 16));
+    /* and so does the width */
+    struct kaiverohm_heading h = heading;
+    uint8_t out[39];
+    h.narrow = 1;
+    WANT(is(kaiverohm_write_segment(out, 39, h, MTU, pdu, sizeof pdu, 0), KAIVEROHM_REFUSED, 47));
+    h.destination = 0xfe;
+    WANT(is(kaiverohm_write_segment(out, 39, h, MTU, pdu, sizeof pdu, 0), KAIVEROHM_REFUSED, 47));
+    h.source = 0x12;
+    WANT(is(kaiverohm_write_segment(out, 39, h, MTU, pdu, sizeof pdu, 0), KAIVEROHM_WRITTEN, 39));
+    WANT(memcmp(out, "\x89\xfe\x12\x5a\x80\xab\xcd\x01", 8) == 0);
 }
 
 static struct kaiverohm_report read_one(const uint8_t *packet, size_t length)
@@ -295,6 +327,28 @@ static void burst(void)
     WANT(b.stop == KAIVEROHM_BURST_REFUSED && b.number == 12 && b.count == 0 && b.next == 0);
 }
 
+/* The same with IDs of 8 bits: one packet, then a burst of two. */
+static void eight_bits(void)
+{
+    static const uint8_t short_message[] = "\x0b\xfe\x12\x09\x6f\x11\x12\x13\x14\x15\x16\x17\x18";
+    const struct kaiverohm_settings s = { .device = 0xfe, .mtu = MTU, .room = ROOM, .narrow = 1 };
+    WANT(is(kaiverohm_setup(state, WORDS, s), KAIVEROHM_READY, 0));
+    struct kaiverohm_report r = read_one(short_message, 13);
+    WANT(r.kind == KAIVEROHM_MESSAGE && r.response == 5 && r.source == 0x12 && r.length == 8);
+    WANT(memcmp(response, "\x4d\x12\xfe\x10\x6f", 5) == 0);
+    r = read_one(message, 15);
+    WANT(r.kind == KAIVEROHM_REFUSED && r.number == 2 && r.response == 0);
+    records_length = 0;
+    memset(responses, 0, sizeof responses);
+    record(message, 15);
+    record(short_message, 13);
+    struct kaiverohm_burst b = read_records(WORDS, 0);
+    WANT(b.stop == KAIVEROHM_BURST_END && b.count == 2 && b.next == 16 + 14);
+    WANT(reports[0].number == 2 && reports[1].kind == KAIVEROHM_MESSAGE);
+    WANT(reports[1].response == 5 && memcmp(responses + 8, "\x4d\x12\xfe\x10\x6f\0\0", 8) == 0);
+    WANT(responses[0] == 0);
+}
+
 int main(void)
 {
     versions();
@@ -306,6 +360,7 @@ int main(void)
     contexts();
     abandons();
     burst();
+    eight_bits();
     printf("interface: %u checks\n", checks);
     return 0;
 }

@@ -1,8 +1,8 @@
 /* How much stack each call takes: on a stack of its own, which is filled before.
-   Each call is measured twice, the first time in a process that has called
-   nothing of the library. So with the word `lazy`, of a program that is bound
-   lazily, the first time holds what the dynamic linker takes to find memcpy and
-   memset; without it, both times hold to the header's bound. */
+   Each call is measured three times, the first time in a process that has called
+   nothing of the library, the third with IDs of 8 bits. So with the word `lazy`,
+   of a program that is bound lazily, the first time holds what the dynamic linker
+   takes to find memcpy and memset; without it, all hold to the header's bound. */
 
 #define _DEFAULT_SOURCE
 
@@ -24,8 +24,14 @@ static const struct kaiverohm_desk desk = KAIVEROHM_DESK(state, streams, message
 
 static const uint8_t pdu[700];
 static uint8_t packet[KAIVEROHM_LARGEST_PACKET];
-static const uint8_t segment[7 + 256] = { 0x1b, 0, 1, 0, 9, 0x1e, 0 };
-static uint8_t burst[] = "\x00\x0f\x1b\x00\x01\x00\x09\x09\x60\x61\x62\x63\x64\x65\x66\x67\x68";
+static size_t packet_length;
+static const uint8_t segments[2][7 + 256] = { { 0x1b, 0, 1, 0, 9, 0x1e, 0 },
+                                              { 0x0b, 1, 9, 0x1e, 0 } };
+static const char bursts[2][18] = {
+    "\x00\x0f\x1b\x00\x01\x00\x09\x09\x60\x61\x62\x63\x64\x65\x66\x67\x68",
+    "\x00\x0d\x0b\x01\x09\x09\x60\x61\x62\x63\x64\x65\x66\x67\x68",
+};
+static unsigned narrow; /* 0 or 1 */
 static struct kaiverohm_report reports[4];
 
 /* ---- the calls, each by itself; what they answer is looked at, so none is left out */
@@ -34,28 +40,33 @@ static uint64_t said;
 
 static void setup(void)
 {
-    said = kaiverohm_desk_setup(&desk, 1, MTU, ROOM).kind;
+    const struct kaiverohm_settings settings = { 1, MTU, ROOM, narrow };
+    said = kaiverohm_desk_setup(&desk, settings).kind;
 }
 
 static void write_start(void)
 {
-    const struct kaiverohm_heading heading = { 1, 2, 3, 4, 0 };
-    said = kaiverohm_write_segment(packet, sizeof packet, heading, MTU, pdu, sizeof pdu, 0).kind;
+    const struct kaiverohm_heading heading = { 1, 2, 3, 4, 0, narrow };
+    struct kaiverohm_answer a =
+        kaiverohm_write_segment(packet, sizeof packet, heading, MTU, pdu, sizeof pdu, 0);
+    packet_length = a.number;
+    said = a.kind;
 }
 
 static void read_start(void)
 {
-    said = kaiverohm_desk_read(&desk, packet, sizeof packet).kind;
+    said = kaiverohm_desk_read(&desk, packet, packet_length).kind;
 }
 
 static void read_segment(void)
 {
-    said = kaiverohm_desk_read(&desk, segment, sizeof segment).kind;
+    said = kaiverohm_desk_read(&desk, segments[narrow], 7 + 256 - 2 * narrow).kind;
 }
 
 static void read_burst(void)
 {
-    said = kaiverohm_desk_read_burst(&desk, reports, 4, burst, sizeof burst - 1, 0).count;
+    const uint8_t *burst = (const uint8_t *)bursts[narrow];
+    said = kaiverohm_desk_read_burst(&desk, reports, 4, burst, 17 - 2 * narrow, 0).count;
 }
 
 static void write_record(void)
@@ -170,7 +181,9 @@ int main(int argc, char **argv)
     int lazy = argc > 1 && strcmp(argv[1], "lazy") == 0;
     size_t first = round_of_calls(lazy ? LAZY_BOUND : BOUND);
     size_t later = round_of_calls(BOUND);
-    printf("stack: at most %zu bytes in a first call%s, %zu after\n", first,
-           lazy ? ", bound lazily" : "", later);
+    narrow = 1;
+    size_t eight = round_of_calls(BOUND);
+    printf("stack: at most %zu bytes in a first call%s, %zu after, %zu with IDs of 8 bits\n", first,
+           lazy ? ", bound lazily" : "", later, eight);
     return 0;
 }

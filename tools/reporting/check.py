@@ -184,7 +184,7 @@ def check_refusals(root):
     """docs/REFUSALS.md has the table, and the table has the words of the definitions."""
     see(refusals.page() in (root / "docs/REFUSALS.md").read_text(encoding="utf-8"), "docs/REFUSALS.md has not the table that tools/report --refusals prints")
     rows = [row for part in TABLE for row in re.findall(r"-- (.+)\n +(?:∷ |\+\+ \()?row (\d+) ", (root / "crates" / part).read_text(encoding="utf-8"))]
-    see({int(number) for _, number in rows} == set(refusals.REFUSALS) - set(range(13, 19)), "the refusal table has other numbers")
+    see({int(number) for _, number in rows} == set(refusals.REFUSALS) - refusals.OTHER_CALLS, "the refusal table has other numbers")
     for said, number in rows:
         ours = refusals.REFUSALS[int(number)][0]
         see(number == "19" or said in {ours, *ours.split("; ")}, f"the refusal table says of {number}: {said}")

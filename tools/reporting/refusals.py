@@ -1,9 +1,9 @@
-"""Every refusal by its number, in document 01's words and in plain ones. docs/REFUSALS.md has this table."""
+"""Every refusal by its number, in the paper's words and in plain ones. docs/REFUSALS.md has this table."""
 
-# number: (document 01's words, what it means for the log's reader). 12 to 19 speak of other calls and of lent memory.
+# number: (the paper's words, what it means for the log's reader). 12 to 19 and 47 speak of other calls and of lent memory.
 REFUSALS = {
-    1: ("under 5 bytes; under 7 bytes; type 9 with S or E, under 9 bytes", "The packet is too short to have a whole head. Nothing changed."),
-    2: ("tt not 01", "The device IDs are not 16 bits wide. Nothing changed."),
+    1: ("under 5 bytes; under 7 bytes; type 9 with S or E, under 9 bytes", "The packet is too short to have a whole head. With IDs of 8 bits each of these lengths is 2 less. Nothing changed."),
+    2: ("tt not 01; with IDs of one byte, not 00", "The device IDs are of another width than the endpoint's. Nothing changed."),
     3: ("destination not ours", "The packet is for another device. Nothing changed."),
     4: ("type not 9 or 11", "Neither data streaming nor a message. Nothing changed."),
     5: ("type 9, xh=1", "An extended header (traffic management), which is not read here. Nothing changed."),
@@ -13,7 +13,7 @@ REFUSALS = {
     9: ("type 9: total would pass R", "The PDU is longer than a room, or an end and a start were lost. The flow's unfinished PDU is given up."),
     10: ("start or single, flow not open, no context free", "Sixteen other flows have unfinished PDUs. This PDU is lost; nothing else changed."),
     11: ("end, total differs from PDU length", "A packet of the PDU was lost, or one came twice. The PDU is given up."),
-    12: ("a lent memory of the wrong size, or response buffer under 7", "A fault of the program that calls the endpoint. Nothing changed."),
+    12: ("a lent memory of the wrong size, or response buffer under 7", "A fault of the program that calls the endpoint. With IDs of 8 bits 5 bytes of response are enough. Nothing changed."),
     13: ("abandon, after 19, with a number past the last context", "A fault of the program that calls the endpoint. Nothing changed."),
     14: ("L is 0 or over 65,536", "Writing: no PDU can have this length. Nothing was written."),
     15: ("segment number, from 0, not below the count", "Writing: the PDU has no such segment. Nothing was written."),
@@ -27,8 +27,10 @@ REFUSALS = {
     23: ("open message has another msglen or ssize", "An older message of this source, letter and mbox is unfinished. Nothing changed; the sender is told ERROR."),
     24: ("segment already marked", "The segment came twice, or an older message is unfinished. Nothing changed; the sender is told ERROR."),
     25: ("context needed, none free", "Eight messages are unfinished. Nothing changed; the sender is told RETRY."),
+    47: ("IDs of one byte, and a device ID over 255", "Setup and writing: IDs have 8 bits, and this one does not fit. Setup left a state of zeros; the writer wrote nothing."),
 }
-NOT_IN_LOGS = range(12, 20)
+OTHER_CALLS = {*range(13, 19), 47}  # no row of reading
+NOT_IN_LOGS = OTHER_CALLS | {12, 19}
 CLOSE = (6, 7, 9, 11)  # these give the flow's unfinished PDU up
 
 

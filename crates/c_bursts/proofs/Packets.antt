@@ -11,12 +11,15 @@ use Rattle.lists.specs.Bytes.{written}
 use Rattle.lists.proofs.Written.{written-is}
 use Rattle.answers.specs.declared.Figures.{Figures}
 use Rattle.answers.specs.Figures.{telling}
-use Rattle.contexts.specs.State.{Setup, streamContexts}
+use Rattle.wire.specs.declared.Setup.{Setup}
+use Rattle.wire.specs.Packet.{header}
+use Rattle.wire.proofs.Widths.{two-bytes}
+use Rattle.contexts.specs.State.{idsIn, streamContexts}
 use Rattle.reading.specs.Desk.{Desk, stateOn, withResponse}
 use Rattle.reading.specs.Table.{lent}
 use Rattle.reading.specs.Read.{Settled, settled, reading}
 use Rattle.reading.specs.Good.{StillGood}
-use Rattle.reading.specs.Inside.{Fit, FiguresPromise}
+use Rattle.reading.specs.Inside.{Fit, ReadyToRead, FiguresPromise}
 use Rattle.reading.proofs.Kept.{stays-good}
 use Rattle.c_reports.specs.declared.Report.{Report}
 use Rattle.c_reports.specs.Reports.{reportOf, reportWords, wordsOfReport}
@@ -48,8 +51,15 @@ module _ (r : Run) (ready : ReadyToRun r 1) where
   slot-length : length lentSlot ≡ slotBytes
   slot-length = ap length slot-is ∙ simp (length-take, length-drop) (omega (arith, ready .space .replies))
 
+  -- so with the slot the desk is ready: a slot holds the response of either width
+  pub slot-ready : ReadyToRead lentDesk
+  slot-ready = record {
+    fit = record { whole = ready .fit .whole; good = ready .fit .good; rooms = ready .fit .rooms; boxes = ready .fit .boxes };
+    reply = omega (arith, slot-length, two-bytes (stateOn (r .desk) .setup .narrow));
+  }
+
   -- what reading left: in its memories, in its slot, and with the report beside it
-  module _ (packet : List ℕ) (small : getD packet 5 0 < 256) (t : Figures) (after : Desk) (promise : FiguresPromise (lent lentDesk packet) t after) where
+  module _ (packet : List ℕ) (small : getD packet (header (idsIn (stateOn (r .desk)))) 0 < 256) (t : Figures) (after : Desk) (promise : FiguresPromise (lent lentDesk packet) t after) where
     as-defined : settled (telling t) (t .dropped) (t .response) after ≡ readIn r packet
     as-defined = promise .promised ∙ ap (λ (s : List ℕ). reading (lent (withResponse (r .desk) s) packet)) slot-is
 

@@ -42,16 +42,15 @@ module _ (burst : List ℕ) (pause room : ℕ) (r : Run) where
     unfolding stepIn
     over-packet n = rw (found, ne-eqb room 0 n)
 
-    -- the packet lies between its start and the next place
-    packet-is : take (next - from) (drop from burst) ≡ take size (drop from burst)
+    -- the packet has its size
+    packet-is : take (from + size - from) (drop from burst) ≡ take size (drop from burst)
     packet-is =
-        let i = inside burst (r .next) from size next found in
-        let e : next - from ≡ size = omega (arith, i .behind) in
+        let e : from + size - from ≡ size = omega arith in
         ap (λ (k : ℕ). take k (drop from burst)) e
 
     -- read from a run that does not know where the next record begins
     pub at-record : (kind stop : ℕ) (after : Desk) (reports : List ℕ) → (room ≡ 0 → ⊥)
-        → PacketPromise (run (r .desk) (r .reports) (r .count) 0) (take (next - from) (drop from burst)) kind after reports
+        → PacketPromise (run (r .desk) (r .reports) (r .count) 0) (take (from + size - from) (drop from burst)) kind after reports
         → stop ≡ pauseOf pause kind
         → stepLeft stop (run after reports (r .count + 1) next) ≡ stepIn pause room burst r
     at-record kind stop after reports n p e =

@@ -108,11 +108,7 @@ pub fn step_at(
             count,
             next: at,
         },
-        Next::Record {
-            from,
-            size: _,
-            next,
-        } => {
+        Next::Record { from, size, next } => {
             if room == 0 {
                 return Step {
                     stop: FULL,
@@ -126,7 +122,7 @@ pub fn step_at(
                 message_memory,
                 responses,
                 reports,
-                &burst[from..next],
+                &burst[from..from + size],
                 count,
             );
             Step {

@@ -8,7 +8,7 @@ use lib.ListN.{length}
 use denote.Ref.{RefT}
 use Rattle.answers.specs.Answers.{Said, said, held, delivered, message, refused, SetupSaid, ready, setupRefused, WriterSaid, wrote, writeRefused}
 use Rattle.wire.specs.declared.Flow.{Flow}
-use Rattle.contexts.specs.State.{Setup}
+use Rattle.wire.specs.declared.Setup.{Setup}
 use Rattle.reading.specs.Desk.{Desk, withResponse}
 use Rattle.reading.specs.Table.{Lent, lent}
 use Rattle.reading.specs.Read.{reading, ReadPromise}
@@ -90,7 +90,7 @@ is-ready (setupRefused number) e = absurd (omega (arith, e))
 
 pub set-up : {s : Setup} {d : Desk} → SetUpFromC s d → SetUp s d
 set-up {s = s} {d = d} up =
-    let says = is-ready (setup (up .before) (s .device) (s .mtu) (s .room) .says) (ap (λ (n : Numbers). n .kind) (sym (up .promised .answer)) ∙ up .ready) in
+    let says = is-ready (setup (up .before) s .says) (ap (λ (n : Numbers). n .kind) (sym (up .promised .answer)) ∙ up .ready) in
     record {
       device-ID = up .device-ID;
       before = up .before;
@@ -108,7 +108,7 @@ is-written (writeRefused number) e = absurd (omega (arith, e))
 are-writes : {setup : Setup} {flow : Flow} {s : Sent} {k n : ℕ} {ps : List (List ℕ)} → WritesFromC setup flow s k n ps → Writes setup flow s k n ps
 are-writes no-segment = written-all
 are-writes {setup = setup} {flow = flow} {s = s} {k = k} (one-segment out left answer promise kind more) =
-    let says : WriterSaid = writing out (headingFor (setup .device) flow s k) (setup .mtu) (s .pdu .bytes) k .says in
+    let says : WriterSaid = writing out (headingFor setup flow s k) (setup .mtu) (s .pdu .bytes) k .says in
     let told : wrote (answer .number) ≡ says =
     ap (λ (a : Numbers). wrote (a .number)) (promise .answer) ∙ is-written says (ap (λ (a : Numbers). a .kind) (sym (promise .answer)) ∙ kind) in
     write out left (answer .number) (ap₂ (λ (t : WriterSaid) (o : List ℕ). wroteOf t o) told (promise .packet)) (are-writes more)

@@ -29,7 +29,7 @@ use Rattle.demands.proofs.OfCalls.{demand3-of-calls}
 use Rattle.c_promises.specs.OfCalls.{allRead, Name, nameOf, namesIn, reportsIn, BurstReads, BurstIsReads, Demand3OfBursts}
 use Rattle.c_promises.proofs.Whole.{burst-is-calls}
 use Rattle.c_promises.proofs.FromC.{room-made, other-buffer, after-answer, set-up}
-use Rattle.c_promises.proofs.Behind.{fewer, slot-length, same-reports, report-placed, earlier-kept, more-room}
+use Rattle.c_promises.proofs.Behind.{fewer, slot-enough, same-reports, report-placed, earlier-kept, more-room}
 
 -- ---- the name in a report
 
@@ -76,7 +76,7 @@ pub call-made : (r : Run) (p : List ℕ) (next : ℕ) → Room r 1 → {fetched 
     → {ps : List (List ℕ)} {ds : List Delivery} → Reads (behind r p next .desk) ps ds → Reads (r .desk) (p ∷ ps) (fetched ++ ds)
 call-made r p next room fetch rest =
     let x : Lent = lentIn r p in
-    call (answered-by x) (slot (r .desk .response) (r .count)) (omega (arith, slot-length r p next room)) (promised x)
+    call (answered-by x) (slot (r .desk .response) (r .count)) (slot-enough r p next room) (promised x)
     (after-answer x (readIn r p .desk) fetch) (other-buffer (readIn r p .desk .response) rest)
 
 -- what is known of a run that goes on over these packets

@@ -1,16 +1,18 @@
 -- The premises can be met: calls from C can be made; and those of a burst, by computation.
-use Prim.Native.Nat.{ℕ, zero, suc, _+_, _≤_}
+use Prim.Native.Nat.{ℕ, zero, suc, _+_, _*_, _≤_}
 use mathlib.Core.Path.{_≡_, refl, ap, sym, subst}
 use mathlib.Core.List.{List, [], _∷_}
 use mathlib.Core.Bool.{Bool, true, false}
 use native.Mathlib.Omega.{arith}
 use lib.Dec.{eqb}
-use lib.ListN.{length, replicate}
+use lib.ListN.{length, replicate, length-replicate}
 use borrow.Author.Tests.{eqb-true, eqb-false}
 use Rattle.wire.specs.declared.Flow.{Flow}
 use Rattle.responses.specs.Type13.{responseSize}
-use Rattle.contexts.specs.State.{Setup}
-use Rattle.reading.specs.Desk.{Desk, withResponse}
+use Rattle.wire.specs.declared.Setup.{Setup}
+use Rattle.wire.specs.Packet.{tooWide}
+use Rattle.contexts.specs.State.{idsIn}
+use Rattle.reading.specs.Desk.{Desk, stateOn, withResponse}
 use Rattle.reading.specs.Table.{Lent, lent}
 use Rattle.reading.specs.Read.{reading}
 use Rattle.answers.specs.Answers.{SetupSaid}
@@ -29,10 +31,12 @@ use Rattle.sending.proofs.Mixture.{mixture-is-fair}
 use Rattle.paper_examples.proofs.Computing.{computing}
 use Rattle.demands.proofs.Writing.{counted, written-well}
 use Rattle.demands.proofs.Witnesses.{calls-not-empty}
-use Rattle.c_bursts.specs.Bursts.{roomFor, reportFor}
+use Rattle.tables.specs.Refusals.{accept}
+use Rattle.flows.specs.Widths.{narrowed}
+use Rattle.c_bursts.specs.Bursts.{slotBytes, burstVerdict, roomFor, reportFor}
 use Rattle.answers.specs.Kinds.{deliveredKind, readyKind, writtenKind}
 use Rattle.c_promises.specs.OfCalls.{FetchesFromC, at-place, nothing, ReadsFromC, no-more, one-more}
-use Rattle.c_promises.specs.OfCalls.{SetUpFromC, WritesFromC, no-segment, one-segment, CallsFromCNotEmpty, BurstNotEmpty}
+use Rattle.c_promises.specs.OfCalls.{SetUpFromC, WritesFromC, no-segment, one-segment, CallsFromCNotEmpty, deskForSeven, sevenReports, BurstAt, BurstNotEmpty}
 
 -- ---- Calls
 
@@ -57,22 +61,24 @@ fetch-made d r = go (eqb (r .kind) deliveredKind) refl
     go true e = (_, at-place _ (eqb-true (r .kind) deliveredKind e) refl)
     go false e = (_, nothing (eqb-false (r .kind) deliveredKind e))
 
--- a call for each packet, with a response buffer of 7
+-- a call for each packet, with a response buffer as long as a response
 reads-made : (ps : List (List ℕ)) (d : Desk) → (ds : List Delivery) × ReadsFromC d ps ds
 reads-made [] d = ([], no-more)
 reads-made (p ∷ ps) d =
-    let x : Lent = lent (withResponse d (replicate responseSize 0)) p in
+    let reply : List ℕ = replicate (responseSize (idsIn (stateOn d))) 0 in
+    let enough : responseSize (idsIn (stateOn d)) ≤ length reply = omega (arith, length-replicate {A = ℕ} (responseSize (idsIn (stateOn d))) 0) in
+    let x : Lent = lent (withResponse d reply) p in
     let fetch = fetch-made (reading x .desk) (reportFor (reading x)) in
     let rest = reads-made ps (reading x .desk) in
-    (_, one-more (reportFor (reading x)) (replicate responseSize 0) (omega arith) (record { report = refl; desk = refl }) (fetch .1) (rest .1))
+    (_, one-more (reportFor (reading x)) reply enough (record { report = refl; desk = refl }) (fetch .1) (rest .1))
 
 -- the writer, with a buffer as long as the packet
-module _ (s : Setup) (flow : Flow) (x : Sent) (allowed : Allowed s) (fair : FairPDU (s .room) x) where
+module _ (s : Setup) (flow : Flow) (x : Sent) (allowed : Allowed s) (source : tooWide (s .narrow) (flow .source) ≡ false) (fair : FairPDU (s .room) x) where
   writes-made : (n k : ℕ) → k + n ≡ packetCount (s .mtu) x → (ps : List (List ℕ)) × WritesFromC s flow x k n ps
   writes-made zero k e = (_, no-segment)
   writes-made (suc n) k e =
       let packet : List ℕ = packetAt s flow x k in
-      let well = written-well s flow x allowed fair packet k (omega arith) (omega arith) in (
+      let well = written-well s flow x allowed source fair packet k (omega arith) (omega arith) in (
         _,
         one-segment packet _ (numbers writtenKind (length packet))
             (record { answer = ap (λ (w : Wrote). numbersOfWriter (w .says)) well; packet = ap (λ (w : Wrote). w .out) well }) refl
@@ -83,21 +89,36 @@ pub calls-from-c-not-empty : CallsFromCNotEmpty
 calls-from-c-not-empty = record {
   sets-up = sets-up;
   reads = λ d ps. reads-made ps d;
-  writes = λ s flow x count allowed fair says. writes-made s flow x allowed fair count 0 (omega (arith, says, counted s flow x allowed fair));
+  writes = λ s flow x count allowed source fair says. writes-made s flow x allowed source fair count 0 (omega (arith, says, counted s flow x allowed source fair));
 }
 
 -- ---- A burst
 
--- seven packets, all of them short
-all-short : AllShort (packets smallSetup mixture)
-all-short = subst AllShort (sym (mixture-is-fair .left)) (omega arith, (omega arith, (omega arith, (omega arith, (omega arith, (omega arith, (omega arith, tt)))))))
+-- the packets that the mixture leaves, at a width: seven, all of them short
+abbrev left-over : ℕ → List (List ℕ)
+left-over narrow = packets (smallSetup narrow) (mixture narrow)
 
-seven : length (packets smallSetup mixture) ≡ 7
-seven = ap length (mixture-is-fair .left)
+short-at-16 : AllShort (left-over 0)
+unfolding narrowed
+short-at-16 = subst AllShort (sym (mixture-is-fair .0 .left)) (omega arith, (omega arith, (omega arith, (omega arith, (omega arith, (omega arith, (omega arith, tt)))))))
+
+short-at-8 : AllShort (left-over 1)
+unfolding narrowed
+short-at-8 = subst AllShort (sym (mixture-is-fair .1 .0 .left)) (omega arith, (omega arith, (omega arith, (omega arith, (omega arith, (omega arith, (omega arith, tt)))))))
+
+seven-fit : 7 ≤ roomFor (length sevenReports) (slotBytes * 7)
+unfolding roomFor
+seven-fit = omega arith
+
+burst-at : (narrow : ℕ) → AllShort (left-over narrow) → length (left-over narrow) ≡ 7 → burstVerdict (deskForSeven narrow) ≡ accept → BurstAt narrow
+burst-at narrow short seven passed = record {
+  short = short;
+  whole-burst = record { whole-records = log-reads-back (left-over narrow) short; passed = passed; room = omega (arith, seven, seven-fit) };
+}
 
 pub burst-not-empty : BurstNotEmpty
-unfolding computing roomFor
-burst-not-empty = record {
-  short = all-short;
-  whole-burst = record { whole-records = log-reads-back (packets smallSetup mixture) all-short; passed = refl; room = let h : length (packets smallSetup mixture) ≤ 7 = omega (arith, seven) in h };
-}
+unfolding computing
+burst-not-empty = (
+  burst-at 0 short-at-16 (ap length (mixture-is-fair .0 .left)) refl,
+  (burst-at 1 short-at-8 (ap length (mixture-is-fair .1 .0 .left)) refl, tt),
+)

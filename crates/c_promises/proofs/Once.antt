@@ -5,7 +5,7 @@ use Rattle.c_promises.specs.OfCalls.{SetupFromCOnce, ReadFromCOnce, Burs
 use Rattle.c_promises.specs.OfCalls.{StreamContextFromCOnce, MessageContextFromCOnce, WriteRecordFromCOnce}
 
 pub setup-from-c-once : SetupFromCOnce
-setup-from-c-once words device mtu room y z p q = both (p .answer ∙ sym (q .answer)) (p .state ∙ sym (q .state))
+setup-from-c-once words settings y z p q = both (p .answer ∙ sym (q .answer)) (p .state ∙ sym (q .state))
 
 pub read-from-c-once : ReadFromCOnce
 read-from-c-once x y z p q = both (p .report ∙ sym (q .report)) (p .desk ∙ sym (q .desk))

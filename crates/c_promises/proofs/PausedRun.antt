@@ -16,6 +16,7 @@ use Rattle.flows.specs.Deliveries.{Delivery, delivery}
 use Rattle.flows.specs.Fresh.{zeroDesk}
 use Rattle.sending.specs.Sending.{putOf, packets, whole}
 use Rattle.sending.specs.Mixture.{smallSetup, mixture}
+use Rattle.answers.specs.Kinds.{deliveredKind, messageKind}
 use Rattle.c_places.specs.Places.{placeOf}
 use Rattle.c_bursts.specs.Bursts.{Finished, atEnd, atDelivery, pauseOf, stepIn, ran, roomFor, readBurst}
 use Rattle.c_promises.specs.OfCalls.{deskForSeven, sevenReports, bytesAt, flowIn, at-place, nothing, lastReport, PausedCall, Bursts, ended, paused, PausedBurstsNotEmpty}
@@ -25,12 +26,34 @@ unfoldable in-bursts : Unit {0}
 unfolding computing putOf recordFrom longRecord nextRecord lengthBytes reportOf pauseOf stepIn ran roomFor readBurst stateRefusal hasRoom roomPart streamRoom
 in-bursts = tt
 
--- a call with room for seven, asked to pause
-abbrev again : Desk → List ℕ → Finished
-again d burst = readBurst 1 (withResponse d (deskForSeven .response)) sevenReports burst
+module _ (narrow : ℕ) where
+  -- a call with room for seven, asked to pause
+  abbrev again : Desk → List ℕ → Finished
+  again d burst = readBurst 1 (withResponse d (deskForSeven narrow .response)) sevenReports burst
 
-called : (d : Desk) (burst : List ℕ) → PausedCall d burst (again d burst)
-called d burst = record { pause = 1; asked = λ z. omega (arith, z); responses = deskForSeven .response; reports = sevenReports; promised = refl }
+  called : (d : Desk) (burst : List ℕ) → PausedCall d burst (again d burst)
+  called d burst = record { pause = 1; asked = λ z. omega (arith, z); responses = deskForSeven narrow .response; reports = sevenReports; promised = refl }
+
+  abbrev log : List ℕ
+  log = writtenLog (packets (smallSetup narrow) (mixture narrow))
+
+  abbrev first : Finished
+  first = again (zeroDesk (smallSetup narrow)) log
+
+  abbrev log′ : List ℕ
+  log′ = drop (first .answer .next) log
+
+  abbrev second : Finished
+  second = again (first .desk) log′
+
+  abbrev log″ : List ℕ
+  log″ = drop (second .answer .next) log′
+
+  abbrev third : Finished
+  third = again (second .desk) log″
+
+  abbrev last : Finished
+  last = again (third .desk) (drop (third .answer .next) log″)
 
 -- what is fetched after a report of a PDU
 abbrev fetched : Finished → List Delivery
@@ -38,64 +61,32 @@ fetched f =
     let r = lastReport f in
     delivery (flowIn r) (pdu (r .«stream_or_mailbox») (bytesAt (f .desk .streamMemory) (placeOf (streamRoom (f .desk .words) (length (f .desk .streamMemory)) (r .context) (r .length))))) ∷ []
 
-abbrev log : List ℕ
-log = writtenLog (packets smallSetup mixture)
+-- where the calls stop: at a message and at two PDUs, which are what is whole, and at the end
+record Stops (narrow : ℕ) : Type 0 where
+  first-stops : first narrow .answer .stop ≡ atDelivery
+  second-stops : second narrow .answer .stop ≡ atDelivery
+  third-stops : third narrow .answer .stop ≡ atDelivery
+  last-ends : last narrow .answer .stop ≡ atEnd
+  first-kind : lastReport (first narrow) .kind ≡ messageKind
+  second-kind : lastReport (second narrow) .kind ≡ deliveredKind
+  third-kind : lastReport (third narrow) .kind ≡ deliveredKind
+  they-deliver : fetched (second narrow) ++ (fetched (third narrow) ++ []) ≡ whole (smallSetup narrow) (mixture narrow)
 
-abbrev first : Finished
-first = again (zeroDesk smallSetup) log
-
-abbrev log′ : List ℕ
-log′ = drop (first .answer .next) log
-
-abbrev second : Finished
-second = again (first .desk) log′
-
-abbrev log″ : List ℕ
-log″ = drop (second .answer .next) log′
-
-abbrev third : Finished
-third = again (second .desk) log″
-
-abbrev last : Finished
-last = again (third .desk) (drop (third .answer .next) log″)
-
-first-stops : first .answer .stop ≡ atDelivery
+stops-at-16 : Stops 0
 unfolding in-bursts
-first-stops = refl
+stops-at-16 = record { first-stops = refl; second-stops = refl; third-stops = refl; last-ends = refl; first-kind = refl; second-kind = refl; third-kind = refl; they-deliver = refl }
 
-second-stops : second .answer .stop ≡ atDelivery
+stops-at-8 : Stops 1
 unfolding in-bursts
-second-stops = refl
+stops-at-8 = record { first-stops = refl; second-stops = refl; third-stops = refl; last-ends = refl; first-kind = refl; second-kind = refl; third-kind = refl; they-deliver = refl }
 
-third-stops : third .answer .stop ≡ atDelivery
-unfolding in-bursts
-third-stops = refl
-
-last-ends : last .answer .stop ≡ atEnd
-unfolding in-bursts
-last-ends = refl
-
--- a message, and two PDUs
-first-kind : lastReport first .kind ≡ 3
-unfolding in-bursts
-first-kind = refl
-
-second-kind : lastReport second .kind ≡ 2
-unfolding in-bursts
-second-kind = refl
-
-third-kind : lastReport third .kind ≡ 2
-unfolding in-bursts
-third-kind = refl
-
-they-deliver : fetched second ++ (fetched third ++ []) ≡ whole smallSetup mixture
-unfolding in-bursts
-they-deliver = refl
+paused-at : (narrow : ℕ) → Stops narrow → Bursts (zeroDesk (smallSetup narrow)) (log narrow) (whole (smallSetup narrow) (mixture narrow))
+paused-at narrow s =
+    subst (Bursts (zeroDesk (smallSetup narrow)) (log narrow)) (s .they-deliver)
+    (paused (first narrow) (called narrow _ _) (s .first-stops) (nothing (λ z. omega (arith, z, s .first-kind)))
+    (paused (second narrow) (called narrow _ _) (s .second-stops) (at-place _ (s .second-kind) refl)
+    (paused (third narrow) (called narrow _ _) (s .third-stops) (at-place _ (s .third-kind) refl)
+    (ended (last narrow) (called narrow _ _) (s .last-ends)))))
 
 pub paused-bursts-not-empty : PausedBurstsNotEmpty
-paused-bursts-not-empty =
-    subst (Bursts (zeroDesk smallSetup) log) they-deliver
-    (paused first (called _ _) first-stops (nothing (λ z. omega (arith, z, first-kind)))
-    (paused second (called _ _) second-stops (at-place _ second-kind refl)
-    (paused third (called _ _) third-stops (at-place _ third-kind refl)
-    (ended last (called _ _) last-ends))))
+paused-bursts-not-empty = (paused-at 0 stops-at-16, (paused-at 1 stops-at-8, tt))

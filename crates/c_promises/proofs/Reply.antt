@@ -8,7 +8,7 @@ use Rattle.tables.specs.Refusals.{all, flowClosed, allERROR, allRETRY, Verdict,
 use Rattle.wire.specs.Type11.{isSingle}
 use Rattle.wire.specs.Head.{is9}
 use Rattle.responses.specs.Type13.{responseSize, DONE, ERROR, RETRY}
-use Rattle.contexts.specs.State.{freeMessage}
+use Rattle.contexts.specs.State.{idsIn, freeMessage}
 use Rattle.message_rooms.specs.Placing as messageRoom
 use Rattle.messages.specs.Joining as joined
 use Rattle.messages.specs.Rows.{messageOpen, messageFound}
@@ -28,11 +28,11 @@ names-them (refused number) dropped replied = refl
 module _ (x : Lent) where
   -- every accepted message segment is answered DONE
   placed-answers : (n marks last : ℕ)
-      → Reply x responseSize (messageRoom.messagePlaced (stateIn x) (x .desk .messageMemory) (x .desk .response) (x .packet) (messageSegmentIn x) n marks last .response)
+      → Reply x (responseSize (idsIn (stateIn x))) (messageRoom.messagePlaced (stateIn x) (x .desk .messageMemory) (x .desk .response) (x .packet) (messageSegmentIn x) n marks last .response)
   unfolding messageRoom.messagePlaced
   placed-answers n marks last = answers DONE
 
-  message-answers : Reply x responseSize (joined.messageAccepted (stateIn x) (x .desk .messageMemory) (x .desk .response) (x .packet) (messageSegmentIn x) .response)
+  message-answers : Reply x (responseSize (idsIn (stateIn x))) (joined.messageAccepted (stateIn x) (x .desk .messageMemory) (x .desk .response) (x .packet) (messageSegmentIn x) .response)
   unfolding joined.messageAccepted joined.deliveredAtOnce
   message-answers =
       by-test (isSingle (messageSegmentIn x)) (λ t. rw t (answers DONE))

@@ -1,20 +1,23 @@
 -- What holds of the functions that C calls, as statements. Each is proved in proofs/.
-use Prim.Native.Nat.{ℕ, zero, suc, _+_, _-_, _*_, _≤_, _<_}
+use Prim.Native.Nat.{ℕ, zero, suc, _+_, _-_, _*_, _^_, _≤_, _<_}
 use mathlib.Core.Path.{_≡_}
 use mathlib.Core.List.{List, [], _∷_, _++_, map}
-use mathlib.Core.Bool.{true, cond}
+use mathlib.Core.Bool.{true, false, cond}
 use lib.ListN.{length, take, drop, replicate}
 use lib.Dec.{eqb}
 use Rattle.lists.specs.Bytes.{AreBytes}
+use Rattle.lists.specs.Each.{Each}
 use Rattle.lists.specs.Rows.{rows}
 use Rattle.tables.specs.Refusals.{accept}
 use Rattle.answers.specs.Once.{Outcome, OneOutcome, Once}
 use Rattle.wire.specs.declared.Flow.{Flow}
 use Rattle.responses.specs.Type13.{responseSize, answered}
-use Rattle.contexts.specs.State.{Setup, streamContexts, messageContexts}
+use Rattle.wire.specs.declared.Setup.{Setup}
+use Rattle.wire.specs.Packet.{idsOf, tooWide}
+use Rattle.contexts.specs.State.{idsIn, streamContexts, messageContexts}
 use Rattle.message_rooms.specs.Placing.{messageRoomBytes}
 use Rattle.reading.specs.Desk.{Desk, stateOn, withResponse}
-use Rattle.reading.specs.Table.{Lent, lent}
+use Rattle.reading.specs.Table.{Lent, lent, stateIn}
 use Rattle.reading.specs.Read.{reading}
 use Rattle.room_parts.specs.Parts.{part}
 use Rattle.cutting.specs.declared.Heading.{Heading}
@@ -22,6 +25,7 @@ use Rattle.writing.specs.Writer.{CountPromise}
 use Rattle.flows.specs.OneFlow.{pdu}
 use Rattle.flows.specs.Deliveries.{Delivery, delivery}
 use Rattle.flows.specs.Fresh.{Allowed, Lends, zeroDesk}
+use Rattle.flows.specs.Widths.{bothWidths}
 use Rattle.sending.specs.Sending.{Sent, headingFor, Sending, packets, whole, FairPDU, Fair}
 use Rattle.sending.specs.Mixture.{smallSetup, mixture}
 use Rattle.calls.specs.Calls.{Reads}
@@ -41,10 +45,10 @@ use Rattle.kaiverohm.specs.Exports.{StreamContextFromCPromise, MessageContextFr
 
 -- ---- What a report says of the response is what reading wrote there.
 
--- the bytes of response that a report names, and the response buffer as it is left: none and as it was, or seven and a response to the packet
+-- the bytes of response that a report names, and the response buffer as it is left: none and as it was, or a response to the packet, of its size at the width of the endpoint
 pub data Reply (x : Lent) : ℕ → List ℕ → Type 0 where
   silent : Reply x 0 (x .desk .response)
-  answers : (status : ℕ) → Reply x responseSize (answered (x .desk .response) (x .packet) status)
+  answers : (status : ℕ) → Reply x (responseSize (idsIn (stateIn x))) (answered (idsIn (stateIn x)) (x .desk .response) (x .packet) status)
 
 abbrev pub ReportsReply : Type 0
 ReportsReply = (x : Lent) → Reply x (reportFor (reading x) .response) (reading x .desk .response)
@@ -69,16 +73,19 @@ BurstIsCalls =
     → readBurst 0 d reports burst ≡ stopped (stepLeft atEnd (allRead (length burst) (run d reports 0 0) packets))
 
 -- a desk that was just set up, with responses for seven; and their reports
-abbrev pub deskForSeven : Desk
-deskForSeven = withResponse (zeroDesk smallSetup) (replicate (slotBytes * 7) 0)
+abbrev pub deskForSeven : (narrow : ℕ) → Desk
+deskForSeven narrow = withResponse (zeroDesk (smallSetup narrow)) (replicate (slotBytes * 7) 0)
 
 abbrev pub sevenReports : List ℕ
 sevenReports = replicate (reportWords * 7) 0
 
--- these premises can be met: by the packets of a sending with losses, mixed flows and messages between, of which there are seven
-pub record BurstNotEmpty : Type 0 where
-  pub short : AllShort (packets smallSetup mixture)
-  pub whole-burst : WholeBurst deskForSeven sevenReports (writtenLog (packets smallSetup mixture)) (packets smallSetup mixture)
+-- these premises can be met, at both widths: by the packets of a sending with losses, mixed flows and messages between, of which there are seven
+pub record BurstAt (narrow : ℕ) : Type 0 where
+  pub short : AllShort (packets (smallSetup narrow) (mixture narrow))
+  pub whole-burst : WholeBurst (deskForSeven narrow) sevenReports (writtenLog (packets (smallSetup narrow) (mixture narrow))) (packets (smallSetup narrow) (mixture narrow))
+
+abbrev pub BurstNotEmpty : Type 0
+BurstNotEmpty = Each BurstAt bothWidths
 
 -- ---- A place lies inside the caller's memory: whatever stands in the words, and whatever size, number and length are asked for.
 
@@ -128,7 +135,7 @@ pub data FetchesFromC (d : Desk) (r : Report) : List Delivery → Type 0 where
 pub data ReadsFromC : Desk → List (List ℕ) → List Delivery → Type 0 where
   no-more : {d : Desk} → ReadsFromC d [] []
   one-more : {d next : Desk} {p : List ℕ} {ps : List (List ℕ)} {fetched ds : List Delivery} (r : Report) (given : List ℕ)
-      → responseSize ≤ length given
+      → responseSize (idsIn (stateOn d)) ≤ length given
       → ReadFromCPromise (lent (withResponse d given) p) r next
       → FetchesFromC next r fetched
       → ReadsFromC next ps ds
@@ -142,7 +149,7 @@ pub record SetUpFromC (setup : Setup) (d : Desk) : Type 0 where
   pub device-ID : setup .device < 65536
   pub before : List ℕ
   pub answer : Numbers
-  pub promised : SetupFromCPromise before (setup .device) (setup .mtu) (setup .room) answer (d .words)
+  pub promised : SetupFromCPromise before setup answer (d .words)
   pub ready : answer .kind ≡ readyKind
   pub lends : Lends setup d
 
@@ -150,7 +157,7 @@ pub record SetUpFromC (setup : Setup) (d : Desk) : Type 0 where
 pub data WritesFromC (setup : Setup) (flow : Flow) (s : Sent) : (k n : ℕ) → List (List ℕ) → Type 0 where
   no-segment : {k : ℕ} → WritesFromC setup flow s k zero []
   one-segment : {k n : ℕ} {ps : List (List ℕ)} (out left : List ℕ) (answer : Numbers)
-      → WriteFromCPromise out (headingFor (setup .device) flow s k) (setup .mtu) (s .pdu .bytes) k answer left
+      → WriteFromCPromise out (headingFor setup flow s k) (setup .mtu) (s .pdu .bytes) k answer left
       → answer .kind ≡ writtenKind
       → WritesFromC setup flow s (suc k) n ps
       → WritesFromC setup flow s k (suc n) (take (answer .number) left ∷ ps)
@@ -164,7 +171,7 @@ abbrev pub Demand2FromC : Type 0
 Demand2FromC =
     (setup : Setup) (d : Desk) (flow : Flow) (s : Sent) (count : ℕ) (ps : List (List ℕ)) (ds : List Delivery)
     → SetUpFromC setup d
-    → flow .source < 65536 → flow .cos < 256 → FairPDU (setup .room) s
+    → flow .source < 256 ^ idsOf setup → flow .cos < 256 → FairPDU (setup .room) s
     → CountPromise (setup .mtu) (length (s .pdu .bytes)) count → WritesFromC setup flow s 0 count ps
     → ReadsFromC d ps ds
     → ds ≡ delivery flow (s .pdu) ∷ []
@@ -178,11 +185,11 @@ Demand3FromC =
     → ds ≡ whole setup s
 
 -- the calls can be made: setup says ready at a desk whose memories are zeros; at any desk there are calls for any packets; and every PDU that a room
--- holds can be written
+-- holds can be written, from a source that 47 passes
 pub record CallsFromCNotEmpty : Type 0 where
   pub sets-up : (setup : Setup) → Allowed setup → SetUpFromC setup (zeroDesk setup)
   pub reads : (d : Desk) (ps : List (List ℕ)) → (ds : List Delivery) × ReadsFromC d ps ds
-  pub writes : (setup : Setup) (flow : Flow) (s : Sent) (count : ℕ) → Allowed setup → FairPDU (setup .room) s
+  pub writes : (setup : Setup) (flow : Flow) (s : Sent) (count : ℕ) → Allowed setup → tooWide (setup .narrow) (flow .source) ≡ false → FairPDU (setup .room) s
       → CountPromise (setup .mtu) (length (s .pdu .bytes)) count
       → (ps : List (List ℕ)) × WritesFromC setup flow s 0 count ps
 
@@ -256,7 +263,8 @@ pub data Bursts : Desk → List ℕ → List Delivery → Type 0 where
 
 -- such calls can be made, over the packets of that sending; and these deliver what is whole of it
 abbrev pub PausedBurstsNotEmpty : Type 0
-PausedBurstsNotEmpty = Bursts (zeroDesk smallSetup) (writtenLog (packets smallSetup mixture)) (whole smallSetup mixture)
+PausedBurstsNotEmpty =
+    Each (λ (narrow : ℕ). Bursts (zeroDesk (smallSetup narrow)) (writtenLog (packets (smallSetup narrow) (mixture narrow))) (whole (smallSetup narrow) (mixture narrow))) bothWidths
 
 -- over a burst of written records these are calls for each packet
 abbrev pub PausedBurstsAreReads : Type 0
@@ -272,7 +280,7 @@ Demand3OfPausedBursts =
 -- ---- Determinism: any two outcomes that a promise allows are one, in the answer and in everything lent.
 
 abbrev pub SetupFromCOnce : Type 0
-SetupFromCOnce = (words : List ℕ) (device mtu room : ℕ) → OneOutcome (λ (y : Outcome Numbers (List ℕ)). SetupFromCPromise words device mtu room (y .answer) (y .after))
+SetupFromCOnce = (words : List ℕ) (settings : Setup) → OneOutcome (λ (y : Outcome Numbers (List ℕ)). SetupFromCPromise words settings (y .answer) (y .after))
 
 abbrev pub ReadFromCOnce : Type 0
 ReadFromCOnce = Once (λ (x : Lent) (y : Outcome Report Desk). ReadFromCPromise x (y .answer) (y .after))

@@ -17,12 +17,13 @@ use Rattle.wire.specs.declared.Flow.{Flow}
 use Rattle.wire.specs.Packet.{header}
 use Rattle.wire.specs.Head.{is9, is11, headRows}
 use Rattle.wire.specs.declared.MessageSegment.{MessageSegment}
-use Rattle.wire.specs.Type11.{messageOf, isSingle, isLast, mailbox}
+use Rattle.wire.specs.Type11.{messageDataFrom, messageOf, isSingle, isLast, mailbox}
 use Rattle.sizes.specs.Sizes.{bytesOf, inEights}
 use Rattle.sizes.proofs.Laws.{bytes-le}
 use Rattle.rules.specs.Messages.{reservedSize, badLength, formRows, lastWith}
 use Rattle.rules.proofs.Laws.{raw-le, last-with-le}
-use Rattle.contexts.specs.State.{Setup, State, freeMessage, messageIn, messageContext}
+use Rattle.wire.specs.declared.Setup.{Setup}
+use Rattle.contexts.specs.State.{State, idsIn, freeMessage, messageIn, messageContext}
 use Rattle.contexts.proofs.Words.{eight}
 use Rattle.refusal19.proofs.Good.{good, message-found}
 use Rattle.stream_rooms.specs.Placing as placing
@@ -85,7 +86,7 @@ record InBox (j : boxes.MessageJoined) : Type 0 where
   size-kept : length (j .memory) ≡ 32768
   delivers : (context source letter box size : ℕ) → j .says ≡ answers.message context source letter box size → (context < 8) × (1 ≤ size) × (size ≤ 4096)
 
-module _ (x : Lent) (passed : none (table x)) (eleven : is11 (x .packet) ≡ true) (small : getD (x .packet) header 0 < 256) where
+module _ (x : Lent) (passed : none (table x)) (eleven : is11 (x .packet) ≡ true) (small : getD (x .packet) (header (idsIn (stateIn x))) 0 < 256) where
   abbrev s : State
   s = stateIn x
 
@@ -103,9 +104,9 @@ module _ (x : Lent) (passed : none (table x)) (eleven : is11 (x .packet) ≡ tru
   unfolding messageOf
   few = (omega (arith, small), omega arith)
 
-  data-length : length (boxes.messageData (x .packet)) ≡ m .raw
+  data-length : length (boxes.messageData (idsIn s) (x .packet)) ≡ m .raw
   unfolding messageOf
-  data-length = length-drop 7 (x .packet)
+  data-length = length-drop (messageDataFrom (idsIn s)) (x .packet)
 
   row-20 : reservedSize m ≡ false
   unfolding table lentRows headRows given streamRows messageRows formRows
@@ -128,7 +129,7 @@ module _ (x : Lent) (passed : none (table x)) (eleven : is11 (x .packet) ≡ tru
   alone-in : (n : ℕ) → n < 8 → InBox (message.deliveredAtOnce s memory (x .desk .response) (x .packet) m n)
   unfolding message.deliveredAtOnce
   alone-in n below = record {
-    size-kept = length-written memory (boxes.messageData (x .packet)) (n * 4096) (omega (arith, data-length, row-21, bytes-le (m .ssize), size-is)) ∙ size-is;
+    size-kept = length-written memory (boxes.messageData (idsIn s) (x .packet)) (n * 4096) (omega (arith, data-length, row-21, bytes-le (m .ssize), size-is)) ∙ size-is;
     delivers = λ context source letter box size e.
         let same-context : n ≡ context = cc in
         let same-size : m .raw ≡ size = cc in
@@ -139,7 +140,7 @@ module _ (x : Lent) (passed : none (table x)) (eleven : is11 (x .packet) ≡ tru
   unfolding boxes.messagePlaced
   placed-in n marks last several below short = record {
     size-kept =
-        length-written memory (boxes.messageData (x .packet)) (n * 4096 + m .msgseg * bytesOf (m .ssize))
+        length-written memory (boxes.messageData (idsIn s) (x .packet)) (n * 4096 + m .msgseg * bytesOf (m .ssize))
         (omega (arith, data-length, size-is, segment-ends n (m .msgseg) (bytesOf (m .ssize)) (m .raw) below (few .1) (bytes-le (m .ssize)) row-21)) ∙ size-is;
     delivers = λ context source letter box size. go (boxes.complete m (boxes.marksWith m marks)) context source letter box size;
   }
@@ -201,7 +202,7 @@ module _ (x : Lent) (passed : none (table x)) (eleven : is11 (x .packet) ≡ tru
         within = ends .2;
       }
 
-pub delivers-message : (x : Lent) (context source letter box size : ℕ) → getD (x .packet) header 0 < 256 → reading x .says ≡ answers.message context source letter box size
+pub delivers-message : (x : Lent) (context source letter box size : ℕ) → getD (x .packet) (header (idsIn (stateIn x))) 0 < 256 → reading x .says ≡ answers.message context source letter box size
     → Delivers 8 4096 (reading x) context size
 unfolding reading
 delivers-message x context source letter box size small = by-verdict (verdict (table x)) refl

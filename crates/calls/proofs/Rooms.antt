@@ -48,6 +48,6 @@ room-of-delivered = record {
       let within : size ≤ stateOn (after d p) .setup .room = rw (room-kept (lent d p)) (left .within) in
       gives (streamRoom (after d p .words)) (left .fit .rooms) (left .below) (left .some-byte) within (stream-asked (after d p) (left .fit) context size (left .below) within);
   of-message = λ d p context source letter mailbox size bytes e.
-      let left = delivers-message (lent d p) context source letter mailbox size (bytes 5) e in
+      let left = delivers-message (lent d p) context source letter mailbox size (bytes _) e in
       gives (messageRoom (after d p .words)) (left .fit .boxes) (left .below) (left .some-byte) (left .within) (message-asked (after d p) (left .fit) context size (left .below) (left .within));
 }

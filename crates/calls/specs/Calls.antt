@@ -8,7 +8,8 @@ use Rattle.answers.specs.declared.Reading.{Reading}
 use Rattle.answers.specs.Answers.{Said, held, delivered, message, refused, said}
 use Rattle.wire.specs.declared.Flow.{Flow}
 use Rattle.responses.specs.Type13.{responseSize}
-use Rattle.reading.specs.Desk.{Desk, withResponse}
+use Rattle.contexts.specs.State.{idsIn}
+use Rattle.reading.specs.Desk.{Desk, stateOn, withResponse}
 use Rattle.reading.specs.Table.{lent}
 use Rattle.reading.specs.Read.{ReadPromise}
 use Rattle.room_parts.specs.Parts.{StreamRoomPromise}
@@ -29,7 +30,7 @@ pub data Fetches (d : Desk) : Said → List Delivery → Type 0 where
 -- each outcome one that its promise allows; and after it what the caller fetches. The desk's own response buffer is lent only where the caller does so
 pub data Reads : Desk → List (List ℕ) → List Delivery → Type 0 where
   stop : {d : Desk} → Reads d [] []
-  call : {d next : Desk} {p : List ℕ} {ps : List (List ℕ)} {fetched ds : List Delivery} (r : Reading) (given : List ℕ) → responseSize ≤ length given
+  call : {d next : Desk} {p : List ℕ} {ps : List (List ℕ)} {fetched ds : List Delivery} (r : Reading) (given : List ℕ) → responseSize (idsIn (stateOn d)) ≤ length given
       → ReadPromise (lent (withResponse d given) p) r next
       → Fetches next (said (r .answer)) fetched
       → Reads next ps ds
@@ -41,4 +42,4 @@ FetchedIsDelivered = (d : Desk) (p : List ℕ) (fetched : List Delivery) → Fet
 
 -- so the calls deliver what the definitions do, and the response buffers decide nothing
 abbrev pub CallsDeliver : Type 0
-CallsDeliver = (d : Desk) (ps : List (List ℕ)) (ds : List Delivery) → responseSize ≤ length (d .response) → Reads d ps ds → ds ≡ deliveries d ps
+CallsDeliver = (d : Desk) (ps : List (List ℕ)) (ds : List Delivery) → responseSize (idsIn (stateOn d)) ≤ length (d .response) → Reads d ps ds → ds ≡ deliveries d ps

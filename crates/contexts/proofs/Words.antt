@@ -13,7 +13,8 @@ use Rattle.lists.proofs.Rows.{Rowed, readAt, read-is, writeAt, write-is, write-
 use Rattle.lists.proofs.Rows.{record-put, records-before, records-behind, row-again, records-words, words-records, length-joined}
 use Rattle.contexts.specs.declared.StreamContext.{StreamContext}
 use Rattle.contexts.specs.declared.MessageContext.{MessageContext}
-use Rattle.contexts.specs.State.{Setup, State, fixed, fresh, streamContexts, messageContexts, streamIn, messageIn, withStream, withMessage}
+use Rattle.wire.specs.declared.Setup.{Setup}
+use Rattle.contexts.specs.State.{State, fixed, fresh, streamContexts, messageContexts, streamIn, messageIn, withStream, withMessage}
 use Rattle.contexts.specs.State.{holding}
 use Rattle.contexts.specs.Words.{stateOf, wordsOf, stateWords, headWords, streamWords, messageWords, firstStream}
 use Rattle.contexts.specs.Words.{firstMessage, setupFrom, wordsOfSetup, streamFrom, wordsOfStream, messageFrom, wordsOfMessage}

@@ -6,6 +6,8 @@ use lib.ListN.{getD, set, replicate}
 use lib.Dec.{eqb}
 use Rattle.lists.specs.First.{firstOf}
 use Rattle.wire.specs.declared.Flow.{Flow}
+use Rattle.wire.specs.declared.Setup.{Setup}
+use Rattle.wire.specs.Packet.{idsOf}
 use Rattle.wire.specs.Type9.{sameFlow}
 use Rattle.contexts.specs.declared.StreamContext.{StreamContext}
 use Rattle.contexts.specs.declared.MessageContext.{MessageContext}
@@ -17,16 +19,9 @@ streamContexts = 16
 abbrev pub messageContexts : ℕ
 messageContexts = 8
 
--- what setup fixed
-pub record Setup : Type 0 where
-  -- our device ID
-  pub device : ℕ
-  pub mtu : ℕ
-  -- R, the bytes of a stream context's room
-  pub room : ℕ
-
-abbrev pub fixed : (device mtu room : ℕ) → Setup
-fixed device mtu room = record { device = device; mtu = mtu; room = room }
+-- what setup fixed: our device ID, the MTU, R (the bytes of a stream context's room), and the width of an ID (0 is 16 bits, any other is 8 bits)
+abbrev pub fixed : (device mtu room narrow : ℕ) → Setup
+fixed device mtu room narrow = record { device = device; mtu = mtu; room = room; narrow = narrow }
 
 pub record State : Type 0 where
   pub setup : Setup
@@ -34,6 +29,10 @@ pub record State : Type 0 where
   pub streams : List StreamContext
   -- messageContexts of them
   pub messages : List MessageContext
+
+-- the bytes of an ID
+abbrev pub idsIn : State → ℕ
+idsIn s = idsOf (s .setup)
 
 -- a context with all its fields 0
 abbrev pub closedStream : StreamContext

@@ -4,7 +4,8 @@ use Prim.Native.Nat.{ℕ, _+_, _*_}
 use mathlib.Core.List.{List, [], _∷_, _++_, map}
 use lib.ListN.{length, getD, take}
 use Rattle.lists.specs.Rows.{joined, recordsAt}
-use Rattle.contexts.specs.State.{Setup, State, fixed, closedStream, closedMessage, streamContexts, messageContexts}
+use Rattle.wire.specs.declared.Setup.{Setup}
+use Rattle.contexts.specs.State.{State, fixed, closedStream, closedMessage, streamContexts, messageContexts}
 use Rattle.contexts.specs.declared.StreamContext.{StreamContext}
 use Rattle.contexts.specs.declared.MessageContext.{MessageContext}
 
@@ -12,10 +13,10 @@ use Rattle.contexts.specs.declared.MessageContext.{MessageContext}
 
 -- the head: what setup fixed
 abbrev pub wordsOfSetup : Setup → List ℕ
-wordsOfSetup s = s .device ∷ s .mtu ∷ s .room ∷ []
+wordsOfSetup s = s .device ∷ s .mtu ∷ s .room ∷ s .narrow ∷ []
 
 abbrev pub setupFrom : List ℕ → Setup
-setupFrom w = fixed (getD w 0 0) (getD w 1 0) (getD w 2 0)
+setupFrom w = fixed (getD w 0 0) (getD w 1 0) (getD w 2 0) (getD w 3 0)
 
 -- a stream context
 abbrev pub wordsOfStream : StreamContext → List ℕ
@@ -47,7 +48,7 @@ messageFrom w = record {
 
 -- ---- how many words each part has, and where it begins
 abbrev pub headWords : ℕ
-headWords = length (wordsOfSetup (fixed 0 0 0))
+headWords = length (wordsOfSetup (fixed 0 0 0 0))
 
 abbrev pub streamWords : ℕ
 streamWords = length (wordsOfStream closedStream)

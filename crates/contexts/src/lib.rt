@@ -1,6 +1,7 @@
 // The endpoint's state in words that the caller lends: where its words lie, what setup fixed, and a state made anew. The contexts are read and
 // written by stream_contexts and message_contexts. No packet is known here. Every caller has tested that the state is WORDS words long.
 use wire::Flow;
+use wire::Setup;
 ghost use mathlib.Core.Path.{_≡_};
 ghost use lib.ListN.{length, replicate};
 ghost use Rattle.contexts.specs.State.{fixed, fresh};
@@ -18,7 +19,9 @@ const OWN_MTU: usize = 1;
 
 const OWN_ROOM: usize = 2;
 
-const HEAD_WORDS: usize = 3;
+const OWN_NARROW: usize = 3;
+
+const HEAD_WORDS: usize = 4;
 
 // The words of a stream context, in their order.
 pub const LIVE: usize = 0;
@@ -99,6 +102,14 @@ pub fn room(state: &[usize]) -> usize
     state[OWN_ROOM]
 }
 
+// The width of an ID: 0 is 16 bits, any other word is 8 bits.
+pub fn narrow(state: &[usize]) -> usize
+    requires { ⌜ length (now state) ≡ stateWords ⌝ }
+    ensures { λ r. ⌜ r ≡ stateOf (now (state .entry)) .setup .narrow ⌝ }
+{
+    state[OWN_NARROW]
+}
+
 // A state of zeros.
 pub fn clear(state: &mut [usize])
     ensures { λ _. ⌜ now (state .exit) ≡ replicate (length (now (state .entry))) 0 ⌝ }
@@ -111,12 +122,13 @@ pub fn clear(state: &mut [usize])
 }
 
 // A state as setup makes it.
-pub fn begin(state: &mut [usize], device: usize, mtu: usize, room: usize)
+pub fn begin(state: &mut [usize], setup: Setup)
     requires { ⌜ length (now state) ≡ stateWords ⌝ }
-    ensures { λ _. ⌜ now (state .exit) ≡ wordsOf (fresh (fixed device mtu room)) ⌝ }
+    ensures { λ _. ⌜ now (state .exit) ≡ wordsOf (fresh setup) ⌝ }
 {
     clear(state);
-    state[OWN_ID] = device;
-    state[OWN_MTU] = mtu;
-    state[OWN_ROOM] = room;
+    state[OWN_ID] = setup.device as usize;
+    state[OWN_MTU] = setup.mtu;
+    state[OWN_ROOM] = setup.room;
+    state[OWN_NARROW] = setup.narrow;
 }

@@ -1,1 +1,2 @@
 pub mod Pad
+pub mod Packet

@@ -15,6 +15,8 @@ pub struct Heading {
     pub stream: u16,
     pub cos: u8,
     pub priority: u8,
+    // 0: IDs of 16 bits; any other number: of 8
+    pub narrow: usize,
 }
 
 // Whether a PDU of that length has no bytes or over 65,536.
@@ -47,13 +49,12 @@ pub fn data_length(mtu: usize, size: usize, from: usize) -> usize
     size - from
 }
 
-// Writes the head, the data, and behind an odd number of data bytes a pad byte. Every caller has room for them.
-pub fn put(out: &mut [u8], head: &[u8], bytes: &[u8])
-    requires { ⌜ length (now head) + length (now bytes) + length (now bytes) % 2 ≤ length (now out) ⌝ }
-    ensures { λ _. ⌜ now (out .exit) ≡ written (now (out .entry)) 0 (now (head .entry) ++ now (bytes .entry) ++ padOf (length (now (bytes .entry)))) ⌝ }
+// Writes the data from `at` on, and behind an odd number of them a pad byte. Every caller has room for them.
+pub fn put(out: &mut [u8], at: usize, bytes: &[u8])
+    requires { ⌜ at + length (now bytes) + length (now bytes) % 2 ≤ length (now out) ⌝ }
+    ensures { λ _. ⌜ now (out .exit) ≡ written (now (out .entry)) at (now (bytes .entry) ++ padOf (length (now (bytes .entry)))) ⌝ }
 {
     let pad = [0];
-    lists::copy(out, head);
-    lists::store(out, head.len(), bytes);
-    lists::store(out, head.len() + bytes.len(), &pad[..bytes.len() % 2]);
+    lists::store(out, at, bytes);
+    lists::store(out, at + bytes.len(), &pad[..bytes.len() % 2]);
 }

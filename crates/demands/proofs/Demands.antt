@@ -9,7 +9,9 @@ use Rattle.answers.specs.Answers.{Said}
 use Rattle.wire.specs.declared.Flow.{Flow}
 use Rattle.sizes.proofs.Laws.{mtu-fits}
 use Rattle.refusal19.specs.Refusal19.{badRoom}
-use Rattle.contexts.specs.State.{Setup}
+use Rattle.wire.specs.declared.Setup.{Setup}
+use Rattle.wire.specs.Packet.{idsOf}
+use Rattle.responses.specs.Type13.{responseSize}
 use Rattle.reading.specs.Desk.{Desk, stateOn}
 use Rattle.flows.specs.OneFlow.{pdu}
 use Rattle.flows.specs.Deliveries.{read, delivery, deliveredBy, deliveredOn, deliveries}
@@ -25,6 +27,7 @@ use Rattle.sending.proofs.Joint.{joint-delivered}
 use Rattle.sending.proofs.Untold.{packetsFrom}
 use Rattle.demands.specs.Demands.{OursMeets, OurWriterMeets, FreshDeliversWhole}
 use Rattle.demands.specs.OfCalls.{Corollary3}
+use Rattle.demands.proofs.Widths.{fits-width}
 use Rattle.demands.proofs.Writing.{ours-writes}
 use Rattle.demands.proofs.Wider.{widest, same-packets, same-whole, wider}
 
@@ -64,7 +67,7 @@ one-PDU setup flow s d f ranges fair =
 
 pub our-writer-meets : OurWriterMeets
 our-writer-meets setup flow s d outs f ranges fair long =
-    ap (deliveries d) (ours-writes setup flow s (f .allowed) fair outs long (packetCount (setup .mtu) s) 0 (omega arith)) ∙ one-PDU setup flow s d f ranges fair
+    ap (deliveries d) (ours-writes setup flow s (f .allowed) (fits-width (setup .narrow) (flow .source) (ranges .source)) fair outs long (packetCount (setup .mtu) s) 0 (omega arith)) ∙ one-PDU setup flow s d f ranges fair
 
 -- ---- Demand 3, stronger, and its corollary
 
@@ -76,7 +79,7 @@ pub zeros-fresh : (setup : Setup) → Allowed setup → Fresh setup (zeroDesk se
 zeros-fresh setup allowed = record {
   allowed = allowed;
   words = refl;
-  lends = record { rooms = length-replicate {A = ℕ} (16 * setup .room) 0; boxes = length-replicate {A = ℕ} 32768 0; reply = omega (arith, length-replicate {A = ℕ} 7 0) };
+  lends = record { rooms = length-replicate {A = ℕ} (16 * setup .room) 0; boxes = length-replicate {A = ℕ} 32768 0; reply = omega (arith, length-replicate {A = ℕ} (responseSize (idsOf setup)) 0) };
 }
 
 -- the largest R asks no more of a sending, and holds every MTU

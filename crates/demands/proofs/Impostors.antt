@@ -12,11 +12,14 @@ use Rattle.lists.proofs.Below.{below, below-at}
 use Rattle.answers.specs.Answers.{Said, held, delivered, message, refused, WriterSaid, wrote, writeRefused}
 use Rattle.wire.specs.declared.Flow.{Flow}
 use Rattle.tables.specs.Refusals.{all, refuse, verdict}
+use Rattle.lists.specs.Bytes.{number}
+use Rattle.wire.specs.Packet.{header, idBytes}
 use Rattle.wire.specs.Head.{headRows}
 use Rattle.wire.specs.Parsed.{parsedBy, parsed}
 use Rattle.sizes.specs.Sizes.{badMTU}
 use Rattle.refusal19.specs.Refusal19.{badRoom}
-use Rattle.contexts.specs.State.{Setup, fixed}
+use Rattle.wire.specs.declared.Setup.{Setup}
+use Rattle.contexts.specs.State.{fixed}
 use Rattle.reading.specs.Desk.{Desk, stateOn}
 use Rattle.cutting.specs.Cutting.{segmentCount}
 use Rattle.flows.specs.OneFlow.{pdu}
@@ -37,10 +40,10 @@ use Rattle.demands.proofs.Demands.{ours-meets, our-writer-meets, zeros-
 -- ---- Two PDUs of 40 bytes, each of a start and an end, sent whole from source 2 to a fresh desk. MTU 32, R 96
 
 abbrev here : Setup
-here = fixed 1 32 96
+here = fixed 1 32 96 0
 
 here-allowed : Allowed here
-unfolding badMTU badRoom
+unfolding idBytes badMTU badRoom
 here-allowed = record { device-ID = omega arith; allowed-MTU = refl; allowed-R = refl }
 
 here-fresh : Fresh here (zeroDesk here)
@@ -50,6 +53,7 @@ abbrev from2 : Flow
 from2 = sourceOf 2
 
 here-ranges : Ranges here from2
+unfolding idBytes
 here-ranges = record { allowed = here-allowed; source = omega arith; cos = omega arith }
 
 abbrev alone : ℕ → List ℕ → Sent
@@ -213,7 +217,7 @@ keeps joint =
 -- ---- A writer that does nothing: a buffer of zeros is no segment, however long the writer says the packet is
 
 zeros-refused : (says : WriterSaid) (n : ℕ) → isFairTurn here (between (standsIn says (replicate n 0))) ≡ true
-unfolding isFairTurn isSegment below parsed headRows verdict
+unfolding idBytes number isFairTurn isSegment below parsed headRows verdict
 zeros-refused (writeRefused number) n = refl
 zeros-refused (wrote size) n = go size n
   where
@@ -225,10 +229,10 @@ zeros-refused (wrote size) n = go size n
     go : (size n : ℕ) → isFairTurn here (between (take size (replicate n 0))) ≡ true
     go zero n = refl
     go (suc size) zero = refl
-    go (suc size) (suc n) = rw (zeros-below size n) (by-length (ltb (suc (length {A = ℕ} (take size (replicate n 0)))) 5))
+    go (suc size) (suc n) = rw (zeros-below size n) (by-length (ltb (suc (length {A = ℕ} (take size (replicate n 0)))) (header 2)))
       where
         -- row 1, or row 2: tt is not 01
-        by-length : (short : Bool) → (not (isSegment (parsedBy (0 ∷ take size (replicate n 0)) (cond short (refuse 1 all) (refuse 2 all)))) && true) ≡ true
+        by-length : (short : Bool) → (not (isSegment (parsedBy 2 (0 ∷ take size (replicate n 0)) (cond short (refuse 1 all) (refuse 2 all)))) && true) ≡ true
         by-length true = refl
         by-length false = refl
 
@@ -255,11 +259,11 @@ zeros k = replicate (length (packetAt here from2 single k)) 0
 idle : (w : Writer) → Idle w → Demand2OfWriter w → ⊥
 unfolding segmentCount
 idle w does-nothing demand =
-    let x : Wrote = w (zeros 0) (headingFor 1 from2 single 0) 32 (single .pdu .bytes) 0 in
+    let x : Wrote = w (zeros 0) (headingFor here from2 single 0) 32 (single .pdu .bytes) 0 in
     let n : ℕ = length (packetAt here from2 single 0) in
     let wanted : deliveries (zeroDesk here) (standsIn (x .says) (x .out) ∷ []) ≡ delivery from2 (single .pdu) ∷ [] =
     demand here from2 single (zeroDesk here) zeros here-fresh here-ranges fair-single (λ k. omega (arith, length-replicate {A = ℕ} (length (packetAt here from2 single k)) 0)) in
-    let as-it-was : x .out ≡ zeros 0 = does-nothing (zeros 0) (headingFor 1 from2 single 0) 32 (single .pdu .bytes) 0 in
+    let as-it-was : x .out ≡ zeros 0 = does-nothing (zeros 0) (headingFor here from2 single 0) 32 (single .pdu .bytes) 0 in
     let gets : deliveries (zeroDesk here) (standsIn (x .says) (zeros 0) ∷ []) ≡ [] = ours-meets .demand3 here (zeroDesk here) (sent-zeros (x .says) n) here-fresh (fair-zeros (x .says) n) in
     let z : _≡_ {A = ℕ} 0 1 = ap length (sym gets ∙ (ap (λ (out : List ℕ). deliveries (zeroDesk here) (standsIn (x .says) out ∷ [])) (sym as-it-was) ∙ wanted)) in
     omega arith

@@ -5,7 +5,9 @@ use mathlib.Core.List.{List, [], _∷_, _++_}
 use native.Mathlib.Omega.{arith}
 use Rattle.lists.specs.Each.{Each}
 use Rattle.wire.specs.declared.Flow.{Flow}
-use Rattle.contexts.specs.State.{Setup, fixed}
+use Rattle.wire.specs.declared.Setup.{Setup}
+use Rattle.wire.specs.Parsed.{parsed}
+use Rattle.contexts.specs.State.{fixed}
 use Rattle.sending.specs.Sending.{Sent, packetCount, Put, putOf, putsFrom, flowPuts, FlowSent, Turn, Sending, sentOn, events, queues, packetsLeft, wholes, packets, whole}
 use Rattle.sending.specs.Sending.{FairPDU, FairFlow, FairTurn, Fair}
 
@@ -14,9 +16,9 @@ each P Q f [] e = tt
 each P Q f (x ∷ xs) e = (f x (e .0), each P Q f xs (e .1))
 
 module _ (setup : Setup) where
-  -- the same device and MTU, and the largest R
+  -- the same device, MTU and width, and the largest R
   abbrev pub widest : Setup
-  widest = fixed (setup .device) (setup .mtu) 65536
+  widest = fixed (setup .device) (setup .mtu) 65536 (setup .narrow)
 
   puts-same : (flow : Flow) (s : Sent) (n k : ℕ) → putsFrom widest flow s k n ≡ putsFrom setup flow s k n
   unfolding putOf
@@ -44,6 +46,7 @@ module _ (setup : Setup) where
     wider-flow x f = record { source = f .source; cos = f .cos; PDUs = each (FairPDU (setup .room)) (FairPDU 65536) wider-PDU (x .sent) (f .PDUs) }
 
     wider-turn : (t : Turn) → FairTurn setup t → FairTurn widest t
+    unfolding parsed
     wider-turn (Turn.next flow) f = f
     wider-turn (Turn.between p) f = f
 

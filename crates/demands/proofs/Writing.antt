@@ -13,10 +13,12 @@ use Rattle.answers.specs.declared.Written.the-variants.{Length}
 use Rattle.answers.specs.Answers.{wrote, writeRefused}
 use Rattle.tables.specs.Refusals.{Verdict, refuse, accept, verdict}
 use Rattle.wire.specs.declared.Flow.{Flow}
+use Rattle.wire.specs.Packet.{tooWide}
 use Rattle.sizes.specs.Sizes.{badMTU}
 use Rattle.refusal19.proofs.Good.{good}
 use Rattle.refusal19.proofs.Kept.{fresh-good}
-use Rattle.contexts.specs.State.{Setup, fresh}
+use Rattle.wire.specs.declared.Setup.{Setup}
+use Rattle.contexts.specs.State.{fresh}
 use Rattle.cutting.specs.declared.Heading.{Heading}
 use Rattle.cutting.specs.Cutting.{badSize, segmentCount, packetOf}
 use Rattle.writing.specs.Writer.{Wrote, wroteOf, writerTable, writing, wroteBy, countToWrite, WritePromise}
@@ -26,6 +28,7 @@ use Rattle.sending.specs.OfSendings.{packetAt}
 use Rattle.sending.proofs.Untold.{packetsFrom}
 use Rattle.demands.specs.Writes.{Writes, written-all, write}
 use Rattle.demands.specs.Demands.{standsIn, writtenBy}
+use Rattle.demands.proofs.Widths.{fits-width}
 
 -- a packet that is written into a buffer stands in its first bytes
 in-front : (out packet : List ℕ) → take (length packet) (written out 0 packet) ≡ packet
@@ -58,10 +61,10 @@ module _ (setup : Setup) (flow : Flow) (s : Sent) where
   pub calls-write : {k n : ℕ} {ps : List (List ℕ)} → Writes setup flow s k n ps → ps ≡ packetsFrom setup flow s k n
   calls-write written-all = refl
   calls-write {k = k} (write out left size promise rest) =
-      ap₂ (λ (p : List ℕ) (ps : List (List ℕ)). p ∷ ps) (wrote-packet out (headingFor (setup .device) flow s k) (setup .mtu) (s .pdu .bytes) k size left promise) (calls-write rest)
+      ap₂ (λ (p : List ℕ) (ps : List (List ℕ)). p ∷ ps) (wrote-packet out (headingFor setup flow s k) (setup .mtu) (s .pdu .bytes) k size left promise) (calls-write rest)
 
   -- a PDU that a room holds
-  module _ (allowed : Allowed setup) (fair : FairPDU (setup .room) s) where
+  module _ (allowed : Allowed setup) (source : tooWide (setup .narrow) (flow .source) ≡ false) (fair : FairPDU (setup .room) s) where
     most : length (s .pdu .bytes) ≤ 65536
     most = omega (arith, fair .fits, good (fresh setup) (fresh-good setup (allowed .allowed-MTU) (allowed .allowed-R)) .room)
 
@@ -71,11 +74,13 @@ module _ (setup : Setup) (flow : Flow) (s : Sent) where
     -- a buffer that 16 allows
     pub written-well : (out : List ℕ) (k : ℕ) → k < packetCount (setup .mtu) s → length (packetAt setup flow s k) ≤ length out
         → wroteOf (wrote (length (packetAt setup flow s k))) (written out 0 (packetAt setup flow s k))
-        ≡ writing out (headingFor (setup .device) flow s k) (setup .mtu) (s .pdu .bytes) k
+        ≡ writing out (headingFor setup flow s k) (setup .mtu) (s .pdu .bytes) k
     unfolding writing writerTable verdict badSize
     written-well out k below long =
         let some : length (s .pdu .bytes) ≡ 0 → ⊥ = λ e. omega (arith, fair .some-byte) in
         rw (
+          fits-width (setup .narrow) (setup .device) (allowed .device-ID),
+          source,
           allowed .allowed-MTU,
           le-ltb 3 _ (fair .priorities k),
           ne-eqb (length (s .pdu .bytes)) 0 some,

@@ -7,7 +7,7 @@ use mathlib.Core.Bool.{cond}
 use lib.ListN.{length, take}
 use Rattle.answers.specs.Answers.{WriterSaid, wrote, writeRefused}
 use Rattle.wire.specs.declared.Flow.{Flow}
-use Rattle.contexts.specs.State.{Setup}
+use Rattle.wire.specs.declared.Setup.{Setup}
 use Rattle.reading.specs.Desk.{Desk}
 use Rattle.cutting.specs.declared.Heading.{Heading}
 use Rattle.writing.specs.Writer.{Wrote, writing}
@@ -35,7 +35,7 @@ standsIn (writeRefused number) out = []
 abbrev pub writtenBy : Writer → Setup → Flow → Sent → (outs : ℕ → List ℕ) → (k n : ℕ) → List (List ℕ)
 writtenBy w setup flow s outs k zero = []
 writtenBy w setup flow s outs k (suc n) =
-    let x = w (outs k) (headingFor (setup .device) flow s k) (setup .mtu) (s .pdu .bytes) k in
+    let x = w (outs k) (headingFor setup flow s k) (setup .mtu) (s .pdu .bytes) k in
     standsIn (x .says) (x .out) ∷ writtenBy w setup flow s outs (suc k) n
 
 -- what it writes into buffers that 16 allows, our endpoint reads back

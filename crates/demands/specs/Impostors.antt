@@ -1,16 +1,17 @@
 -- THE IMPOSTORS of document 01 ('How far a promise reaches'): endpoints that keep many a rule and cheat. Each breaks the demand itself that the paper
 -- names; the one that keeps the context after 11 is from 'Easy ways to be wrong', and breaks the joint's statement. Where it can, the statement is of
 -- every endpoint of that kind.
-use Prim.Native.Nat.{ℕ, suc}
+use Prim.Native.Nat.{ℕ, suc, _+_}
 use mathlib.Core.Path.{_≡_}
 use mathlib.Core.List.{List}
-use mathlib.Core.Bool.{cond}
+use mathlib.Core.Bool.{Bool, cond}
 use lib.ListN.{length}
 use lib.Dec.{eqb}
 use Rattle.answers.specs.Answers.{Said, held, delivered, message, refused}
 use Rattle.wire.specs.declared.Flow.{Flow}
+use Rattle.wire.specs.Packet.{tt}
 use Rattle.wire.specs.Type9.{isS}
-use Rattle.contexts.specs.State.{Setup}
+use Rattle.wire.specs.declared.Setup.{Setup}
 use Rattle.reading.specs.Desk.{Desk, withStreams}
 use Rattle.reading.specs.Read.{settled}
 use Rattle.cutting.specs.declared.Heading.{Heading}
@@ -29,16 +30,20 @@ abbrev pub AlwaysTheSame : Endpoint → Said → Type 0
 AlwaysTheSame e same =
     (d : Desk) (p : List ℕ) (context : ℕ) (flow : Flow) (stream size : ℕ) → e d p .says ≡ delivered context flow stream size → e d p .says ≡ same
 
+-- a start or single, with IDs of the width that tt says: 01 is two bytes, 00 one
+abbrev pub isStart : List ℕ → Bool
+isStart p = isS (tt p + 1) p
+
 -- it stores the start and then only moves the count: of the stream memory only a start or single changes anything, as ours does. It may answer what it
 -- likes and leave what it likes in the words
 abbrev pub StoresOnlyStarts : Endpoint → Type 0
-StoresOnlyStarts e = (d : Desk) (p : List ℕ) → e d p .desk .streamMemory ≡ cond (isS p) (after d p .streamMemory) (d .streamMemory)
+StoresOnlyStarts e = (d : Desk) (p : List ℕ) → e d p .desk .streamMemory ≡ cond (isStart p) (after d p .streamMemory) (d .streamMemory)
 
 -- the one of them that answers and counts as ours does
 abbrev pub countMover : Endpoint
 countMover d p =
     settled (read d p .says) (read d p .dropped) (read d p .replied)
-    (withStreams (after d p) (after d p .words) (cond (isS p) (after d p .streamMemory) (d .streamMemory)))
+    (withStreams (after d p) (after d p .words) (cond (isStart p) (after d p .streamMemory) (d .streamMemory)))
 
 -- it invents the length: all is as ours but the length of what is delivered, which it takes from anywhere
 abbrev pub resized : Said → ℕ → Said

@@ -1,5 +1,5 @@
 -- DEMANDS 2 AND 3 OF THE CALLS THAT PEOPLE MAKE. Of calls from C and of bursts: c_promises/specs/OfCalls.antt.
-use Prim.Native.Nat.{ℕ, _≤_, _<_}
+use Prim.Native.Nat.{ℕ, _^_, _≤_, _<_}
 use mathlib.Core.Path.{_≡_}
 use mathlib.Core.List.{List, [], _∷_}
 use mathlib.Core.Bool.{false}
@@ -7,7 +7,8 @@ use lib.ListN.{length}
 use Rattle.answers.specs.declared.Begun.the-variants.{Ready}
 use Rattle.wire.specs.declared.Flow.{Flow}
 use Rattle.sizes.specs.Sizes.{badMTU}
-use Rattle.contexts.specs.State.{Setup}
+use Rattle.wire.specs.declared.Setup.{Setup}
+use Rattle.wire.specs.Packet.{idsOf}
 use Rattle.reading.specs.Desk.{Desk}
 use Rattle.endpoint.specs.Calls.{SetupPromise}
 use Rattle.writing.specs.Writer.{CountPromise}
@@ -18,11 +19,12 @@ use Rattle.sending.specs.OfSendings.{firstTurns}
 use Rattle.calls.specs.Calls.{Reads}
 use Rattle.demands.specs.Writes.{Writes}
 
--- From fresh: `setup` said ready, for a device ID of 16 bits, and left the desk's words; and memories that 12 allows are lent, whatever is in them
+-- From fresh: `setup` said ready, for a device ID in 16 bits (47 has seen to it that it fits its width), and left the desk's words; and memories that
+-- 12 allows are lent, whatever is in them
 pub record SetUp (setup : Setup) (d : Desk) : Type 0 where
   pub device-ID : setup .device < 65536
   pub before : List ℕ
-  pub ready : SetupPromise before (setup .device) (setup .mtu) (setup .room) Ready (d .words)
+  pub ready : SetupPromise before setup Ready (d .words)
   pub lends : Lends setup d
 
 abbrev pub SetUpIsFresh : Type 0
@@ -33,10 +35,10 @@ SetUpIsFresh = (setup : Setup) (d : Desk) → SetUp setup d → Fresh setup d
 abbrev pub Demand2OfCalls : Type 0
 Demand2OfCalls =
     (setup : Setup) (d : Desk) (flow : Flow) (s : Sent) (count : ℕ) (ps : List (List ℕ)) (ds : List Delivery)
-    -- an endpoint of that address and MTU, from fresh
+    -- an endpoint of that address, width and MTU, from fresh
     → SetUp setup d
     -- a PDU that its room holds, with fields in their ranges
-    → flow .source < 65536 → flow .cos < 256 → FairPDU (setup .room) s
+    → flow .source < 256 ^ idsOf setup → flow .cos < 256 → FairPDU (setup .room) s
     -- segments 0 to count-1, each written into any buffer
     → CountPromise (setup .mtu) (length (s .pdu .bytes)) count → Writes setup flow s 0 count ps
     -- read one after the other
@@ -73,5 +75,5 @@ Demand3AnyLoss =
 -- so two sendings that leave the same packets agree on every whole PDU
 abbrev pub Corollary3 : Type 0
 Corollary3 =
-    (setup : Setup) (s s′ : Sending) → setup .device < 65536 → badMTU (setup .mtu) ≡ false → setup .room ≤ 65536
+    (setup : Setup) (s s′ : Sending) → setup .device < 256 ^ idsOf setup → badMTU (setup .mtu) ≡ false → setup .room ≤ 65536
     → Fair setup s → Fair setup s′ → packets setup s ≡ packets setup s′ → whole setup s ≡ whole setup s′

@@ -1,29 +1,34 @@
 -- The premises can be met: there are fresh desks, calls that keep their promises, sendings, and a joint.
-use Prim.Native.Nat.{ℕ}
+use Prim.Native.Nat.{ℕ, _≤_, _<_}
 use mathlib.Core.Path.{_≡_}
 use mathlib.Core.List.{List, [], _∷_}
-use mathlib.Core.Bool.{true}
+use mathlib.Core.Bool.{true, false}
 use lib.ListN.{length}
+use Rattle.lists.specs.Each.{Each}
 use Rattle.wire.specs.declared.Flow.{Flow}
-use Rattle.contexts.specs.State.{Setup}
+use Rattle.wire.specs.declared.Setup.{Setup}
+use Rattle.wire.specs.Packet.{header, tt, ttOf, destination, source, tooWide}
 use Rattle.reading.specs.Desk.{Desk}
+use Rattle.reading.specs.Table.{lentRefusal}
 use Rattle.writing.specs.Writer.{CountPromise}
 use Rattle.flows.specs.OneFlow.{pdu}
 use Rattle.flows.specs.Deliveries.{Delivery}
-use Rattle.flows.specs.Fresh.{Allowed, zeroDesk, paperSetup}
+use Rattle.flows.specs.Fresh.{Allowed, zeroDesk, paperSetupAt}
+use Rattle.flows.specs.Widths.{bothWidths, narrowed}
 use Rattle.flows.specs.Apart.{AtMostSixteenFlows}
 use Rattle.sending.specs.Sending.{Sent, packets, FairPDU}
 use Rattle.sending.specs.Joint.{Pair, isJoint}
-use Rattle.sending.specs.Mixture.{smallSetup, five, six, mixture}
+use Rattle.sending.specs.Mixture.{smallSetup, five, six, letterOne, mixture}
 use Rattle.paper_examples.specs.Table.{sourceOf, firstPDU, secondPDU}
 use Rattle.calls.specs.Calls.{Reads}
 use Rattle.demands.specs.Writes.{Writes}
 use Rattle.demands.specs.OfCalls.{SetUp}
 
--- every PDU that a room holds can be written, by as many calls as `segment_count` says
+-- every PDU that a room holds can be written, from a source that 47 passes, by as many calls as `segment_count` says
 abbrev pub WritesNotEmpty : Type 0
 WritesNotEmpty =
-    (setup : Setup) (flow : Flow) (s : Sent) (count : ℕ) → Allowed setup → FairPDU (setup .room) s → CountPromise (setup .mtu) (length (s .pdu .bytes)) count
+    (setup : Setup) (flow : Flow) (s : Sent) (count : ℕ) → Allowed setup → tooWide (setup .narrow) (flow .source) ≡ false → FairPDU (setup .room) s
+    → CountPromise (setup .mtu) (length (s .pdu .bytes)) count
     → (ps : List (List ℕ)) × Writes setup flow s 0 count ps
 
 -- the calls can be made: setup says ready at a desk whose memories are zeros; at any desk there are calls for any packets; and the writer's
@@ -32,13 +37,14 @@ pub record CallsNotEmpty : Type 0 where
   pub reads : (d : Desk) (ps : List (List ℕ)) → (ds : List Delivery) × Reads d ps ds
   pub writes : WritesNotEmpty
 
--- there are numbers that setup takes
+-- there are numbers that setup takes, with IDs of either width
 abbrev pub AllowedNotEmpty : Type 0
-AllowedNotEmpty = Allowed paperSetup
+AllowedNotEmpty = Each (λ (narrow : ℕ). Allowed (paperSetupAt narrow)) bothWidths
 
 -- there are packets of at most sixteen flows: those that the mixture leaves
 abbrev pub FlowsNotEmpty : Type 0
-FlowsNotEmpty = AtMostSixteenFlows smallSetup (zeroDesk smallSetup) (five ∷ six ∷ []) (packets smallSetup mixture)
+FlowsNotEmpty =
+    Each (λ (narrow : ℕ). AtMostSixteenFlows (smallSetup narrow) (zeroDesk (smallSetup narrow)) (five ∷ six ∷ []) (packets (smallSetup narrow) (mixture narrow))) bothWidths
 
 -- example 9: two PDUs of 40 bytes, the first without its end, the second without its start
 abbrev pub endLost : Sent
@@ -48,6 +54,19 @@ abbrev pub startLost : Sent
 startLost = record { pdu = pdu 8 secondPDU; lost = 0 ∷ []; priorities = [] }
 
 -- they are such a pair, and a joint
-pub record JointNotEmpty : Type 0 where
-  pub pair : Pair paperSetup (sourceOf 2) endLost startLost
-  pub joint : isJoint (paperSetup .mtu) endLost startLost ≡ true
+pub record JointAt (narrow : ℕ) : Type 0 where
+  pub pair : Pair (paperSetupAt narrow) (sourceOf 2) endLost startLost
+  pub joint : isJoint (paperSetupAt narrow .mtu) endLost startLost ≡ true
+
+abbrev pub JointNotEmpty : Type 0
+JointNotEmpty = Each JointAt bothWidths
+
+-- the paper's message with IDs of 16 bits: at a desk of that width it can be told from the same with IDs of 8, and there it is refused (flows/specs/Widths.antt)
+pub record WidthsNotEmpty : Type 0 where
+  -- desks of both widths, with nothing that rows 19 and 12 refuse
+  pub lent-well : Each (λ (narrow : ℕ). lentRefusal (zeroDesk (paperSetupAt narrow)) ≡ 0) bothWidths
+  -- it has the tt of 16 bits, IDs below 256, and bytes enough at either width
+  pub of-16 : tt letterOne ≡ ttOf 2
+  pub of-8 : tt (narrowed letterOne) ≡ ttOf 1
+  pub small : (destination 2 letterOne < 256) × (source 2 letterOne < 256)
+  pub long : (header 2 ≤ length letterOne) × (header 2 ≤ length (narrowed letterOne))

@@ -7,6 +7,7 @@ pub use asking::message_context;
 pub use asking::stream_context;
 pub use room_parts::message_room;
 pub use room_parts::stream_room;
+pub use wire::Setup;
 ghost use Rattle.reading.specs.Desk.{desk};
 ghost use Rattle.reading.specs.Table.{lent};
 ghost use Rattle.reading.specs.Read.{ReadPromise};
@@ -19,22 +20,26 @@ pub fn state_length() -> usize
     contexts::WORDS
 }
 
-// Makes a state for a device ID, an MTU and rooms of R bytes.
-pub fn setup(state: &mut [usize], device: u16, mtu: usize, room: usize) -> Begun
-    ensures { λ r. ⌜ SetupPromise (now (state .entry)) device mtu room r (now (state .exit)) ⌝ }
+// Makes a state for a device ID, an MTU, rooms of R bytes and a width of IDs.
+pub fn setup(state: &mut [usize], settings: Setup) -> Begun
+    ensures { λ r. ⌜ SetupPromise (now (state .entry)) settings r (now (state .exit)) ⌝ }
 {
     if state.len() != contexts::WORDS {
         return Begun::Refused(12);
     }
-    if sizes::bad_mtu(mtu) {
+    if ids::too_wide(settings.narrow, settings.device) {
+        contexts::clear(state);
+        return Begun::Refused(47);
+    }
+    if sizes::bad_mtu(settings.mtu) {
         contexts::clear(state);
         return Begun::Refused(18);
     }
-    if bad_streams::bad_room(mtu, room) {
+    if bad_streams::bad_room(settings.mtu, settings.room) {
         contexts::clear(state);
         return Begun::Refused(19);
     }
-    contexts::begin(state, device as usize, mtu, room);
+    contexts::begin(state, settings);
     Begun::Ready
 }
 

@@ -17,7 +17,8 @@ use Rattle.wire.specs.Parsed.{parsed}
 use Rattle.stream_rooms.specs.Placing.{dataOf}
 use Rattle.reading.proofs.Packets.{stream-parsed}
 use Rattle.flows.specs.OneFlow.{PDU, Told, held, delivered, refused, FlowOutcome, flowStep}
-use Rattle.contexts.specs.State.{Setup}
+use Rattle.wire.specs.declared.Setup.{Setup}
+use Rattle.wire.specs.Packet.{idsOf}
 use Rattle.reading.specs.Desk.{Desk}
 use Rattle.flows.specs.Deliveries.{read, after, view}
 use Rattle.flows.specs.ByFlow.{Tells, OwnFlow, NoFlow, ByFlow}
@@ -43,24 +44,24 @@ module _ (setup : Setup) (flows : List Flow) (Ok : Desk → Type 0) (law : ByFlo
 
   -- the one-flow endpoint's outcome
   abbrev out : Option PDU → List ℕ → FlowOutcome
-  out before p = flowStep setup before (segmentOf p) (dataOf p (segmentOf p))
+  out before p = flowStep setup before (segmentOf (idsOf setup) p) (dataOf p (segmentOf (idsOf setup) p))
 
   abbrev Goal : Desk → List (List ℕ) → Type 0
-  Goal b ps = answersTo setup flow b ps ≡ alone setup flow (view b flow) (packetsOf (setup .device) flow ps)
+  Goal b ps = answersTo setup flow b ps ≡ alone setup flow (view b flow) (packetsOf setup flow ps)
 
   -- a packet of another flow, or of none
-  skipped : (b : Desk) (p : List ℕ) (ps : List (List ℕ)) → isOf flow (parsed (setup .device) p) ≡ false → view (after b p) flow ≡ view b flow → Goal (after b p) ps → Goal b (p ∷ ps)
-  skipped b p ps t v ih = rw t (ih ∙ ap (λ (x : Option PDU). alone setup flow x (packetsOf (setup .device) flow ps)) v)
+  skipped : (b : Desk) (p : List ℕ) (ps : List (List ℕ)) → isOf flow (parsed setup p) ≡ false → view (after b p) flow ≡ view b flow → Goal (after b p) ps → Goal b (p ∷ ps)
+  skipped b p ps t v ih = rw t (ih ∙ ap (λ (x : Option PDU). alone setup flow x (packetsOf setup flow ps)) v)
 
   -- a packet of this flow
-  taken : (b : Desk) (p : List ℕ) (ps : List (List ℕ)) → isOf flow (parsed (setup .device) p) ≡ true
+  taken : (b : Desk) (p : List ℕ) (ps : List (List ℕ)) → isOf flow (parsed setup p) ≡ true
       → given b p ≡ flowAnswer (heardAlone flow (out (view b flow) p .told)) (out (view b flow) p .dropped)
       → view (after b p) flow ≡ out (view b flow) p .next → Goal (after b p) ps → Goal b (p ∷ ps)
-  taken b p ps t a v ih = rw t (ap₂ (λ (x : FlowAnswer) (xs : List FlowAnswer). x ∷ xs) a (ih ∙ ap (λ (x : Option PDU). alone setup flow x (packetsOf (setup .device) flow ps)) v))
+  taken b p ps t a v ih = rw t (ap₂ (λ (x : FlowAnswer) (xs : List FlowAnswer). x ∷ xs) a (ih ∙ ap (λ (x : Option PDU). alone setup flow x (packetsOf setup flow ps)) v))
 
   -- by what the packet is
-  step : (b : Desk) (p : List ℕ) (ps : List (List ℕ)) → Ok b → AreBytes p → flowAmong flows (parsed (setup .device) p) ≡ true → (Ok (after b p) → Goal (after b p) ps) → (x : Parsed)
-      → parsed (setup .device) p ≡ x → Goal b (p ∷ ps)
+  step : (b : Desk) (p : List ℕ) (ps : List (List ℕ)) → Ok b → AreBytes p → flowAmong flows (parsed setup p) ≡ true → (Ok (after b p) → Goal (after b p) ps) → (x : Parsed)
+      → parsed setup p ≡ x → Goal b (p ∷ ps)
   step b p ps ok bytes member ih (Refused number) e =
       let l : NoFlow Ok setup b p = law .of-refused b p number ok bytes e in
       skipped b p ps (ap (isOf flow) e) (l .views flow) (ih (l .ok))
@@ -74,7 +75,7 @@ module _ (setup : Setup) (flows : List Flow) (Ok : Desk → Type 0) (law : ByFlo
 
       -- the one-flow endpoint's outcome by the segment
       by-segment : (q : Flow) → g .flow ≡ q → flowStep setup (view b (g .flow)) g (dataOf p g) ≡ out (view b q) p
-      by-segment q s = ap₂ (λ (x : Flow) (y : Segment). flowStep setup (view b x) y (dataOf p y)) s (stream-parsed p (setup .device) g e .0)
+      by-segment q s = ap₂ (λ (x : Flow) (y : Segment). flowStep setup (view b x) y (dataOf p y)) s (stream-parsed p setup g e .0)
 
       go : (t : Bool) → sameFlow (g .flow) flow ≡ t → Goal b (p ∷ ps)
       go true t =
@@ -89,15 +90,15 @@ module _ (setup : Setup) (flows : List Flow) (Ok : Desk → Type 0) (law : ByFlo
           skipped b p ps (ap (isOf flow) e ∙ t) (l .others flow (ne-same flow (g .flow) (λ q. same-false (g .flow) flow t (sym q)))) (ih (l .ok))
 
   -- from any board
-  pub apart-from : (packets : List (List ℕ)) (b : Desk) → Ok b → Each AreBytes packets → AmongFlows (setup .device) flows packets
-      → answersTo setup flow b packets ≡ alone setup flow (view b flow) (packetsOf (setup .device) flow packets)
+  pub apart-from : (packets : List (List ℕ)) (b : Desk) → Ok b → Each AreBytes packets → AmongFlows setup flows packets
+      → answersTo setup flow b packets ≡ alone setup flow (view b flow) (packetsOf setup flow packets)
   apart-from [] b ok bytes occur = refl
-  apart-from (p ∷ ps) b ok bytes occur = step b p ps ok (bytes .0) (occur .0) (λ next. apart-from ps (after b p) next (bytes .1) (occur .1)) (parsed (setup .device) p) refl
+  apart-from (p ∷ ps) b ok bytes occur = step b p ps ok (bytes .0) (occur .0) (λ next. apart-from ps (after b p) next (bytes .1) (occur .1)) (parsed setup p) refl
 
 pub flows-apart : FlowsApart
 flows-apart setup d flows packets r flow =
     apart-from setup flows (Fine setup flows) (by-flow setup flows (omega (arith, r .few))) flow packets d (fresh-fine setup d (r .fresh) flows) (r .bytes) (r .occur)
-    ∙ ap (λ (x : Option PDU). alone setup flow x (packetsOf (setup .device) flow packets)) (fresh-view setup d (r .fresh) flow)
+    ∙ ap (λ (x : Option PDU). alone setup flow x (packetsOf setup flow packets)) (fresh-view setup d (r .fresh) flow)
 
 pub same-packets-same-answers : SamePacketsSameAnswers
 same-packets-same-answers setup d d′ flows flows′ packets packets′ r r′ flow e =

@@ -1,14 +1,17 @@
 -- A board on which reading treats each flow by itself.
-use Prim.Native.Nat.{ℕ, _*_}
+use Prim.Native.Nat.{ℕ, _*_, _≤_}
 use native.Mathlib.Omega.{arith}
-use mathlib.Core.Path.{_≡_, refl, ap, sym, _∙_}
+use mathlib.Core.Path.{_≡_, refl, ap, sym, _∙_, subst}
 use mathlib.Core.Bool.{true, false}
 use mathlib.Core.Option.{none}
 use mathlib.Core.List.{List}
 use lib.ListN.{length, replicate}
 use Rattle.lists.specs.First.{firstOf}
 use Rattle.wire.specs.declared.Flow.{Flow}
-use Rattle.contexts.specs.State.{Setup, State, fresh, streamIn, closedStream, isFreeStream, isOfFlow, flowContext}
+use Rattle.wire.specs.declared.Setup.{Setup}
+use Rattle.wire.specs.Packet.{idsOf}
+use Rattle.responses.specs.Type13.{responseSize}
+use Rattle.contexts.specs.State.{State, idsIn, fresh, streamIn, closedStream, isFreeStream, isOfFlow, flowContext}
 use Rattle.contexts.specs.Words.{stateOf, wordsOf, stateWords}
 use Rattle.contexts.proofs.Words.{sixteen, state-of, length-words}
 use Rattle.refusal19.proofs.Kept.{fresh-good}
@@ -43,6 +46,9 @@ view-of s memory k = refl
 module _ {setup : Setup} {flows : List Flow} {b : Desk} (f : Fine setup flows b) where
   pub rooms-on : length (b .streamMemory) ≡ 16 * stateOn b .setup .room
   rooms-on = f .lends .rooms ∙ ap (λ (t : Setup). 16 * t .room) (sym (f .same-setup))
+
+  pub reply-on : responseSize (idsIn (stateOn b)) ≤ length (b .response)
+  reply-on = subst (λ (t : Setup). responseSize (idsOf t) ≤ length (b .response)) (sym (f .same-setup)) (f .lends .reply)
 
   -- its contexts over its stream memory are sound
   pub sound-on : Sound (stateOn b .setup .room) flows (stateOn b .streams) (b .streamMemory)

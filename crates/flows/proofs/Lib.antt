@@ -8,3 +8,4 @@ pub mod Quiet
 pub mod Fine
 pub mod Machine
 pub mod Apart
+pub mod Widths

@@ -16,7 +16,8 @@ use Rattle.sizes.specs.Sizes.{dataLength}
 use Rattle.wire.specs.Packet.{header}
 use Rattle.wire.specs.Parsed.{parsed}
 use Rattle.contexts.specs.declared.StreamContext.{StreamContext}
-use Rattle.contexts.specs.State.{Setup, State}
+use Rattle.wire.specs.declared.Setup.{Setup}
+use Rattle.contexts.specs.State.{State, idsIn}
 use Rattle.contexts.specs.Words.{stateOf, wordsOf}
 use Rattle.contexts.proofs.Words.{sixteen, eight, state-of}
 use Rattle.stream_rooms.specs.Placing as streamRoom
@@ -40,7 +41,7 @@ use Rattle.flows.proofs.Contexts.{Once, Inside}
 use Rattle.flows.proofs.Seen.{seen}
 use Rattle.flows.proofs.Steps.{Sim, sim-stepped}
 use Rattle.flows.proofs.Quiet.{Quiet, quiet-stepped}
-use Rattle.flows.proofs.Fine.{Fine, view-is, view-of, rooms-on, sound-on, still-fine}
+use Rattle.flows.proofs.Fine.{Fine, view-is, view-of, rooms-on, reply-on, sound-on, still-fine}
 
 -- the data of a type 9 packet, all there
 data-length : (p : List ℕ) (g : Segment) → g .from + g .raw ≡ length p → length (streamRoom.dataOf p g) ≡ dataLength g
@@ -50,17 +51,21 @@ module _ (setup : Setup) (flows : List Flow) (b : Desk) (p : List ℕ) (f : Fine
   abbrev s : State
   s = stateOn b
 
+  -- the state's own setup is the one given
+  same-parsed : parsed (s .setup) p ≡ parsed setup p
+  same-parsed = ap (λ (t : Setup). parsed t p) (f .same-setup)
+
   -- reading goes by what the packet is
-  read-is : (x : Parsed) → parsed (setup .device) p ≡ x → read b p ≡ byParsed (lent b p) x
+  read-is : (x : Parsed) → parsed setup p ≡ x → read b p ≡ byParsed (lent b p) x
   read-is x e =
-      by-packet (lent b p) (f .whole) (f .good) (sizes-right b (rooms-on f) (f .lends .boxes) (f .lends .reply))
-      ∙ ap (byParsed (lent b p)) (ap (λ (t : Setup). parsed (t .device) p) (f .same-setup) ∙ e)
+      by-packet (lent b p) (f .whole) (f .good) (sizes-right b (rooms-on f) (f .lends .boxes) (reply-on f))
+      ∙ ap (byParsed (lent b p)) (same-parsed ∙ e)
 
   still-good : StillGood s (read b p .desk .words)
-  still-good = stays-good (lent b p) (f .whole) (f .good) (bytes header)
+  still-good = stays-good (lent b p) (f .whole) (f .good) (bytes (header (idsIn s)))
 
   -- ---- a type 9 packet
-  module _ (few : length flows ≤ 16) (g : Segment) (e : parsed (setup .device) p ≡ Stream g) (member : among (g .flow) flows ≡ true) where
+  module _ (few : length flows ≤ 16) (g : Segment) (e : parsed setup p ≡ Stream g) (member : among (g .flow) flows ≡ true) where
     abbrev j : streamRoom.Joined
     j = streamStep.stepped s (b .streamMemory) p g
 
@@ -70,7 +75,7 @@ module _ (setup : Setup) (flows : List Flow) (b : Desk) (p : List ℕ) (f : Fine
     sim : Sim flows s (b .streamMemory) g j (flowStep (s .setup) (view b (g .flow)) g (streamRoom.dataOf p g))
     sim =
         subst (λ (v : Option PDU). Sim flows s (b .streamMemory) g j (flowStep (s .setup) v g (streamRoom.dataOf p g))) (sym (view-is b (g .flow)))
-        (sim-stepped flows s (b .streamMemory) p g (sound-on f) member (data-length p g (stream-parsed p (setup .device) g e .1)) few (f .good))
+        (sim-stepped flows s (b .streamMemory) p g (sound-on f) member (data-length p g (stream-parsed p setup g e .1)) few (f .good))
 
     back : stateOf (wordsOf (j .state)) ≡ j .state
     back = state-of (j .state) (sim .leaves .sound .size) (ap length (sim .same-messages) ∙ eight (b .words))
@@ -103,7 +108,7 @@ module _ (setup : Setup) (flows : List Flow) (b : Desk) (p : List ℕ) (f : Fine
     by-stream = subst (λ (t : Setup). OwnFlow (Fine setup flows) t b p g) (f .same-setup) own-flow
 
   -- ---- a type 11 packet
-  module _ (m : MessageSegment) (e : parsed (setup .device) p ≡ Message m) where
+  module _ (m : MessageSegment) (e : parsed setup p ≡ Message m) where
     abbrev k : messageRoom.MessageJoined
     k = messageStep.messageStepped s (b .messageMemory) (b .response) p m
 
@@ -112,8 +117,8 @@ module _ (setup : Setup) (flows : List Flow) (b : Desk) (p : List ℕ) (f : Fine
 
     quiet : Quiet s (b .messageMemory) (b .response) k
     quiet =
-        let small = message-small p m (message-parsed p (setup .device) m e) (bytes header) (bytes (header + 1)) in
-        quiet-stepped s (b .messageMemory) (b .response) p m (f .lends .boxes) (f .lends .reply) (small .0) (small .2)
+        let small = message-small (idsIn s) p m (message-parsed p (s .setup) m (same-parsed ∙ e)) (bytes (header (idsIn s))) (bytes (header (idsIn s) + 1)) in
+        quiet-stepped s (b .messageMemory) (b .response) p m (f .lends .boxes) (reply-on f) (small .0) (small .2)
 
     message-back : stateOf (wordsOf (k .state)) ≡ k .state
     message-back = state-of (k .state) (ap length (quiet .same-streams) ∙ sixteen (b .words)) (quiet .messages ∙ eight (b .words))
@@ -140,7 +145,7 @@ module _ (setup : Setup) (flows : List Flow) (b : Desk) (p : List ℕ) (f : Fine
     }
 
   -- ---- a packet that rows 1 to 5 refuse
-  by-refused : (number : ℕ) → parsed (setup .device) p ≡ Refused number → NoFlow (Fine setup flows) setup b p
+  by-refused : (number : ℕ) → parsed setup p ≡ Refused number → NoFlow (Fine setup flows) setup b p
   by-refused number e =
       let same : read b p ≡ byParsed (lent b p) (Refused number) = read-is (Refused number) e in
       record {

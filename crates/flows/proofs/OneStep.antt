@@ -7,7 +7,7 @@ use mathlib.Core.List.{List, _++_}
 use lib.ListN.{length}
 use lib.Dec.{ltb}
 use Rattle.wire.specs.Segment.{Segment}
-use Rattle.contexts.specs.State.{Setup}
+use Rattle.wire.specs.declared.Setup.{Setup}
 use Rattle.sizes.specs.Sizes.{dataLength}
 use Rattle.rules.specs.Segments.{malformed, wrongSize, wrongLength}
 use Rattle.flows.specs.OneFlow.{PDU, pdu, refused, flowOutcome, isOpen, flowRefused, flowJoined, flowContinued, flowStep}

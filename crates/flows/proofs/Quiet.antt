@@ -15,7 +15,7 @@ use Rattle.wire.specs.Type11.{messageDataFrom, isSingle, mailbox}
 use Rattle.responses.specs.Type13.{responseSize}
 use Rattle.sizes.proofs.Laws.{bytes-le}
 use Rattle.rules.specs.Messages.{lastWith}
-use Rattle.contexts.specs.State.{State, freeMessage}
+use Rattle.contexts.specs.State.{State, idsIn, freeMessage}
 use Rattle.messages.specs.Rows.{messageFound, messageOpen, neededNoneFree}
 use Rattle.message_rooms.specs.Placing.{MessageJoined, messageData, marksWith, complete, messagePlaced}
 use Rattle.messages.specs.Joining.{deliveredAtOnce, messageAccepted, refusedWith, messageStepped}
@@ -46,7 +46,7 @@ module _ (s : State) (m : MessageSegment) where
   single-shut t = rw t
 
 module _ (s : State) (memory response p : List ℕ) (m : MessageSegment)
-    (size : length memory ≡ 32768) (reply : responseSize ≤ length response) (whole : messageDataFrom + m .raw ≡ length p) (number : m .msgseg < 16) where
+    (size : length memory ≡ 32768) (reply : responseSize (idsIn s) ≤ length response) (whole : messageDataFrom (idsIn s) + m .raw ≡ length p) (number : m .msgseg < 16) where
   quiet-refused : (code status : ℕ) → Quiet s memory response (refusedWith s memory response p code status)
   unfolding refusedWith
   quiet-refused code status = record {
@@ -54,13 +54,13 @@ module _ (s : State) (memory response p : List ℕ) (m : MessageSegment)
     same-streams = refl;
     messages = refl;
     boxes = refl;
-    reply = length-answered response p status reply;
+    reply = length-answered (idsIn s) response p status reply;
     tells = λ room streams. refl;
   }
 
   -- the data end with the packet
-  data-length : length (messageData p) ≡ m .raw
-  data-length = length-drop messageDataFrom p ∙ omega arith
+  data-length : length (messageData (idsIn s) p) ≡ m .raw
+  data-length = length-drop (messageDataFrom (idsIn s)) p ∙ omega arith
 
   module _ (fits : m .raw ≤ bytesOf (m .ssize)) (n : ℕ) (lt : n < 8) where
     quiet-alone : Quiet s memory response (deliveredAtOnce s memory response p m n)
@@ -69,8 +69,8 @@ module _ (s : State) (memory response p : List ℕ) (m : MessageSegment)
       same-room = refl;
       same-streams = refl;
       messages = simp length-set;
-      boxes = length-written memory (messageData p) (n * 4096) (omega (arith, data-length, bytes-le (m .ssize)));
-      reply = length-answered response p _ reply;
+      boxes = length-written memory (messageData (idsIn s) p) (n * 4096) (omega (arith, data-length, bytes-le (m .ssize)));
+      reply = length-answered (idsIn s) response p _ reply;
       tells = λ room streams. refl;
     }
 
@@ -81,9 +81,9 @@ module _ (s : State) (memory response p : List ℕ) (m : MessageSegment)
       same-streams = refl;
       messages = simp length-set;
       boxes =
-          length-written memory (messageData p) (n * 4096 + m .msgseg * bytesOf (m .ssize))
+          length-written memory (messageData (idsIn s) p) (n * 4096 + m .msgseg * bytesOf (m .ssize))
           (omega (arith, data-length, segment-ends n (m .msgseg) (bytesOf (m .ssize)) (m .raw) lt number (bytes-le (m .ssize)) fits));
-      reply = length-answered response p _ reply;
+      reply = length-answered (idsIn s) response p _ reply;
       tells = λ room streams. none-told room streams (complete m (marksWith m marks)) n (m .source) (m .letter) (mailbox m) (m .msglen * bytesOf (m .ssize) + lastWith m last);
     }
       where

@@ -13,7 +13,9 @@ use Rattle.wire.specs.Parsed.{Parsed}
 use Rattle.wire.specs.Parsed.{Refused, Stream, Message}
 use Rattle.wire.specs.Type9.{sameFlow, segmentOf}
 use Rattle.wire.specs.Parsed.{parsed}
-use Rattle.contexts.specs.State.{Setup, streamContexts}
+use Rattle.wire.specs.declared.Setup.{Setup}
+use Rattle.wire.specs.Packet.{idsOf}
+use Rattle.contexts.specs.State.{streamContexts}
 use Rattle.reading.specs.Desk.{Desk}
 use Rattle.stream_rooms.specs.Placing.{dataOf}
 use Rattle.flows.specs.OneFlow.{PDU, pdu, Told, held, delivered, refused, flowStep}
@@ -60,15 +62,15 @@ isOf flow (Refused number) = false
 isOf flow (Stream g) = sameFlow (g .flow) flow
 isOf flow (Message m) = false
 
-abbrev pub packetsOf : ℕ → Flow → List (List ℕ) → List (List ℕ)
-packetsOf device flow [] = []
-packetsOf device flow (p ∷ ps) = cond (isOf flow (parsed device p)) (p ∷ packetsOf device flow ps) (packetsOf device flow ps)
+abbrev pub packetsOf : Setup → Flow → List (List ℕ) → List (List ℕ)
+packetsOf setup flow [] = []
+packetsOf setup flow (p ∷ ps) = cond (isOf flow (parsed setup p)) (p ∷ packetsOf setup flow ps) (packetsOf setup flow ps)
 
 -- what the endpoint answers to that flow's packets, in a run over all packets
 abbrev pub answersTo : Setup → Flow → Desk → List (List ℕ) → List FlowAnswer
 answersTo setup flow d [] = []
 answersTo setup flow d (p ∷ ps) =
-    cond (isOf flow (parsed (setup .device) p))
+    cond (isOf flow (parsed setup p))
     (flowAnswer (heardOf (setup .room) (after d p .streamMemory) (read d p .says)) (read d p .dropped) ∷ answersTo setup flow (after d p) ps)
     (answersTo setup flow (after d p) ps)
 
@@ -76,7 +78,8 @@ answersTo setup flow d (p ∷ ps) =
 abbrev pub alone : Setup → Flow → Option PDU → List (List ℕ) → List FlowAnswer
 alone setup flow before [] = []
 alone setup flow before (p ∷ ps) =
-    let o = flowStep setup before (segmentOf p) (dataOf p (segmentOf p)) in
+    let g = segmentOf (idsOf setup) p in
+    let o = flowStep setup before g (dataOf p g) in
     flowAnswer (heardAlone flow (o .told)) (o .dropped) ∷ alone setup flow (o .next) ps
 
 -- ---- the statements
@@ -87,26 +90,26 @@ flowAmong flows (Refused number) = true
 flowAmong flows (Stream g) = among (g .flow) flows
 flowAmong flows (Message m) = true
 
-abbrev pub AmongFlows : ℕ → List Flow → List (List ℕ) → Type 0
-AmongFlows device flows = Each (λ (p : List ℕ). flowAmong flows (parsed device p) ≡ true)
+abbrev pub AmongFlows : Setup → List Flow → List (List ℕ) → Type 0
+AmongFlows setup flows = Each (λ (p : List ℕ). flowAmong flows (parsed setup p) ≡ true)
 
 -- a fresh desk, and any packets at all of which those of type 9 have at most sixteen flows
 pub record AtMostSixteenFlows (setup : Setup) (d : Desk) (flows : List Flow) (packets : List (List ℕ)) : Type 0 where
   pub fresh : Fresh setup d
   pub few : length flows ≤ streamContexts
   pub bytes : Each AreBytes packets
-  pub occur : AmongFlows (setup .device) flows packets
+  pub occur : AmongFlows setup flows packets
 
 -- each flow is answered as if its packets came alone
 abbrev pub FlowsApart : Type 0
 FlowsApart =
     (setup : Setup) (d : Desk) (flows : List Flow) (packets : List (List ℕ)) → AtMostSixteenFlows setup d flows packets
-    → (flow : Flow) → answersTo setup flow d packets ≡ alone setup flow none (packetsOf (setup .device) flow packets)
+    → (flow : Flow) → answersTo setup flow d packets ≡ alone setup flow none (packetsOf setup flow packets)
 
 -- so two runs in which a flow has the same packets answer them the same, whatever else came, and whatever stood in the memories
 abbrev pub SamePacketsSameAnswers : Type 0
 SamePacketsSameAnswers =
     (setup : Setup) (d d′ : Desk) (flows flows′ : List Flow) (packets packets′ : List (List ℕ))
     → AtMostSixteenFlows setup d flows packets → AtMostSixteenFlows setup d′ flows′ packets′
-    → (flow : Flow) → packetsOf (setup .device) flow packets ≡ packetsOf (setup .device) flow packets′
+    → (flow : Flow) → packetsOf setup flow packets ≡ packetsOf setup flow packets′
     → answersTo setup flow d packets ≡ answersTo setup flow d′ packets′

@@ -13,7 +13,7 @@ use Rattle.wire.specs.Parsed.{Refused, Stream, Message}
 use Rattle.wire.specs.Type9.{sameFlow}
 use Rattle.wire.specs.Parsed.{parsed}
 use Rattle.stream_rooms.specs.Placing.{dataOf}
-use Rattle.contexts.specs.State.{Setup}
+use Rattle.wire.specs.declared.Setup.{Setup}
 use Rattle.reading.specs.Desk.{Desk}
 use Rattle.flows.specs.OneFlow.{Told, held, delivered, refused, flowStep}
 use Rattle.flows.specs.Deliveries.{delivery, deliveredBy, read, after, view}
@@ -42,8 +42,8 @@ pub record NoFlow (Ok : Desk → Type 0) (setup : Setup) (d : Desk) (p : List �
   pub views : (flow : Flow) → view (after d p) flow ≡ view d flow
   pub tells : deliveredBy (setup .room) (after d p .streamMemory) (read d p .says) ≡ []
 
--- the laws between a flow and the endpoint of that device, MTU and R, where at most these flows occur
+-- the laws between a flow and the endpoint of that setup, where at most these flows occur
 pub record ByFlow (setup : Setup) (flows : List Flow) (Ok : Desk → Type 0) : Type 0 where
-  pub of-flow : (d : Desk) (p : List ℕ) (g : Segment) → Ok d → AreBytes p → parsed (setup .device) p ≡ Stream g → among (g .flow) flows ≡ true → OwnFlow Ok setup d p g
-  pub of-message : (d : Desk) (p : List ℕ) (m : MessageSegment) → Ok d → AreBytes p → parsed (setup .device) p ≡ Message m → NoFlow Ok setup d p
-  pub of-refused : (d : Desk) (p : List ℕ) (number : ℕ) → Ok d → AreBytes p → parsed (setup .device) p ≡ Refused number → NoFlow Ok setup d p
+  pub of-flow : (d : Desk) (p : List ℕ) (g : Segment) → Ok d → AreBytes p → parsed setup p ≡ Stream g → among (g .flow) flows ≡ true → OwnFlow Ok setup d p g
+  pub of-message : (d : Desk) (p : List ℕ) (m : MessageSegment) → Ok d → AreBytes p → parsed setup p ≡ Message m → NoFlow Ok setup d p
+  pub of-refused : (d : Desk) (p : List ℕ) (number : ℕ) → Ok d → AreBytes p → parsed setup p ≡ Refused number → NoFlow Ok setup d p

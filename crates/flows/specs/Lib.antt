@@ -3,3 +3,4 @@ pub mod Deliveries
 pub mod Fresh
 pub mod ByFlow
 pub mod Apart
+pub mod Widths

@@ -6,7 +6,7 @@ use mathlib.Core.Option.{Option, none, some}
 use lib.ListN.{length}
 use lib.Dec.{ltb}
 use Rattle.wire.specs.Segment.{Segment}
-use Rattle.contexts.specs.State.{Setup}
+use Rattle.wire.specs.declared.Setup.{Setup}
 use Rattle.sizes.specs.Sizes.{dataLength}
 use Rattle.rules.specs.Segments.{malformed, wrongSize, wrongLength}
 

@@ -3,6 +3,7 @@
 use Prim.Native.Nat.{ℕ}
 use mathlib.Core.Path.{_≡_}
 use mathlib.Core.List.{List}
+use Rattle.wire.specs.declared.Setup.{Setup}
 use Rattle.reading.specs.Desk.{Desk}
 use Rattle.reading.specs.Table.{Lent}
 use Rattle.reading.specs.Read.{reading}
@@ -22,16 +23,16 @@ use Rattle.log_writer.specs.Writing.{recording}
 
 -- the interface: it rises whenever a function, a struct or a constant of include/kaiverohm.h changes, and additions leave it
 abbrev pub interface : ℕ
-interface = 1
+interface = 2
 
 -- the promise of `kaiverohm_interface`
 abbrev pub InterfacePromise : ℕ → Type 0
 InterfacePromise r = r ≡ interface
 
 -- the promise of `kaiverohm_setup`
-pub record SetupFromCPromise (words : List ℕ) (device mtu room : ℕ) (r : Numbers) (after : List ℕ) : Type 0 where
-  pub answer : r ≡ numbersOfSetup (setup words device mtu room .says)
-  pub state : after ≡ setup words device mtu room .words
+pub record SetupFromCPromise (words : List ℕ) (settings : Setup) (r : Numbers) (after : List ℕ) : Type 0 where
+  pub answer : r ≡ numbersOfSetup (setup words settings .says)
+  pub state : after ≡ setup words settings .words
 
 -- the promise of `kaiverohm_read`: the report, and the desk as it is left
 pub record ReadFromCPromise (x : Lent) (r : Report) (after : Desk) : Type 0 where

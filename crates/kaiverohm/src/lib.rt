@@ -7,6 +7,7 @@ use c_places::Place;
 use c_reports::Numbers;
 use c_reports::Report;
 use cutting::Heading;
+use wire::Setup;
 ghost use Rattle.reading.specs.Desk.{desk};
 ghost use Rattle.reading.specs.Table.{lent};
 ghost use Rattle.endpoint.specs.Calls.{LengthPromise};
@@ -23,7 +24,7 @@ ghost use Rattle.kaiverohm.specs.Exports.{StreamContextFromCPromise, Mes
 pub extern "C" fn kaiverohm_interface() -> usize
     ensures { λ r. ⌜ InterfacePromise r ⌝ }
 {
-    1
+    2
 }
 
 // The words of a state.
@@ -36,15 +37,10 @@ pub extern "C" fn kaiverohm_state_length() -> usize
 
 // Makes a state.
 #[no_mangle]
-pub extern "C" fn kaiverohm_setup(
-    state: &mut [usize],
-    device: u16,
-    mtu: usize,
-    room: usize,
-) -> Numbers
-    ensures { λ r. ⌜ SetupFromCPromise (now (state .entry)) device mtu room r (now (state .exit)) ⌝ }
+pub extern "C" fn kaiverohm_setup(state: &mut [usize], settings: Setup) -> Numbers
+    ensures { λ r. ⌜ SetupFromCPromise (now (state .entry)) settings r (now (state .exit)) ⌝ }
 {
-    c_answers::of_setup(endpoint::setup(state, device, mtu, room))
+    c_answers::of_setup(endpoint::setup(state, settings))
 }
 
 // Reads one packet.

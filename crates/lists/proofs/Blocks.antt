@@ -1,14 +1,13 @@
 -- Laws of copying in blocks: bytes of one place are read to a block, and from there written to the same place of a memory.
 use Prim.Native.Nat.{ℕ, _≤_, _+_, _-_}
 use mathlib.Core.Path.{_≡_, ap, sym, _∙_}
-use mathlib.Core.List.{List, [], _++_, append-nil}
+use mathlib.Core.List.{List, _++_, append-nil}
 use native.Mathlib.Omega.{arith}
-use native.Mathlib.Nat.{add-zero}
-use lib.ListN.{length, take, drop, take-append-drop, length-take, length-drop, drop-of-length-le}
+use lib.ListN.{length, take, drop, length-take, length-drop, drop-of-length-le}
 use lib.Seq.{take-all, take-add, drop-drop}
 use borrow.Rule.Slice.PartMut.{midOf, putMid}
 use Rattle.lists.specs.Bytes.{written}
-use Rattle.lists.proofs.Written.{written-front, written-part, written-behind}
+use Rattle.lists.proofs.Written.{written-front, written-nothing, written-part, written-behind}
 
 -- ---- one block
 
@@ -39,14 +38,10 @@ abbrev pub copiedTo : List ℕ → List ℕ → ℕ → ℕ → List ℕ
 copiedTo start bytes from at = written start from (take (at - from) (drop from bytes))
 
 -- before the first block
-nothing : (start : List ℕ) (from : ℕ) → written start from [] ≡ start
-unfolding written
-nothing start from = simp (append-nil, add-zero from) (take-append-drop from start)
-
 pub nothing-copied : (start bytes : List ℕ) (from : ℕ) → start ≡ copiedTo start bytes from from
 nothing-copied start bytes from =
     let none : from - from ≡ 0 = omega arith in
-    sym (ap (λ (j : ℕ). written start from (take j (drop from bytes))) none ∙ nothing start from)
+    sym (ap (λ (j : ℕ). written start from (take j (drop from bytes))) none ∙ written-nothing start from)
 
 -- from the first byte on they are those before `at`
 pub front-copied : (start bytes : List ℕ) (at : ℕ) → written start 0 (take at bytes) ≡ copiedTo start bytes 0 at

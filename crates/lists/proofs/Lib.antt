@@ -4,3 +4,4 @@ pub mod Blocks
 pub mod First
 pub mod Rows
 pub mod Below
+pub mod Numbers

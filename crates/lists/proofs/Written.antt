@@ -3,9 +3,9 @@ use Prim.Native.Nat.{ℕ, _≤_, _<_, _+_, _-_}
 use mathlib.Core.Path.{_≡_, refl, ap, ap₂, sym, _∙_}
 use mathlib.Core.List.{List, [], _++_, append-assoc, append-nil}
 use native.Mathlib.Omega.{arith}
-use native.Mathlib.Nat.{zero-add, add-assoc}
+use native.Mathlib.Nat.{zero-add, add-zero, add-assoc}
 use native.Mathlib.Numerals.{add-one}
-use lib.ListN.{length, getD, take, drop, set, length-append, length-take, length-drop, drop-of-length-le, List·getD-append}
+use lib.ListN.{length, getD, take, drop, set, take-append-drop, length-append, length-take, length-drop, drop-of-length-le, List·getD-append}
 use lib.Seq.{paste, paste-suc, take-all, take-length, take-take, take-add, take-append-le, drop-append-le, drop-append-add, drop-drop, drop-at, take-at, length-take-le, getD-take, sets, sets-eq}
 use borrow.Rule.Slice.PartMut.{midOf, putMid}
 use Rattle.lists.specs.Bytes.{written}
@@ -29,6 +29,11 @@ written-front memory bytes = simp zero-add
 pub written-is : (memory bytes : List ℕ) (at : ℕ) → written memory at bytes ≡ take at memory ++ (bytes ++ drop (at + length bytes) memory)
 unfolding written
 written-is memory bytes at = append-assoc (take at memory) bytes (drop (at + length bytes) memory)
+
+-- no bytes change nothing
+pub written-nothing : (memory : List ℕ) (at : ℕ) → written memory at [] ≡ memory
+unfolding written
+written-nothing memory at = simp (append-nil, add-zero at) (take-append-drop at memory)
 
 -- a copy into the part from `at` on
 pub written-part : (memory bytes part : List ℕ) (at : ℕ) → at + length bytes ≤ length memory

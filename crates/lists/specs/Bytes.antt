@@ -1,6 +1,6 @@
--- Bytes in a list: one, two or four as a number, and a run of them written over others.
-use Prim.Native.Nat.{ℕ, _+_, _*_, _/_, _%_, _<_}
-use mathlib.Core.List.{List, _++_}
+-- Bytes in a list: some of them as a number, a number's bytes, and a run of bytes written over others.
+use Prim.Native.Nat.{ℕ, zero, suc, _+_, _*_, _/_, _%_, _^_, _<_}
+use mathlib.Core.List.{List, [], _∷_, _++_}
 use lib.ListN.{length, getD, take, drop}
 
 -- byte n of a packet, counted from 0; 0 past its end
@@ -25,6 +25,21 @@ high n = n / 256 % 256
 
 abbrev pub low : ℕ → ℕ
 low n = n % 256
+
+-- the n bytes from `at` on
+unfoldable pub bytesFrom : ℕ → List ℕ → ℕ → List ℕ
+bytesFrom ℕ.zero p at = []
+bytesFrom (suc n) p at = byte p at ∷ bytesFrom n p (at + 1)
+
+-- the same as a number, most significant first
+unfoldable pub number : ℕ → List ℕ → ℕ → ℕ
+number ℕ.zero p at = 0
+number (suc n) p at = byte p at * 256 ^ n + number n p (at + 1)
+
+-- a number in n bytes, most significant first
+unfoldable pub inBytes : ℕ → ℕ → List ℕ
+inBytes ℕ.zero v = []
+inBytes (suc n) v = (v / 256 ^ n % 256) ∷ inBytes n v
 
 -- `memory` with `bytes` in the place of those that stand from `at` on
 unfoldable pub written : List ℕ → ℕ → List ℕ → List ℕ

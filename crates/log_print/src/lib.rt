@@ -1,4 +1,5 @@
 // What a log prints, on standard output: runs over the log, each written as it ends.
+use endpoint::Setup;
 use libc::STDERR_FILENO;
 use libc::STDOUT_FILENO;
 ghost use mathlib.Core.Path.{_≡_};
@@ -19,7 +20,7 @@ fn put(well: bool, bytes: &[u8]) -> bool {
     written
 }
 
-// Runs over a log from a fresh endpoint: device 1, MTU 32, R 2,048. Answers how many bytes they put. Every caller has tested the length.
+// Runs over a log from a fresh endpoint: device 1, MTU 32, R 2,048, IDs of 16 bits. Answers how many bytes they put. Every caller has tested the length.
 fn print_runs(log: &[u8]) -> usize
     requires { ⌜ length (now log) ≤ 65536 ⌝ }
     ensures { λ r. ⌜ r ≡ length (output (now (log .entry))) ⌝ }
@@ -27,9 +28,17 @@ fn print_runs(log: &[u8]) -> usize
     let mut state = [0usize; contexts::WORDS];
     let mut streams = [0u8; 32768];
     let mut messages = [0u8; 32768];
-    let mut response = [0u8; responses::SIZE];
+    let mut response = [0u8; responses::LONGEST];
     let mut out = [0u8; 65536];
-    endpoint::setup(&mut state, 1, 32, 2048);
+    endpoint::setup(
+        &mut state,
+        Setup {
+            device: 1,
+            mtu: 32,
+            room: 2048,
+            narrow: 0,
+        },
+    );
     let mut at = 0;
     let mut count = 0;
     let mut total = 0;

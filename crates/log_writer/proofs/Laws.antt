@@ -13,8 +13,8 @@ use Rattle.lists.specs.Bytes.{written}
 use Rattle.lists.proofs.Written.{written-behind}
 use Rattle.answers.specs.Answers.{wrote, writeRefused}
 use Rattle.tables.specs.Refusals.{row, all, verdict}
-use Rattle.writing.specs.Writer.{wroteOf, wroteBy}
-use Rattle.writing.proofs.Nested.{fitting, short, room}
+use Rattle.writing.specs.Writer.{wroteOf, wroteBy, fitting}
+use Rattle.writing.proofs.Nested.{short, room}
 use Rattle.log_records.specs.Written.{lengthBytes, writtenRecord}
 use Rattle.log_writer.specs.Writing.{longestRecorded, recordTable, recording}
 

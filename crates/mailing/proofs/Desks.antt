@@ -13,7 +13,11 @@ use Rattle.wire.specs.Parsed.{Refused, Stream, Message}
 use Rattle.wire.specs.Parsed.{parsed}
 use Rattle.lists.specs.First.{firstOf}
 use Rattle.lists.proofs.First.{first-passes}
-use Rattle.contexts.specs.State.{Setup, State, messageIn, closedMessage, messageContext}
+use Rattle.wire.specs.declared.Setup.{Setup}
+use Rattle.wire.specs.Packet.{header, idsOf}
+use Rattle.wire.specs.Type11.{messageDataFrom}
+use Rattle.responses.specs.Type13.{responseSize}
+use Rattle.contexts.specs.State.{State, idsIn, messageIn, closedMessage, messageContext}
 use Rattle.contexts.specs.Words.{stateOf, wordsOf}
 use Rattle.contexts.proofs.Words.{sixteen, eight, state-of}
 use Rattle.stream_rooms.specs.Placing as streamRoom
@@ -33,38 +37,38 @@ use Rattle.flows.specs.Fresh.{Lends}
 use Rattle.flows.proofs.Quiet.{Quiet, quiet-stepped}
 use Rattle.mailing.specs.Mail.{Posted}
 use Rattle.mailing.specs.Run.{isOfMail}
-use Rattle.mailing.specs.ReadBack.{GoodDesk, deviceOf, OthersLeaveMail}
+use Rattle.mailing.specs.ReadBack.{GoodDesk, setupOf, OthersLeaveMail}
 use Rattle.mailing.proofs.Contexts.{isMine, isToldOf}
 use Rattle.mailing.proofs.Others.{Stays, all-stays, undisturbed-stepped}
 use Rattle.mailing.proofs.Streams.{Beside, beside-stepped}
 
--- a good desk of that device
-pub record Ready (device : ℕ) (d : Desk) : Type 0 where
+-- a good desk of that setup
+pub record Ready (setup : Setup) (d : Desk) : Type 0 where
   pub desk : GoodDesk d
-  pub own-device : deviceOf d ≡ device
+  pub own-setup : setupOf d ≡ setup
 
 -- it stays so with any response buffer that 12 allows
-pub with-buffer : {device : ℕ} {d : Desk} → Ready device d → (given : List ℕ) → 7 ≤ length given → Ready device (withResponse d given)
+pub with-buffer : {setup : Setup} {d : Desk} → Ready setup d → (given : List ℕ) → responseSize (idsIn (stateOn d)) ≤ length given → Ready setup (withResponse d given)
 with-buffer r given h = record {
   desk = record { good = r .desk .good; lends = record { rooms = r .desk .lends .rooms; boxes = r .desk .lends .boxes; reply = h } };
-  own-device = r .own-device;
+  own-setup = r .own-setup;
 }
 
 -- what a type 11 packet leaves on a desk
-pub record Read11 (device : ℕ) (d : Desk) (p : List ℕ) (j : MessageJoined) : Type 0 where
-  pub ready : Ready device (after d p)
+pub record Read11 (setup : Setup) (d : Desk) (p : List ℕ) (j : MessageJoined) : Type 0 where
+  pub ready : Ready setup (after d p)
   pub says : read d p .says ≡ j .says
   pub state : stateOn (after d p) ≡ j .state
   pub memory : after d p .messageMemory ≡ j .memory
   pub response : after d p .response ≡ j .response
 
 -- what a packet leaves that is not of the message
-pub record ReadOther (device : ℕ) (x : Posted) (d : Desk) (p : List ℕ) : Type 0 where
-  pub ready : Ready device (after d p)
+pub record ReadOther (setup : Setup) (x : Posted) (d : Desk) (p : List ℕ) : Type 0 where
+  pub ready : Ready setup (after d p)
   pub stays : Stays x (stateOn d) (d .messageMemory) (stateOn (after d p)) (after d p .messageMemory)
   pub silent : isToldOf x (read d p .says) ≡ false
 
-module _ (device : ℕ) (d : Desk) (p : List ℕ) (r : Ready device d) (bytes : AreBytes p) where
+module _ (setup : Setup) (d : Desk) (p : List ℕ) (r : Ready setup d) (bytes : AreBytes p) where
   abbrev s : State
   s = stateOn d
 
@@ -74,39 +78,43 @@ module _ (device : ℕ) (d : Desk) (p : List ℕ) (r : Ready device d) (bytes : 
   abbrev lends : Lends (s .setup) d
   lends = r .desk .lends
 
+  -- the state's own setup is the one given
+  same-parsed : parsed (s .setup) p ≡ parsed setup p
+  same-parsed = ap (λ (t : Setup). parsed t p) (r .own-setup)
+
   -- reading goes by what the packet is
-  read-is : (y : Parsed) → parsed device p ≡ y → read d p ≡ byParsed (lent d p) y
+  read-is : (y : Parsed) → parsed setup p ≡ y → read d p ≡ byParsed (lent d p) y
   read-is y e =
       by-packet (lent d p) (state .whole) (state .good) (sizes-right d (lends .rooms) (lends .boxes) (lends .reply))
-      ∙ ap (byParsed (lent d p)) (ap (λ (ours : ℕ). parsed ours p) (r .own-device) ∙ e)
+      ∙ ap (byParsed (lent d p)) (same-parsed ∙ e)
 
   -- it leaves a good state, and so a desk that is ready where the memories keep their lengths
   still-ready : (y : Settled) → read d p ≡ y → length (y .desk .streamMemory) ≡ length (d .streamMemory) → length (y .desk .messageMemory) ≡ length (d .messageMemory)
-      → length (y .desk .response) ≡ length (d .response) → Ready device (y .desk)
+      → length (y .desk .response) ≡ length (d .response) → Ready setup (y .desk)
   still-ready y e streams messages response =
-      let g : StillGood s (y .desk .words) = subst (λ (l : Settled). StillGood s (l .desk .words)) e (stays-good (lent d p) (state .whole) (state .good) (bytes 5)) in
+      let g : StillGood s (y .desk .words) = subst (λ (l : Settled). StillGood s (l .desk .words)) e (stays-good (lent d p) (state .whole) (state .good) (bytes (header (idsIn s)))) in
       record {
         desk = record {
           good = record { whole = g .whole; good = g .good };
           lends = record {
             rooms = streams ∙ (lends .rooms ∙ ap (λ (t : Setup). 16 * t .room) (sym (g .setup)));
             boxes = messages ∙ lends .boxes;
-            reply = omega (arith, response, lends .reply);
+            reply = subst (λ (t : Setup). responseSize (idsOf t) ≤ length (y .desk .response)) (sym (g .setup)) (omega (arith, response, lends .reply));
           };
         };
-        own-device = ap (λ (t : Setup). t .device) (g .setup) ∙ r .own-device;
+        own-setup = g .setup ∙ r .own-setup;
       }
 
   -- ---- a type 11 packet
-  module _ (m : MessageSegment) (e : parsed device p ≡ Message m) where
+  module _ (m : MessageSegment) (e : parsed setup p ≡ Message m) where
     abbrev j : MessageJoined
     j = messageStepped s (d .messageMemory) (d .response) p m
 
     leaves : read d p ≡ ofMessage (lent d p) j
     leaves = read-is (Message m) e
 
-    small : (7 + m .raw ≡ length p) × (m .msglen < 16) × (m .msgseg < 16) × (m .mbox < 4)
-    small = message-small p m (message-parsed p device m e) (bytes 5) (bytes 6)
+    small : (messageDataFrom (idsIn s) + m .raw ≡ length p) × (m .msglen < 16) × (m .msgseg < 16) × (m .mbox < 4)
+    small = message-small (idsIn s) p m (message-parsed p (s .setup) m (same-parsed ∙ e)) (bytes (header (idsIn s))) (bytes (header (idsIn s) + 1))
 
     quiet : Quiet s (d .messageMemory) (d .response) j
     quiet = quiet-stepped s (d .messageMemory) (d .response) p m (lends .boxes) (lends .reply) (small .0) (small .2)
@@ -114,9 +122,9 @@ module _ (device : ℕ) (d : Desk) (p : List ℕ) (r : Ready device d) (bytes : 
     back : stateOf (wordsOf (j .state)) ≡ j .state
     back = state-of (j .state) (ap length (quiet .same-streams) ∙ sixteen (d .words)) (quiet .messages ∙ eight (d .words))
 
-    pub read-11 : Read11 device d p j
+    pub read-11 : Read11 setup d p j
     read-11 = record {
-      ready = subst (λ (y : Settled). Ready device (y .desk)) (sym leaves) (still-ready (ofMessage (lent d p) j) leaves refl (quiet .boxes) (quiet .reply));
+      ready = subst (λ (y : Settled). Ready setup (y .desk)) (sym leaves) (still-ready (ofMessage (lent d p) j) leaves refl (quiet .boxes) (quiet .reply));
       says = ap (λ (y : Settled). y .says) leaves;
       state = ap (λ (y : Settled). stateOf (y .desk .words)) leaves ∙ back;
       memory = ap (λ (y : Settled). y .desk .messageMemory) leaves;
@@ -125,7 +133,7 @@ module _ (device : ℕ) (d : Desk) (p : List ℕ) (r : Ready device d) (bytes : 
 
   -- ---- a packet that is not of the message
   module _ (x : Posted) where
-    by-message : (m : MessageSegment) → parsed device p ≡ Message m → isOfMail x (Message m) ≡ false → ReadOther device x d p
+    by-message : (m : MessageSegment) → parsed setup p ≡ Message m → isOfMail x (Message m) ≡ false → ReadOther setup x d p
     by-message m e other =
         let k = read-11 m e in
         let z = small m e in
@@ -136,33 +144,33 @@ module _ (device : ℕ) (d : Desk) (p : List ℕ) (r : Ready device d) (bytes : 
           silent = ap (isToldOf x) (k .says) ∙ l .silent;
         }
 
-    by-refused : (number : ℕ) → parsed device p ≡ Refused number → ReadOther device x d p
+    by-refused : (number : ℕ) → parsed setup p ≡ Refused number → ReadOther setup x d p
     by-refused number e =
         let same : read d p ≡ byParsed (lent d p) (Refused number) = read-is (Refused number) e in
         record {
-          ready = subst (λ (y : Settled). Ready device (y .desk)) (sym same) r;
+          ready = subst (λ (y : Settled). Ready setup (y .desk)) (sym same) r;
           stays = subst (λ (y : Settled). Stays x s (d .messageMemory) (stateOf (y .desk .words)) (y .desk .messageMemory)) (sym same) (all-stays x s s (d .messageMemory) refl);
           silent = ap (λ (y : Settled). isToldOf x (y .says)) same;
         }
 
-    by-stream : (g : Segment) → parsed device p ≡ Stream g → ReadOther device x d p
+    by-stream : (g : Segment) → parsed setup p ≡ Stream g → ReadOther setup x d p
     by-stream g e =
         let j : streamRoom.Joined = streamStep.stepped s (d .streamMemory) p g in
         let same : read d p ≡ ofStream (lent d p) j = read-is (Stream g) e in
-        let beside : Beside s (d .streamMemory) j = beside-stepped s (d .streamMemory) p g (lends .rooms) (stream-parsed p device g e .1) in
+        let beside : Beside s (d .streamMemory) j = beside-stepped s (d .streamMemory) p g (lends .rooms) (stream-parsed p setup g e .1) in
         let back : stateOf (wordsOf (j .state)) ≡ j .state = state-of (j .state) (beside .streams ∙ sixteen (d .words)) (ap length (beside .messages) ∙ eight (d .words)) in
         record {
-          ready = subst (λ (y : Settled). Ready device (y .desk)) (sym same) (still-ready (ofStream (lent d p) j) same (beside .rooms) refl refl);
+          ready = subst (λ (y : Settled). Ready setup (y .desk)) (sym same) (still-ready (ofStream (lent d p) j) same (beside .rooms) refl refl);
           stays =
               subst (λ (y : Settled). Stays x s (d .messageMemory) (stateOf (y .desk .words)) (y .desk .messageMemory)) (sym same)
               (all-stays x s (stateOf (wordsOf (j .state))) (d .messageMemory) (ap (λ (t : State). t .messages) back ∙ beside .messages));
           silent = ap (λ (y : Settled). isToldOf x (y .says)) same ∙ beside .silent x;
         }
 
-    pub read-other : isOfMail x (parsed device p) ≡ false → ReadOther device x d p
-    read-other = go (parsed device p) refl
+    pub read-other : isOfMail x (parsed setup p) ≡ false → ReadOther setup x d p
+    read-other = go (parsed setup p) refl
       where
-        go : (y : Parsed) → parsed device p ≡ y → isOfMail x y ≡ false → ReadOther device x d p
+        go : (y : Parsed) → parsed setup p ≡ y → isOfMail x y ≡ false → ReadOther setup x d p
         go (Refused number) e other = by-refused number e
         go (Stream g) e other = by-stream g e
         go (Message m) e other = by-message m e other
@@ -173,7 +181,7 @@ pub others-leave-mail : OthersLeaveMail
 unfolding messageContext
 others-leave-mail d x p n g found below bytes other =
     let s : State = stateOn d in
-    let t = read-other (deviceOf d) d p (record { desk = g; own-device = refl }) bytes x other .stays in
+    let t = read-other (setupOf d) d p (record { desk = g; own-setup = refl }) bytes x other .stays in
     let inside : firstOf (isMine x) (s .messages) < length (s .messages) = omega (arith, found, eight (d .words)) in
     let mine : isMine x (messageIn s n) ≡ true = ap (λ (i : ℕ). isMine x (messageIn s i)) (sym found) ∙ first-passes (isMine x) (s .messages) closedMessage inside in
     record { found = t .found ∙ found; context = t .context n mine; bytes = t .room n (n * 4096) 4096 mine (omega arith) (omega arith) }

@@ -15,11 +15,11 @@ use Rattle.lists.specs.First.{firstOf}
 use Rattle.lists.proofs.First.{first-passes}
 use Rattle.answers.specs.Answers.{held, message}
 use Rattle.wire.specs.declared.MessageSegment.{MessageSegment}
-use Rattle.wire.specs.Type11.{isSingle, mailbox}
+use Rattle.wire.specs.Type11.{messageDataFrom, isSingle, mailbox}
 use Rattle.sizes.specs.Sizes.{bytesOf}
 use Rattle.sizes.proofs.Laws.{bytes-le}
 use Rattle.contexts.specs.declared.MessageContext.{MessageContext}
-use Rattle.contexts.specs.State.{State, messageIn, withMessage, closedMessage, isFreeMessage, isOfMessage, messageContext, freeMessage}
+use Rattle.contexts.specs.State.{State, idsIn, messageIn, withMessage, closedMessage, isFreeMessage, isOfMessage, messageContext, freeMessage}
 use Rattle.rules.specs.Messages.{lastWith}
 use Rattle.message_rooms.specs.Placing.{MessageJoined, messageData, kept, complete, marksWith, contextWith, messagePlaced}
 use Rattle.message_rooms.proofs.Laws.{product-le}
@@ -80,7 +80,7 @@ pub record Undisturbed (x : Posted) (s : State) (memory : List ℕ) (j : Message
   pub silent : isToldOf x (j .says) ≡ false
 
 module _ (x : Posted) (s : State) (eight : length (s .messages) ≡ 8) (memory : List ℕ) (size : length memory ≡ 32768) (response p : List ℕ) (m : MessageSegment)
-    (other : isName x (m .source) (m .letter) (m .mbox) ≡ false) (whole : 7 + m .raw ≡ length p) (number : m .msgseg < 16) (mbox : m .mbox < 4) where
+    (other : isName x (m .source) (m .letter) (m .mbox) ≡ false) (whole : messageDataFrom (idsIn s) + m .raw ≡ length p) (number : m .msgseg < 16) (mbox : m .mbox < 4) where
   undisturbed-refused : (code status : ℕ) → Undisturbed x s memory (refusedWith s memory response p code status)
   unfolding refusedWith
   undisturbed-refused code status = record { stays = all-stays x s s memory refl; silent = refl }
@@ -96,16 +96,16 @@ module _ (x : Posted) (s : State) (eight : length (s .messages) ≡ 8) (memory :
   own-name : (n count : ℕ) → isToldOf x (message n (m .source) (m .letter) (mailbox m) count) ≡ false
   own-name n count = rw own-mbox other
 
-  data-length : length (messageData p) ≡ m .raw
-  data-length = length-drop 7 p ∙ omega arith
+  data-length : length (messageData (idsIn s) p) ≡ m .raw
+  data-length = length-drop (messageDataFrom (idsIn s)) p ∙ omega arith
 
   module _ (fits : m .raw ≤ bytesOf (m .ssize)) (n : ℕ) (lt : n < 8) (not-mine : isMine x (messageIn s n) ≡ false) where
     undisturbed-alone : Undisturbed x s memory (deliveredAtOnce s memory response p m n)
     unfolding deliveredAtOnce
     undisturbed-alone = record {
       stays =
-          subst (λ (at : ℕ). Stays x s memory (withMessage s n closedMessage) (written memory at (messageData p))) (add-zero (n * 4096))
-          (put-stays x s memory size n lt not-mine closedMessage (closed-none x) 0 (messageData p) (omega (arith, data-length, bytes-le (m .ssize))) (withMessage s n closedMessage) refl);
+          subst (λ (at : ℕ). Stays x s memory (withMessage s n closedMessage) (written memory at (messageData (idsIn s) p))) (add-zero (n * 4096))
+          (put-stays x s memory size n lt not-mine closedMessage (closed-none x) 0 (messageData (idsIn s) p) (omega (arith, data-length, bytes-le (m .ssize))) (withMessage s n closedMessage) refl);
       silent = own-name n (m .raw);
     }
 
@@ -115,7 +115,7 @@ module _ (x : Posted) (s : State) (eight : length (s .messages) ≡ 8) (memory :
         let context : MessageContext = contextWith m (marksWith m marks) (lastWith m last) in
         record {
           stays =
-              put-stays x s memory size n lt not-mine context (not-kept (complete m (marksWith m marks)) (marksWith m marks) (lastWith m last)) (m .msgseg * bytesOf (m .ssize)) (messageData p)
+              put-stays x s memory size n lt not-mine context (not-kept (complete m (marksWith m marks)) (marksWith m marks) (lastWith m last)) (m .msgseg * bytesOf (m .ssize)) (messageData (idsIn s) p)
               (omega (arith, data-length, product-le (m .msgseg) (bytesOf (m .ssize)) number (bytes-le (m .ssize)), bytes-le (m .ssize))) (withMessage s n context) refl;
           silent = told (complete m (marksWith m marks)) _;
         }

@@ -1,24 +1,28 @@
 -- A message's packet is read as its segment.
-use Prim.Native.Nat.{ℕ, zero, suc, _+_, _-_, _*_, _/_, _%_, _≤_, _<_}
+use Prim.Native.Nat.{ℕ, zero, suc, _+_, _-_, _*_, _/_, _%_, _^_, _≤_, _<_}
 use mathlib.Core.Path.{_≡_, refl, ap, _∙_}
 use mathlib.Core.List.{List, [], _∷_, _++_}
 use mathlib.Core.Bool.{Bool, true, false, cond, not, _||_, _&&_}
+use native.Mathlib.Nat.{mod-lt}
 use native.Mathlib.Omega.{arith}
 use native.Mathlib.Decide.{ℕ-discrete}
 use lib.ListN.{length, take, drop}
 use lib.Dec.{eqb, ltb}
 use borrow.Author.Tests.{eq-eqb, ne-eqb, le-ltb, le-leb}
-use Rattle.lists.specs.Bytes.{high, low, AreBytes}
-use Rattle.lists.specs.Each.{Each}
-use Rattle.wire.specs.Packet.{packetType, destination, tt as ttOf}
+use Rattle.lists.specs.Bytes.{byte, inBytes, AreBytes}
+use Rattle.wire.specs.declared.Setup.{Setup}
+use Rattle.wire.specs.Packet.{packetType, destination, source, tt as ttIn, ttOf, header, idsOf, firstByte, addressed}
 use Rattle.wire.specs.declared.MessageSegment.{MessageSegment}
 use Rattle.wire.specs.Parsed.{Message}
-use Rattle.wire.specs.Type11.{mailbox, messageOf}
+use Rattle.wire.specs.Type11.{mailbox, messageDataFrom, messageOf}
 use Rattle.tables.specs.Refusals.{verdict}
 use Rattle.wire.specs.Head.{headRows}
 use Rattle.wire.specs.Parsed.{parsed}
+use Rattle.wire.proofs.Addressed.{length-addressed, first-of, drop-addressed, byte-addressed, byte-behind, destination-addressed, source-addressed}
+use Rattle.wire.proofs.Widths.{some-byte, two-bytes}
 use Rattle.sizes.specs.Sizes.{inEights}
 use Rattle.rules.proofs.Laws.{judged-fine}
+use Rattle.message_rooms.specs.Placing.{messageData}
 use Rattle.rules.specs.Messages.{judged, reservedSize, badLength, pastLast}
 use Rattle.lists.proofs.Tests.{by-test}
 use Rattle.mailing.specs.Mail.{Posted, priorityAt, segmentSize, msglenOf, dataAt, isAlone, mboxOf, lastField, mailPacket, Postable, mailSegment, MailSegmentsReadBack}
@@ -27,17 +31,14 @@ use Rattle.mailing.proofs.Sizes.{Sized, sized, length-full, length-last
 -- ---- Numbers
 
 -- byte 0 of priority q
-record FirstByte (q b : ℕ) : Type 0 where
-  of-tt : b / 16 % 4 ≡ 1
+record FirstByte (ids q b : ℕ) : Type 0 where
+  of-tt : b / 16 % 4 ≡ ttOf ids
   of-type : b % 16 ≡ 11
   of-priority : b / 64 ≡ q
   is-byte : b < 256
 
-first-byte : (q : ℕ) → q ≤ 3 → FirstByte q (q * 64 + 16 + 11)
-first-byte q h = omega arith
-
-two-bytes : (n : ℕ) → n < 65536 → high n * 256 + low n ≡ n
-two-bytes n h = omega arith
+first-byte : (ids q : ℕ) → 1 ≤ ids → ids ≤ 2 → q ≤ 3 → FirstByte ids q (firstByte ids q 11)
+first-byte ids q least most h = omega arith
 
 -- two fields of four bits
 record Halves (a c b : ℕ) : Type 0 where
@@ -77,9 +78,16 @@ bytes-drop zero l h = h
 bytes-drop (suc n) [] h = no-bytes
 bytes-drop (suc n) (b ∷ bs) h = bytes-drop n bs (λ i. h (suc i))
 
-bytes-behind : (head l : List ℕ) → Each (λ (b : ℕ). b < 256) head → AreBytes l → AreBytes (head ++ l)
-bytes-behind [] l e h = h
-bytes-behind (b ∷ bs) l e h = bytes-cons b (bs ++ l) (e .0) (bytes-behind bs l (e .1) h)
+-- behind a number in its bytes
+bytes-behind : (n v : ℕ) (l : List ℕ) → AreBytes l → AreBytes (inBytes n v ++ l)
+unfolding inBytes
+bytes-behind zero v l h = h
+bytes-behind (suc n) v l h = bytes-cons (v / 256 ^ n % 256) (inBytes n v ++ l) (mod-lt (v / 256 ^ n) (omega arith)) (bytes-behind n v l h)
+
+bytes-addressed : (ids first to by : ℕ) (rest : List ℕ) → first < 256 → AreBytes rest → AreBytes (addressed ids first to by rest)
+unfolding addressed
+bytes-addressed ids first to by rest f h =
+    bytes-cons first (inBytes ids to ++ (inBytes ids by ++ rest)) f (bytes-behind ids to (inBytes ids by ++ rest) (bytes-behind ids by rest h))
 
 -- ---- The packet
 
@@ -90,9 +98,28 @@ by-fields : (s s′ l l′ m m′ n n′ z z′ k k′ r r′ : ℕ) → s ≡ s
     (record { source = s′; letter = l′; mbox = m′; msglen = n′; ssize = z′; msgseg = k′; raw = r′ })
 by-fields s s′ l l′ m m′ n n′ z z′ k k′ r r′ a b d e f g h = rw (a, b, d, e, f, g, h)
 
-module _ (device : ℕ) (x : Posted) (k : ℕ) (p : Postable device x) (below : k ≤ msglenOf x) where
+module _ (setup : Setup) (x : Posted) (k : ℕ) (p : Postable setup x) (below : k ≤ msglenOf x) where
   z : Sized x
-  z = sized device x p
+  z = sized setup x p
+
+  abbrev ids : ℕ
+  ids = idsOf setup
+
+  abbrev packet : List ℕ
+  packet = mailPacket setup x k
+
+  -- its byte 0, and what stands behind the IDs
+  abbrev byte0 : ℕ
+  byte0 = firstByte ids (priorityAt x k) 11
+
+  abbrev sizesByte : ℕ
+  sizesByte = msglenOf x * 16 + x .ssize
+
+  abbrev nameByte : ℕ
+  nameByte = x .mail .letter * 64 + mboxOf x * 16 + lastField x k
+
+  abbrev rest : List ℕ
+  rest = sizesByte ∷ nameByte ∷ dataAt x k
 
   -- the last field has four bits
   field-fits : lastField x k < 16
@@ -101,32 +128,69 @@ module _ (device : ℕ) (x : Posted) (k : ℕ) (p : Postable device x) (below : 
       (λ t. let h = rw t at (p .mailbox) in rw t (omega arith))
       (λ t. rw t (omega (arith, z .most)))
 
-  first : FirstByte (priorityAt x k) (priorityAt x k * 64 + 16 + 11)
-  first = first-byte (priorityAt x k) (p .priorities k)
+  first : FirstByte ids (priorityAt x k) byte0
+  first = first-byte ids (priorityAt x k) (some-byte (setup .narrow)) (two-bytes (setup .narrow)) (p .priorities k)
 
-  sizes : Halves (msglenOf x) (x .ssize) (msglenOf x * 16 + x .ssize)
+  sizes : Halves (msglenOf x) (x .ssize) sizesByte
   sizes = halves (msglenOf x) (x .ssize) (z .most) (z .code)
 
-  name : Names (x .mail .letter) (mboxOf x) (lastField x k) (x .mail .letter * 64 + mboxOf x * 16 + lastField x k)
+  name : Names (x .mail .letter) (mboxOf x) (lastField x k) nameByte
   name = names (x .mail .letter) (mboxOf x) (lastField x k) (p .letter) (omega arith) field-fits
 
-  is-message : messageOf (mailPacket device x k) ≡ mailSegment x k
-  unfolding messageOf mailPacket
-  is-message =
-      by-fields _ _ _ _ _ _ _ _ _ _ _ _ _ _ (two-bytes (x .mail .source) (p .source)) (name .letter) (name .mbox) (sizes .upper) (sizes .lower) (name .field) (omega arith)
+  -- where they stand
+  size-is : length packet ≡ messageDataFrom ids + length (dataAt x k)
+  unfolding mailPacket
+  size-is = length-addressed ids byte0 (setup .device) (x .mail .source) rest ∙ omega arith
 
-  is-parsed : parsed device (mailPacket device x k) ≡ Message (mailSegment x k)
-  unfolding parsed verdict headRows mailPacket
+  at-0 : byte packet 0 ≡ byte0
+  unfolding mailPacket
+  at-0 = first-of ids byte0 (setup .device) (x .mail .source) rest
+
+  at-sizes : byte packet (header ids) ≡ sizesByte
+  unfolding mailPacket
+  at-sizes = byte-behind ids byte0 (setup .device) (x .mail .source) rest
+
+  at-name : byte packet (header ids + 1) ≡ nameByte
+  unfolding mailPacket
+  at-name = byte-addressed ids byte0 (setup .device) (x .mail .source) rest 1
+
+  source-is : source ids packet ≡ x .mail .source
+  unfolding mailPacket
+  source-is = source-addressed ids byte0 (setup .device) (x .mail .source) rest (p .source)
+
+  destination-is : destination ids packet ≡ setup .device
+  unfolding mailPacket
+  destination-is = destination-addressed ids byte0 (setup .device) (x .mail .source) rest (p .device-ID)
+
+  data-is : messageData ids packet ≡ dataAt x k
+  unfolding mailPacket
+  data-is = drop-addressed ids byte0 (setup .device) (x .mail .source) rest 2
+
+  is-message : messageOf ids packet ≡ mailSegment x k
+  unfolding messageOf
+  is-message =
+      by-fields _ _ _ _ _ _ _ _ _ _ _ _ _ _ source-is
+      (ap (λ (b : ℕ). b / 64) at-name ∙ name .letter)
+      (ap (λ (b : ℕ). b / 16 % 4) at-name ∙ name .mbox)
+      (ap (λ (b : ℕ). b / 16) at-sizes ∙ sizes .upper)
+      (ap (λ (b : ℕ). b % 16) at-sizes ∙ sizes .lower)
+      (ap (λ (b : ℕ). b % 16) at-name ∙ name .field)
+      (omega (arith, size-is))
+
+  type-is : packetType packet ≡ 11
+  type-is = ap (λ (b : ℕ). b % 16) at-0 ∙ first .of-type
+
+  is-parsed : parsed setup packet ≡ Message (mailSegment x k)
+  unfolding parsed verdict headRows
   is-parsed =
-      let packet : List ℕ = mailPacket device x k in
       rw (
-        le-ltb (length packet) 5 (omega arith),
-        eq-eqb (ttOf packet) 1 (first .of-tt),
-        eq-eqb (destination packet) device (two-bytes device (p .device-ID)),
-        ne-eqb (packetType packet) 9 (λ e. omega (arith, first .of-type)),
-        eq-eqb (packetType packet) 11 (first .of-type),
-        le-ltb (length packet) 7 (omega arith),
-      ) (rw (ne-eqb (packetType packet) 9 (λ e. omega (arith, first .of-type))) (ap Message is-message))
+        le-ltb (length packet) (header ids) (omega (arith, size-is)),
+        eq-eqb (ttIn packet) (ttOf ids) (ap (λ (b : ℕ). b / 16 % 4) at-0 ∙ first .of-tt),
+        eq-eqb (destination ids packet) (setup .device) destination-is,
+        ne-eqb (packetType packet) 9 (λ e. omega (arith, type-is)),
+        eq-eqb (packetType packet) 11 type-is,
+        le-ltb (length packet) (header ids + 2) (omega (arith, size-is)),
+      ) (rw (ne-eqb (packetType packet) 9 (λ e. omega (arith, type-is))) (ap Message is-message))
 
   -- rows 20 to 22
   last-or-full : cond (eqb (msglenOf x) 0 || eqb (lastField x k) (msglenOf x)) (not (inEights (length (dataAt x k)) (segmentSize x))) (not (eqb (length (dataAt x k)) (segmentSize x))) ≡ false
@@ -163,27 +227,19 @@ module _ (device : ℕ) (x : Posted) (k : ℕ) (p : Postable device x) (below : 
       (λ t. rw t (omega arith))
       (λ t. let h = rw t at (p .mailbox) in rw t (omega arith))
 
-  all-bytes : AreBytes (mailPacket device x k)
+  all-bytes : AreBytes packet
   unfolding mailPacket dataAt
   all-bytes =
-      bytes-behind
-      ((priorityAt x k * 64 + 16 + 11)
-      ∷ high device ∷ low device
-      ∷ high (x .mail .source) ∷ low (x .mail .source)
-      ∷ (msglenOf x * 16 + x .ssize)
-      ∷ (x .mail .letter * 64 + mboxOf x * 16 + lastField x k)
-      ∷ [])
-      (dataAt x k)
-      (first .is-byte, (omega arith, (omega arith, (omega arith, (omega arith, (sizes .is-byte, (name .is-byte, tt)))))))
-      (bytes-take (segmentSize x) (drop (k * segmentSize x) (x .mail .bytes)) (bytes-drop (k * segmentSize x) (x .mail .bytes) (p .bytes)))
+      bytes-addressed ids byte0 (setup .device) (x .mail .source) rest (first .is-byte)
+      (bytes-cons sizesByte (nameByte ∷ dataAt x k) (sizes .is-byte) (bytes-cons nameByte (dataAt x k) (name .is-byte)
+      (bytes-take (segmentSize x) (drop (k * segmentSize x) (x .mail .bytes)) (bytes-drop (k * segmentSize x) (x .mail .bytes) (p .bytes)))))
 
 pub mail-read : MailSegmentsReadBack
-unfolding mailPacket
-mail-read device x k p below = record {
-  read = is-parsed device x k p below;
-  priority = first device x k p below .of-priority;
-  well-formed = passes device x k p below;
-  mailbox-is = is-mailbox device x k p below;
-  data-are = refl;
-  are-bytes = all-bytes device x k p below;
+mail-read setup x k p below = record {
+  read = is-parsed setup x k p below;
+  priority = ap (λ (b : ℕ). b / 64) (at-0 setup x k p below) ∙ first setup x k p below .of-priority;
+  well-formed = passes setup x k p below;
+  mailbox-is = is-mailbox setup x k p below;
+  data-are = data-is setup x k p below;
+  are-bytes = all-bytes setup x k p below;
 }

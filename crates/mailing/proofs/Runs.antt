@@ -9,16 +9,18 @@ use lib.Dec.{eqb}
 use borrow.Author.Tests.{eq-eqb, ne-eqb}
 use Rattle.lists.specs.Each.{Each}
 use Rattle.answers.specs.Answers.{Said, held}
-use Rattle.contexts.specs.State.{State, messageIn, messageContext, freeMessage}
+use Rattle.wire.specs.declared.Setup.{Setup}
+use Rattle.wire.specs.Packet.{idsOf}
+use Rattle.contexts.specs.State.{State, idsIn, messageIn, messageContext, freeMessage}
 use Rattle.marks.specs.Marks.{marked, withMark, allMarked}
 use Rattle.contexts.proofs.Words.{eight}
-use Rattle.message_rooms.specs.Placing.{MessageJoined}
+use Rattle.message_rooms.specs.Placing.{MessageJoined, messageData}
 use Rattle.messages.specs.Joining.{messageStepped}
 use Rattle.reading.specs.Desk.{Desk, stateOn, withResponse}
 use Rattle.flows.specs.Deliveries.{read, after, inRoom}
 use Rattle.mailing.specs.Mail.{Mail, Posted, segmentSize, msglenOf, dataAt, isAlone, mboxOf, mailPacket, mailSegment, Postable, ReadsAsMail, mailAnswer}
 use Rattle.mailing.specs.Run.{MailTurn, segment, other, arrivals, isName, FairMailTurn, MailCall, ofSegments, contextAtFirst, saidAt, DoneAt, mailIn, ofName}
-use Rattle.mailing.specs.ReadBack.{deviceOf, contextOf, MailRun, MailReadsBack, definedCalls, MessageReadBack}
+use Rattle.mailing.specs.ReadBack.{setupOf, contextOf, MailRun, MailReadsBack, definedCalls, MessageReadBack}
 use Rattle.mailing.specs.OfCalls.{MessageReadBackOfCalls}
 use Rattle.mailing.proofs.Sizes.{Sized, sized}
 use Rattle.mailing.proofs.Packets.{mail-read}
@@ -64,9 +66,9 @@ of-itself x = rw (eq-eqb (x .mail .source) (x .mail .source) refl, eq-eqb (x .ma
 
 -- ---- Turns
 
-module _ (device : ℕ) (x : Posted) (post : Postable device x) where
+module _ (setup : Setup) (x : Posted) (post : Postable setup x) where
   z : Sized x
-  z = sized device x post
+  z = sized setup x post
 
   -- c segments are held and one more delivers the message from context n
   record Result (ts : List MailTurn) (cs : List MailCall) (n c : ℕ) : Type 0 where
@@ -109,11 +111,11 @@ module _ (device : ℕ) (x : Posted) (post : Postable device x) where
 
   -- ---- the whole run, by what is known of the message
 
-  over : {d : Desk} {cs : List MailCall} (ts : List MailTurn) → Calls device x d ts cs → Ready device d → arrivals ts ≡ [] → Each (FairMailTurn device x) ts → Over ts cs
+  over : {d : Desk} {cs : List MailCall} (ts : List MailTurn) → Calls setup x d ts cs → Ready setup d → arrivals ts ≡ [] → Each (FairMailTurn setup x) ts → Over ts cs
   over [] none r e fair = record { none-left = refl; silent = refl }
   over (segment k ∷ ts) calls r e fair = absurd (let clash : _≡_ {A = ℕ} 0 1 = cc in omega arith)
   over {d} (other p ∷ ts) (one given mail h has rest) r e fair =
-      let q = read-other device (withResponse d given) p (with-buffer r given h) (fair .0 .0) x (fair .0 .1) in
+      let q = read-other setup (withResponse d given) p (with-buffer r given h) (fair .0 .0) x (fair .0 .1) in
       other-over _ (has .silent (q .silent)) (over ts rest (q .ready) e (fair .1))
 
   -- as many numbers as a list has
@@ -127,12 +129,16 @@ module _ (device : ℕ) (x : Posted) (post : Postable device x) where
   more-awaited (k ∷ ks) marks w h = some-awaited (msglenOf x) marks k ks w
 
   -- segment k is read by the state and the memory
-  module _ (d : Desk) (k : ℕ) (r : Ready device d) (below : k ≤ msglenOf x) where
+  module _ (d : Desk) (k : ℕ) (r : Ready setup d) (below : k ≤ msglenOf x) where
     abbrev packet : List ℕ
-    packet = mailPacket device x k
+    packet = mailPacket setup x k
 
-    says-it : ReadsAsMail device x k
-    says-it = mail-read device x k post below
+    says-it : ReadsAsMail setup x k
+    says-it = mail-read setup x k post below
+
+    -- at the width of the desk
+    data-here : messageData (idsIn (stateOn d)) packet ≡ dataAt x k
+    data-here = ap (λ (t : Setup). messageData (idsOf t) packet) (r .own-setup) ∙ says-it .data-are
 
     abbrev step : MessageJoined
     step = messageStepped (stateOn d) (d .messageMemory) (d .response) packet (mailSegment x k)
@@ -141,47 +147,47 @@ module _ (device : ℕ) (x : Posted) (post : Postable device x) where
     abbrev lastAfter : ℕ → ℕ
     lastAfter last = cond (eqb k (msglenOf x)) (length (dataAt x k)) last
 
-    by-step : Read11 device d packet step
-    by-step = read-11 device d packet r (says-it .are-bytes) (mailSegment x k) (says-it .read)
+    by-step : Read11 setup d packet step
+    by-step = read-11 setup d packet r (says-it .are-bytes) (mailSegment x k) (says-it .read)
 
     -- what it leaves, by what is known of the message
-    only-here : isAlone x ≡ true → freeMessage (stateOn d) < 8 → Delivers x (d .response) packet (freeMessage (stateOn d)) step
+    only-here : isAlone x ≡ true → freeMessage (stateOn d) < 8 → Delivers (idsIn (stateOn d)) x (d .response) packet (freeMessage (stateOn d)) step
     only-here =
         only x z (stateOn d) (eight (d .words)) (d .messageMemory) (r .desk .lends .boxes) (d .response) packet k below
-        (says-it .mailbox-is) (says-it .data-are) (says-it .well-formed)
+        (says-it .mailbox-is) data-here (says-it .well-formed)
 
     first-here : isAlone x ≡ false → contextOf x d ≡ 8 → freeMessage (stateOn d) < 8 → allMarked (withMark 0 k) (msglenOf x + 1) ≡ false
-        → Holds x (d .response) packet (freeMessage (stateOn d)) (withMark 0 k) (lastAfter 0) step
+        → Holds (idsIn (stateOn d)) x (d .response) packet (freeMessage (stateOn d)) (withMark 0 k) (lastAfter 0) step
     first-here =
         first x z (stateOn d) (eight (d .words)) (d .messageMemory) (r .desk .lends .boxes) (d .response) packet k below
-        (says-it .mailbox-is) (says-it .data-are) (says-it .well-formed)
+        (says-it .mailbox-is) data-here (says-it .well-formed)
 
     module _ (several : isAlone x ≡ false) (n marks last : ℕ) (o : Open x (stateOn d) (d .messageMemory) n marks last) (unset : marked marks k ≡ false) where
-      next-here : allMarked (withMark marks k) (msglenOf x + 1) ≡ false → Holds x (d .response) packet n (withMark marks k) (lastAfter last) step
+      next-here : allMarked (withMark marks k) (msglenOf x + 1) ≡ false → Holds (idsIn (stateOn d)) x (d .response) packet n (withMark marks k) (lastAfter last) step
       next-here =
           next x z (stateOn d) (eight (d .words)) (d .messageMemory) (r .desk .lends .boxes) (d .response) packet k below
-          (says-it .mailbox-is) (says-it .data-are) (says-it .well-formed) several n marks last o unset
+          (says-it .mailbox-is) data-here (says-it .well-formed) several n marks last o unset
 
-      final-here : Awaits (msglenOf x) (withMark marks k) [] → Delivers x (d .response) packet n step
+      final-here : Awaits (msglenOf x) (withMark marks k) [] → Delivers (idsIn (stateOn d)) x (d .response) packet n step
       final-here rest =
           final x z (stateOn d) (eight (d .words)) (d .messageMemory) (r .desk .lends .boxes) (d .response) packet k below
-          (says-it .mailbox-is) (says-it .data-are) (says-it .well-formed) several n marks last o unset
+          (says-it .mailbox-is) data-here (says-it .well-formed) several n marks last o unset
           (none-awaited (msglenOf x) (withMark marks k) rest) (all-come (msglenOf x) (withMark marks k) rest)
 
     -- it is held
-    then-open : {n marks last : ℕ} → Holds x (d .response) packet n marks last step
+    then-open : {n marks last : ℕ} → Holds (idsIn (stateOn d)) x (d .response) packet n marks last step
         → Open x (stateOn (after d packet)) (after d packet .messageMemory) n marks last
     then-open {n} {marks} {last} h = subst₂ (λ (s : State) (memory : List ℕ). Open x s memory n marks last) (sym (by-step .state)) (sym (by-step .memory)) (h .stands)
 
     module _ {mail : List Mail} {ts : List MailTurn} {cs : List MailCall} (has : Has x (after d packet) (read d packet .says) mail) where
-      held-then : {n marks last c : ℕ} → Holds x (d .response) packet n marks last step → Result ts cs n c
+      held-then : {n marks last c : ℕ} → Holds (idsIn (stateOn d)) x (d .response) packet n marks last step → Result ts cs n c
           → Result (segment k ∷ ts) (callWith d packet mail ∷ cs) n (suc c)
       held-then h rest =
           let says : read d packet .says ≡ held = by-step .says ∙ h .says in
           held-result _ (has .silent (ap (isToldOf x) says)) says (by-step .response ∙ h .done) rest
 
       -- it delivers the message
-      final-then : {n : ℕ} → n < 8 → Delivers x (d .response) packet n step → Over ts cs → Result (segment k ∷ ts) (callWith d packet mail ∷ cs) n 0
+      final-then : {n : ℕ} → n < 8 → Delivers (idsIn (stateOn d)) x (d .response) packet n step → Over ts cs → Result (segment k ∷ ts) (callWith d packet mail ∷ cs) n 0
       final-then {n} lt t rest =
           let says : read d packet .says ≡ mailAnswer x n = by-step .says ∙ t .says in
           let room = ap (λ (memory : List ℕ). inRoom 4096 memory n (length (x .mail .bytes))) (by-step .memory) ∙ t .room in
@@ -195,12 +201,12 @@ module _ (device : ℕ) (x : Posted) (post : Postable device x) where
 
   module _ (several : isAlone x ≡ false) where
     -- the message is open, and c + 1 segments are to come
-    joining : {d : Desk} {cs : List MailCall} (ts : List MailTurn) (n marks last c : ℕ) → Calls device x d ts cs → Ready device d
+    joining : {d : Desk} {cs : List MailCall} (ts : List MailTurn) (n marks last c : ℕ) → Calls setup x d ts cs → Ready setup d
         → Open x (stateOn d) (d .messageMemory) n marks last
-        → Awaits (msglenOf x) marks (arrivals ts) → length (arrivals ts) ≡ suc c → Each (FairMailTurn device x) ts → Result ts cs n c
+        → Awaits (msglenOf x) marks (arrivals ts) → length (arrivals ts) ≡ suc c → Each (FairMailTurn setup x) ts → Result ts cs n c
     joining [] n marks last c none r o w count fair = absurd (omega arith)
     joining {d} (other p ∷ ts) n marks last c (one given mail h has rest) r o w count fair =
-        let q = read-other device (withResponse d given) p (with-buffer r given h) (fair .0 .0) x (fair .0 .1) in
+        let q = read-other setup (withResponse d given) p (with-buffer r given h) (fair .0 .0) x (fair .0 .1) in
         other-result _ (has .silent (q .silent)) (joining ts n marks last c rest (q .ready) (stays-open x z (q .stays) o) w count (fair .1))
     joining {d} (segment k ∷ ts) n marks last zero (one given mail h has rest) r o w count fair =
         let e : Desk = withResponse d given in
@@ -220,12 +226,12 @@ module _ (device : ℕ) (x : Posted) (post : Postable device x) where
         (joining ts n _ _ c rest (by-step e k ready (a .0) .ready) (then-open e k ready (a .0) holds) more (omega arith) (fair .1))
 
     -- none is open for it, and c + 2 segments are to come
-    waiting : {d : Desk} {cs : List MailCall} (ts : List MailTurn) (c : ℕ) → Calls device x d ts cs → Ready device d
+    waiting : {d : Desk} {cs : List MailCall} (ts : List MailTurn) (c : ℕ) → Calls setup x d ts cs → Ready setup d
         → contextOf x d ≡ 8 → contextAtFirst (ofSegments ts cs) < 8
-        → Awaits (msglenOf x) 0 (arrivals ts) → length (arrivals ts) ≡ suc (suc c) → Each (FairMailTurn device x) ts → Result ts cs (contextAtFirst (ofSegments ts cs)) (suc c)
+        → Awaits (msglenOf x) 0 (arrivals ts) → length (arrivals ts) ≡ suc (suc c) → Each (FairMailTurn setup x) ts → Result ts cs (contextAtFirst (ofSegments ts cs)) (suc c)
     waiting [] c none r shut free w count fair = absurd (omega arith)
     waiting {d} (other p ∷ ts) c (one given mail h has rest) r shut free w count fair =
-        let q = read-other device (withResponse d given) p (with-buffer r given h) (fair .0 .0) x (fair .0 .1) in
+        let q = read-other setup (withResponse d given) p (with-buffer r given h) (fair .0 .0) x (fair .0 .1) in
         other-result _ (has .silent (q .silent)) (waiting ts c rest (q .ready) (still-none (q .stays) shut) free w count (fair .1))
     waiting {d} (segment k ∷ ts) c (one given mail h has rest) r shut free w count fair =
         let e : Desk = withResponse d given in
@@ -237,11 +243,11 @@ module _ (device : ℕ) (x : Posted) (post : Postable device x) where
         (joining ts (freeMessage (stateOn d)) _ _ c rest (by-step e k ready (a .0) .ready) (then-open e k ready (a .0) holds) more (omega arith) (fair .1))
 
   -- it has one segment, which is to come
-  alone : {d : Desk} {cs : List MailCall} (ts : List MailTurn) → isAlone x ≡ true → Calls device x d ts cs → Ready device d → contextAtFirst (ofSegments ts cs) < 8
-      → Awaits (msglenOf x) 0 (arrivals ts) → length (arrivals ts) ≡ 1 → Each (FairMailTurn device x) ts → Result ts cs (contextAtFirst (ofSegments ts cs)) 0
+  alone : {d : Desk} {cs : List MailCall} (ts : List MailTurn) → isAlone x ≡ true → Calls setup x d ts cs → Ready setup d → contextAtFirst (ofSegments ts cs) < 8
+      → Awaits (msglenOf x) 0 (arrivals ts) → length (arrivals ts) ≡ 1 → Each (FairMailTurn setup x) ts → Result ts cs (contextAtFirst (ofSegments ts cs)) 0
   alone [] t none r free w count fair = absurd (omega arith)
   alone {d} (other p ∷ ts) t (one given mail h has rest) r free w count fair =
-      let q = read-other device (withResponse d given) p (with-buffer r given h) (fair .0 .0) x (fair .0 .1) in
+      let q = read-other setup (withResponse d given) p (with-buffer r given h) (fair .0 .0) x (fair .0 .1) in
       other-result _ (has .silent (q .silent)) (alone ts t rest (q .ready) free w count (fair .1))
   alone {d} (segment k ∷ ts) t (one given mail h has rest) r free w count fair =
       let e : Desk = withResponse d given in
@@ -252,9 +258,9 @@ module _ (device : ℕ) (x : Posted) (post : Postable device x) where
 
 -- ---- The statements
 
-module _ (d : Desk) (x : Posted) (turns : List MailTurn) (calls : List MailCall) (run : MailRun d x turns calls) (made : Calls (deviceOf d) x d turns calls) where
-  ready : Ready (deviceOf d) d
-  ready = record { desk = run .start; own-device = refl }
+module _ (d : Desk) (x : Posted) (turns : List MailTurn) (calls : List MailCall) (run : MailRun d x turns calls) (made : Calls (setupOf d) x d turns calls) where
+  ready : Ready (setupOf d) d
+  ready = record { desk = run .start; own-setup = refl }
 
   awaits : Awaits (msglenOf x) 0 (arrivals turns)
   awaits = awaits-all (msglenOf x) (arrivals turns) (run .each-once)
@@ -271,11 +277,11 @@ module _ (d : Desk) (x : Posted) (turns : List MailTurn) (calls : List MailCall)
   none-there : 0 < msglenOf x → contextOf x d ≡ 8
   none-there h = omega (arith, run .none-open h)
 
-  by-segments : (n : ℕ) → msglenOf x ≡ n → Result (deviceOf d) x (run .postable) turns calls firstContext n
-  by-segments zero e = alone (deviceOf d) x (run .postable) turns (eq-eqb (msglenOf x) 0 e) made ready left-free awaits (omega (arith, count)) (run .others)
+  by-segments : (n : ℕ) → msglenOf x ≡ n → Result (setupOf d) x (run .postable) turns calls firstContext n
+  by-segments zero e = alone (setupOf d) x (run .postable) turns (eq-eqb (msglenOf x) 0 e) made ready left-free awaits (omega (arith, count)) (run .others)
   by-segments (suc c) e =
       let several = ne-eqb (msglenOf x) 0 (λ none. omega arith) in
-      waiting (deviceOf d) x (run .postable) several turns c made ready (none-there (omega arith)) left-free awaits (omega (arith, count)) (run .others)
+      waiting (setupOf d) x (run .postable) several turns c made ready (none-there (omega arith)) left-free awaits (omega (arith, count)) (run .others)
 
   reads-back : MailReadsBack x turns calls
   reads-back =
@@ -283,7 +289,7 @@ module _ (d : Desk) (x : Posted) (turns : List MailTurn) (calls : List MailCall)
       record { answers = r .answers; responses = r .responses; delivers = r .delivers }
 
 pub message-read-back : MessageReadBack
-message-read-back d x turns run = reads-back d x turns (definedCalls d x turns) run (of-definitions (deviceOf d) x turns d (run .start .lends .reply))
+message-read-back d x turns run = reads-back d x turns (definedCalls d x turns) run (of-definitions (setupOf d) x turns d (run .start .lends .reply))
 
 pub message-read-back-of-calls : MessageReadBackOfCalls
-message-read-back-of-calls d x turns calls kept run = reads-back d x turns calls run (of-promises (deviceOf d) x (sized (deviceOf d) x (run .postable)) turns kept)
+message-read-back-of-calls d x turns calls kept run = reads-back d x turns calls run (of-promises (setupOf d) x (sized (setupOf d) x (run .postable)) turns kept)

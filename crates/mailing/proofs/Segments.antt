@@ -19,7 +19,7 @@ use Rattle.wire.specs.declared.MessageSegment.{MessageSegment}
 use Rattle.wire.specs.Type11.{mailbox}
 use Rattle.responses.specs.Type13.{DONE, answered}
 use Rattle.contexts.specs.declared.MessageContext.{MessageContext}
-use Rattle.contexts.specs.State.{State, messageIn, withMessage, closedMessage, messageContext, freeMessage}
+use Rattle.contexts.specs.State.{State, idsIn, messageIn, withMessage, closedMessage, messageContext, freeMessage}
 use Rattle.marks.specs.Marks.{marked, withMark, allMarked}
 use Rattle.marks.proofs.Bits.{mark-other}
 use Rattle.marks.proofs.Marks.{nothing-marked}
@@ -55,19 +55,19 @@ Finds x s n = (c : MessageContext) → isMine x c ≡ true → firstOf (isMine x
 -- ---- One segment
 
 -- the message is delivered from context n, and DONE written
-pub record Delivers (x : Posted) (response p : List ℕ) (n : ℕ) (j : MessageJoined) : Type 0 where
+pub record Delivers (ids : ℕ) (x : Posted) (response p : List ℕ) (n : ℕ) (j : MessageJoined) : Type 0 where
   pub says : j .says ≡ mailAnswer x n
   pub room : take (length (x .mail .bytes)) (drop (n * 4096) (j .memory)) ≡ x .mail .bytes
-  pub done : j .response ≡ answered response p DONE
+  pub done : j .response ≡ answered ids response p DONE
 
 -- the segment is held in context n, and DONE written
-pub record Holds (x : Posted) (response p : List ℕ) (n marks last : ℕ) (j : MessageJoined) : Type 0 where
+pub record Holds (ids : ℕ) (x : Posted) (response p : List ℕ) (n marks last : ℕ) (j : MessageJoined) : Type 0 where
   pub says : j .says ≡ held
   pub stands : Open x (j .state) (j .memory) n marks last
-  pub done : j .response ≡ answered response p DONE
+  pub done : j .response ≡ answered ids response p DONE
 
 module _ (x : Posted) (z : Sized x) (s : State) (eight : length (s .messages) ≡ 8) (memory : List ℕ) (size : length memory ≡ 32768) (response p : List ℕ) (k : ℕ)
-    (below : k ≤ msglenOf x) (box : mailbox (mailSegment x k) ≡ x .mail .mailbox) (bytes : messageData p ≡ dataAt x k) where
+    (below : k ≤ msglenOf x) (box : mailbox (mailSegment x k) ≡ x .mail .mailbox) (bytes : messageData (idsIn s) p ≡ dataAt x k) where
   abbrev m : MessageSegment
   m = mailSegment x k
 
@@ -100,11 +100,11 @@ module _ (x : Posted) (z : Sized x) (s : State) (eight : length (s .messages) �
         ≡ messageJoining (cond (allMarked marks′ (msglenOf x + 1)) (message n (x .mail .source) (x .mail .letter) (mailbox m) (msglenOf x * segmentSize x + last′)) held)
         (withMessage s n (cond (allMarked marks′ (msglenOf x + 1)) closedMessage (kept m marks′ last′)))
         (written memory (n * 4096 + k * segmentSize x) (dataAt x k))
-        (answered response p DONE)
+        (answered (idsIn s) response p DONE)
     unfolding messagePlaced
     placed-is = rw (several, bytes)
 
-    delivered : ((i : ℕ) → i ≤ msglenOf x → marked marks′ i ≡ true) → allMarked marks′ (msglenOf x + 1) ≡ true → Delivers x response p n j
+    delivered : ((i : ℕ) → i ≤ msglenOf x → marked marks′ i ≡ true) → allMarked marks′ (msglenOf x + 1) ≡ true → Delivers (idsIn s) x response p n j
     delivered all e =
         let length-is : msglenOf x * segmentSize x + last′ ≡ length (x .mail .bytes) =
         omega (arith, now .last-is (all (msglenOf x) (omega arith)), length-last x z, z .begins) in
@@ -114,7 +114,7 @@ module _ (x : Posted) (z : Sized x) (s : State) (eight : length (s .messages) �
           done = refl;
         })
 
-    held-open : allMarked marks′ (msglenOf x + 1) ≡ false → Holds x response p n marks′ last′ j
+    held-open : allMarked marks′ (msglenOf x + 1) ≡ false → Holds (idsIn s) x response p n marks′ last′ j
     unfolding messageContext
     held-open e =
         rw (placed-is, e) (record {
@@ -147,7 +147,7 @@ module _ (x : Posted) (z : Sized x) (s : State) (eight : length (s .messages) �
           let first : k ≡ 0 = omega arith in
           rw (first, zero-mul (segmentSize x)) (take-all (segmentSize x) (x .mail .bytes) (omega (arith, z .ends, ap (λ (i : ℕ). i * segmentSize x) none, zero-mul (segmentSize x))))
 
-      pub only : Delivers x response p (freeMessage s) step
+      pub only : Delivers (idsIn s) x response p (freeMessage s) step
       unfolding deliveredAtOnce
       only =
           rw (only-is, bytes, whole) (record {
@@ -173,7 +173,7 @@ module _ (x : Posted) (z : Sized x) (s : State) (eight : length (s .messages) �
         }
 
         pub first : allMarked (withMark 0 k) (msglenOf x + 1) ≡ false
-            → Holds x response p (freeMessage s) (withMark 0 k) (cond (eqb k (msglenOf x)) (length (dataAt x k)) 0) step
+            → Holds (idsIn s) x response p (freeMessage s) (withMark 0 k) (cond (eqb k (msglenOf x)) (length (dataAt x k)) 0) step
         first e = rw first-is (held-open several (freeMessage s) 0 0 free first-finds nothing (nothing-marked k) e)
 
       -- one more of an open message
@@ -195,8 +195,8 @@ module _ (x : Posted) (z : Sized x) (s : State) (eight : length (s .messages) �
         so-far : In x memory n marks last
         so-far = record { last-is = o .last-is; filled = o .filled }
 
-        pub next : allMarked (withMark marks k) (msglenOf x + 1) ≡ false → Holds x response p n (withMark marks k) (cond (eqb k (msglenOf x)) (length (dataAt x k)) last) step
+        pub next : allMarked (withMark marks k) (msglenOf x + 1) ≡ false → Holds (idsIn s) x response p n (withMark marks k) (cond (eqb k (msglenOf x)) (length (dataAt x k)) last) step
         next e = rw next-is (held-open several n marks last (o .below) next-finds so-far unset e)
 
-        pub final : ((i : ℕ) → i ≤ msglenOf x → marked (withMark marks k) i ≡ true) → allMarked (withMark marks k) (msglenOf x + 1) ≡ true → Delivers x response p n step
+        pub final : ((i : ℕ) → i ≤ msglenOf x → marked (withMark marks k) i ≡ true) → allMarked (withMark marks k) (msglenOf x + 1) ≡ true → Delivers (idsIn s) x response p n step
         final all e = rw next-is (delivered several n marks last (o .below) next-finds so-far unset all e)

@@ -11,6 +11,7 @@ use lib.Dec.{eqb, leb}
 use borrow.Author.Tests.{leb-true, eqb-true}
 use Rattle.lists.specs.Each.{Each}
 use Rattle.lists.proofs.Tests.{both}
+use Rattle.wire.specs.declared.Setup.{Setup}
 use Rattle.sizes.specs.Sizes.{ssizes, bytesOf, inEights}
 use Rattle.sizes.proofs.Laws.{bytes-le, reserved}
 use Rattle.mailing.specs.Mail.{Posted, segmentSize, msglenOf, dataAt, Postable}
@@ -52,9 +53,9 @@ pub record Sized (x : Posted) : Type 0 where
   pub ends : length (x .mail .bytes) ≤ msglenOf x * segmentSize x + segmentSize x
   pub last-eights : (length (x .mail .bytes) - msglenOf x * segmentSize x) % 8 ≡ 0
 
-pub sized : (device : ℕ) (x : Posted) → Postable device x → Sized x
+pub sized : (setup : Setup) (x : Posted) → Postable setup x → Sized x
 unfolding msglenOf
-sized device x p =
+sized setup x p =
     let size : ℕ = segmentSize x in
     let L : ℕ = length (x .mail .bytes) in
     let e = eights L (16 * size) (p .size) in

@@ -1,13 +1,15 @@
 -- A message to be sent, its segments to the byte, and what they say when they are read (document 01, 'Packet bytes', type 11).
-use Prim.Native.Nat.{ℕ, _+_, _-_, _*_, _/_, _%_, _≤_, _<_}
+use Prim.Native.Nat.{ℕ, _+_, _-_, _*_, _/_, _%_, _^_, _≤_, _<_}
 use mathlib.Core.Path.{_≡_}
 use mathlib.Core.List.{List, _∷_}
 use mathlib.Core.Bool.{Bool, true, cond}
 use lib.ListN.{length, getD, take, drop}
 use lib.Dec.{eqb}
-use Rattle.lists.specs.Bytes.{high, low, AreBytes}
+use Rattle.lists.specs.Bytes.{AreBytes}
 use Rattle.answers.specs.Answers.{Said, message}
+use Rattle.wire.specs.declared.Setup.{Setup}
 use Rattle.wire.specs.Packet as packet
+use Rattle.wire.specs.Packet.{idsOf, firstByte, addressed}
 use Rattle.wire.specs.declared.MessageSegment.{MessageSegment}
 use Rattle.wire.specs.Parsed.{Message}
 use Rattle.wire.specs.Type11.{mailbox}
@@ -56,23 +58,21 @@ mboxOf x = x .mail .mailbox % 4
 abbrev pub lastField : Posted → ℕ → ℕ
 lastField x k = cond (isAlone x) (x .mail .mailbox / 4) k
 
--- segment k to that device, to the byte
-unfoldable pub mailPacket : ℕ → Posted → ℕ → List ℕ
-mailPacket device x k =
-    -- priority, tt 01, type 11
-    (priorityAt x k * 64 + 0b01 * 16 + 11)
-    ∷ high device ∷ low device
-    ∷ high (x .mail .source) ∷ low (x .mail .source)
+-- segment k to the endpoint of that setup, to the byte
+unfoldable pub mailPacket : Setup → Posted → ℕ → List ℕ
+mailPacket setup x k =
+    -- priority, tt, type 11; the IDs
+    addressed (idsOf setup) (firstByte (idsOf setup) (priorityAt x k) 11) (setup .device) (x .mail .source)
     -- msglen, ssize
-    ∷ (msglenOf x * 16 + x .ssize)
+    ((msglenOf x * 16 + x .ssize)
     -- letter, mbox, msgseg or xmbox
     ∷ (x .mail .letter * 64 + mboxOf x * 16 + lastField x k)
-    ∷ dataAt x k
+    ∷ dataAt x k)
 
--- what can be sent so to that device
-pub record Postable (device : ℕ) (x : Posted) : Type 0 where
-  pub device-ID : device < 65536
-  pub source : x .mail .source < 65536
+-- what can be sent so to that endpoint
+pub record Postable (setup : Setup) (x : Posted) : Type 0 where
+  pub device-ID : setup .device < 256 ^ idsOf setup
+  pub source : x .mail .source < 256 ^ idsOf setup
   pub letter : x .mail .letter < 4
   -- xmbox has four bits
   pub mailbox : x .mail .mailbox < cond (isAlone x) 64 4
@@ -94,19 +94,19 @@ mailSegment x k = record {
 }
 
 -- the packet of segment k is read as that segment
-pub record ReadsAsMail (device : ℕ) (x : Posted) (k : ℕ) : Type 0 where
-  pub read : parsed device (mailPacket device x k) ≡ Message (mailSegment x k)
-  pub priority : packet.priority (mailPacket device x k) ≡ priorityAt x k
+pub record ReadsAsMail (setup : Setup) (x : Posted) (k : ℕ) : Type 0 where
+  pub read : parsed setup (mailPacket setup x k) ≡ Message (mailSegment x k)
+  pub priority : packet.priority (mailPacket setup x k) ≡ priorityAt x k
   -- rows 20 to 22 pass it
   pub well-formed : judged (mailSegment x k) ≡ 0
   pub mailbox-is : mailbox (mailSegment x k) ≡ x .mail .mailbox
-  pub data-are : messageData (mailPacket device x k) ≡ dataAt x k
+  pub data-are : messageData (idsOf setup) (mailPacket setup x k) ≡ dataAt x k
   -- and every entry is a byte
-  pub are-bytes : AreBytes (mailPacket device x k)
+  pub are-bytes : AreBytes (mailPacket setup x k)
 
 -- so is every segment of a message that can be sent
 abbrev pub MailSegmentsReadBack : Type 0
-MailSegmentsReadBack = (device : ℕ) (x : Posted) (k : ℕ) → Postable device x → k ≤ msglenOf x → ReadsAsMail device x k
+MailSegmentsReadBack = (setup : Setup) (x : Posted) (k : ℕ) → Postable setup x → k ≤ msglenOf x → ReadsAsMail setup x k
 
 -- the answer that delivers the message from a context: source, letter, mailbox, length
 abbrev pub mailAnswer : Posted → (context : ℕ) → Said

@@ -7,13 +7,14 @@ use denote.Ref.{RefT, now}
 use Rattle.answers.specs.Answers.{Said, said, held, delivered, message, refused}
 use Rattle.answers.specs.declared.Reading.{Reading}
 use Rattle.responses.specs.Type13.{responseSize}
-use Rattle.reading.specs.Desk.{Desk, withResponse}
+use Rattle.contexts.specs.State.{idsIn}
+use Rattle.reading.specs.Desk.{Desk, stateOn, withResponse}
 use Rattle.reading.specs.Table.{lent}
 use Rattle.reading.specs.Read.{ReadPromise}
 use Rattle.room_parts.specs.Parts.{MessageRoomPromise}
 use Rattle.mailing.specs.Mail.{Mail, Posted}
 use Rattle.mailing.specs.Run.{MailTurn, runPackets, MailCall}
-use Rattle.mailing.specs.ReadBack.{deviceOf, MailRun, MailReadsBack}
+use Rattle.mailing.specs.ReadBack.{setupOf, MailRun, MailReadsBack}
 
 -- a call of `message_room` with the state and the message memory on a desk, wherever that memory lies, and any outcome that its promise
 -- allows: the bytes that it hands back
@@ -37,7 +38,7 @@ FetchesMail d (refused number) mail = mail ≡ []
 pub data MailCalls : Desk → List (List ℕ) → List MailCall → Type 0 where
   all-made : {d : Desk} → MailCalls d [] []
   made : {d : Desk} {p : List ℕ} {ps : List (List ℕ)} {cs : List MailCall} (given : List ℕ) (r : Reading) (left : Desk) (mail : List Mail)
-      → responseSize ≤ length given
+      → responseSize (idsIn (stateOn d)) ≤ length given
       → ReadPromise (lent (withResponse d given) p) r left
       → FetchesMail left (said (r .answer)) mail
       → MailCalls left ps cs
@@ -48,6 +49,6 @@ pub data MailCalls : Desk → List (List ℕ) → List MailCall → Type 0 where
 abbrev pub MessageReadBackOfCalls : Type 0
 MessageReadBackOfCalls =
     (d : Desk) (x : Posted) (turns : List MailTurn) (calls : List MailCall)
-    → MailCalls d (runPackets (deviceOf d) x turns) calls
+    → MailCalls d (runPackets (setupOf d) x turns) calls
     → MailRun d x turns calls
     → MailReadsBack x turns calls

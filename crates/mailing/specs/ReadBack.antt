@@ -8,6 +8,7 @@ use lib.Dec.{leb}
 use Rattle.lists.specs.Bytes.{AreBytes}
 use Rattle.lists.specs.Each.{Each}
 use Rattle.answers.specs.Answers.{held}
+use Rattle.wire.specs.declared.Setup.{Setup}
 use Rattle.wire.specs.Parsed.{parsed}
 use Rattle.contexts.specs.State.{messageIn, messageContext, messageContexts}
 use Rattle.message_rooms.specs.Placing.{messageRoomBytes}
@@ -23,8 +24,8 @@ pub record GoodDesk (d : Desk) : Type 0 where
   pub good : GoodWords (d .words)
   pub lends : Lends (stateOn d .setup) d
 
-abbrev pub deviceOf : Desk → ℕ
-deviceOf d = stateOn d .setup .device
+abbrev pub setupOf : Desk → Setup
+setupOf d = stateOn d .setup
 
 -- the open context of a message's source, letter and mbox; messageContexts: none
 abbrev pub contextOf : Posted → Desk → ℕ
@@ -37,11 +38,11 @@ contextOf x d = messageContext (stateOn d) (x .mail .source) (x .mail .letter) (
 pub record MailRun (d : Desk) (x : Posted) (turns : List MailTurn) (calls : List MailCall) : Type 0 where
   pub start : GoodDesk d
   -- a message that can be sent to this endpoint
-  pub postable : Postable (deviceOf d) x
+  pub postable : Postable (setupOf d) x
   -- segments 0 to msglen come, each once, in any order
   pub each-once : (k : ℕ) → times k (arrivals turns) ≡ cond (leb k (msglenOf x)) 1 0
   -- and any other packets, but none of its source, letter and mbox
-  pub others : Each (FairMailTurn (deviceOf d) x) turns
+  pub others : Each (FairMailTurn (setupOf d) x) turns
   -- none is open for it. (A message of one segment is never compared with open ones.)
   pub none-open : 0 < msglenOf x → contextOf x d ≡ messageContexts
   -- a context is left for it
@@ -59,7 +60,7 @@ pub record MailReadsBack (x : Posted) (turns : List MailTurn) (calls : List Mail
 
 -- the calls of a run, as the definitions have them
 abbrev pub definedCalls : Desk → Posted → List MailTurn → List MailCall
-definedCalls d x turns = callsOf d (runPackets (deviceOf d) x turns)
+definedCalls d x turns = callsOf d (runPackets (setupOf d) x turns)
 
 -- for every ssize and msglen at once. Of the calls that people make: OfCalls.antt
 abbrev pub MessageReadBack : Type 0
@@ -76,5 +77,5 @@ pub record MailStays (x : Posted) (n : ℕ) (d d′ : Desk) : Type 0 where
 -- a packet that is not of its source, letter and mbox leaves it so
 abbrev pub OthersLeaveMail : Type 0
 OthersLeaveMail =
-    (d : Desk) (x : Posted) (p : List ℕ) (n : ℕ) → GoodDesk d → contextOf x d ≡ n → n < messageContexts → AreBytes p → isOfMail x (parsed (deviceOf d) p) ≡ false
+    (d : Desk) (x : Posted) (p : List ℕ) (n : ℕ) → GoodDesk d → contextOf x d ≡ n → n < messageContexts → AreBytes p → isOfMail x (parsed (setupOf d) p) ≡ false
     → MailStays x n d (after d p)

@@ -6,11 +6,12 @@ use mathlib.Core.Bool.{Bool, false, cond, _&&_}
 use lib.Dec.{eqb}
 use Rattle.lists.specs.Bytes.{AreBytes}
 use Rattle.answers.specs.Answers.{Said, held, delivered, message, refused}
+use Rattle.wire.specs.declared.Setup.{Setup}
 use Rattle.wire.specs.Parsed.{Parsed}
 use Rattle.wire.specs.Parsed.{Refused, Stream, Message}
 use Rattle.wire.specs.Parsed.{parsed}
 use Rattle.responses.specs.Type13.{DONE, answered}
-use Rattle.contexts.specs.State.{freeMessage, messageContexts}
+use Rattle.contexts.specs.State.{idsIn, freeMessage, messageContexts}
 use Rattle.message_rooms.specs.Placing.{messageRoomBytes}
 use Rattle.reading.specs.Desk.{Desk, stateOn}
 use Rattle.flows.specs.Deliveries.{read, after, inRoom}
@@ -23,12 +24,12 @@ pub data MailTurn : Type 0 where
   segment : ℕ → MailTurn
   other : List ℕ → MailTurn
 
-abbrev pub turnPacket : ℕ → Posted → MailTurn → List ℕ
-turnPacket device x (segment k) = mailPacket device x k
-turnPacket device x (other p) = p
+abbrev pub turnPacket : Setup → Posted → MailTurn → List ℕ
+turnPacket setup x (segment k) = mailPacket setup x k
+turnPacket setup x (other p) = p
 
-abbrev pub runPackets : ℕ → Posted → List MailTurn → List (List ℕ)
-runPackets device x = map (turnPacket device x)
+abbrev pub runPackets : Setup → Posted → List MailTurn → List (List ℕ)
+runPackets setup x = map (turnPacket setup x)
 
 -- the segments' numbers, in the order in which they come
 abbrev pub arrivals : List MailTurn → List ℕ
@@ -52,9 +53,9 @@ isOfMail x (Stream g) = false
 isOfMail x (Message m) = isName x (m .source) (m .letter) (m .mbox)
 
 -- any other packet: made of bytes, and none of these
-abbrev pub FairMailTurn : ℕ → Posted → MailTurn → Type 0
-FairMailTurn device x (segment k) = Unit {0}
-FairMailTurn device x (other p) = AreBytes p × (isOfMail x (parsed device p) ≡ false)
+abbrev pub FairMailTurn : Setup → Posted → MailTurn → Type 0
+FairMailTurn setup x (segment k) = Unit {0}
+FairMailTurn setup x (other p) = AreBytes p × (isOfMail x (parsed setup p) ≡ false)
 
 -- ---- The calls
 
@@ -84,7 +85,7 @@ saidAt c = c .says
 
 -- DONE is written in the first bytes of the response buffer, and nothing else there
 abbrev pub DoneAt : MailCall → Type 0
-DoneAt c = c .left .response ≡ answered (c .lent .response) (c .packet) DONE
+DoneAt c = c .left .response ≡ answered (idsIn (stateOn (c .lent))) (c .lent .response) (c .packet) DONE
 
 -- all messages that calls deliver
 abbrev pub mailIn : List MailCall → List Mail

@@ -10,7 +10,7 @@ use Rattle.wire.specs.Type11.{mailbox, messageDataFrom}
 use Rattle.sizes.specs.Sizes.{bytesOf}
 use Rattle.responses.specs.Type13.{DONE, answered}
 use Rattle.contexts.specs.declared.MessageContext.{MessageContext}
-use Rattle.contexts.specs.State.{State, withMessage, closedMessage, openMessage, messageContexts}
+use Rattle.contexts.specs.State.{State, idsIn, withMessage, closedMessage, openMessage, messageContexts}
 use Rattle.marks.specs.Marks.{withMark, allMarked}
 use Rattle.rules.specs.Messages.{lastWith}
 
@@ -31,9 +31,9 @@ pub record MessageJoined : Type 0 where
 abbrev pub messageJoining : Said → State → List ℕ → List ℕ → MessageJoined
 messageJoining says state memory response = record { says = says; state = state; memory = memory; response = response }
 
--- the segment's data, from byte 7
-abbrev pub messageData : List ℕ → List ℕ
-messageData p = drop messageDataFrom p
+-- the segment's data: all behind its head
+abbrev pub messageData : (ids : ℕ) → List ℕ → List ℕ
+messageData ids p = drop (messageDataFrom ids) p
 
 -- the marks with this segment
 abbrev pub marksWith : MessageSegment → ℕ → ℕ
@@ -59,5 +59,5 @@ unfoldable pub messagePlaced : State → List ℕ → List ℕ → List ℕ → 
 messagePlaced s memory response p m n marks last =
     messageJoining (answerWith m n (marksWith m marks) (lastWith m last))
     (withMessage s n (contextWith m (marksWith m marks) (lastWith m last)))
-    (written memory (n * messageRoomBytes + m .msgseg * bytesOf (m .ssize)) (messageData p))
-    (answered response p DONE)
+    (written memory (n * messageRoomBytes + m .msgseg * bytesOf (m .ssize)) (messageData (idsIn s) p))
+    (answered (idsIn s) response p DONE)

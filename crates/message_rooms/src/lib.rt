@@ -3,16 +3,15 @@ use answers::Figures;
 use wire::MessageSegment;
 ghost use mathlib.Core.Path.{_≡_};
 ghost use mathlib.Core.Bool.{false};
-ghost use Prim.Native.Nat.{_+_, _<_, _≤_};
+ghost use Prim.Native.Nat.{_<_, _≤_};
 ghost use lib.ListN.{length};
 ghost use Rattle.answers.specs.Figures.{telling, AllSet};
-ghost use Rattle.wire.specs.Packet.{header};
-ghost use Rattle.responses.specs.Type13.{responseSize, DONE, answered};
-ghost use Rattle.contexts.specs.State.{messageContexts};
+ghost use Rattle.responses.specs.Type13.{DONE, answered};
+ghost use Rattle.contexts.specs.State.{idsIn, messageContexts};
 ghost use Rattle.contexts.specs.Words.{stateOf, stateWords};
 ghost use Rattle.rules.specs.Inside.{Sound};
 ghost use Rattle.message_rooms.specs.Placing.{messageJoining, messagePlaced};
-ghost use Rattle.message_rooms.specs.Inside.{MessageReady, MessageFits, MessageKept, Replied};
+ghost use Rattle.message_rooms.specs.Inside.{CanReply, replySize, MessageReady, MessageFits, MessageKept, Replied};
 
 // The bytes of a message context's room, and of the memory that has one for each.
 pub const ROOM: usize = 4096;
@@ -20,27 +19,42 @@ pub const ROOM: usize = 4096;
 pub const MEMORY: usize = contexts::MESSAGE_CONTEXTS * ROOM;
 
 // A refusal: its response is written, and nothing else. Every caller has a buffer for it, a packet with its head and a status.
-pub fn refuse(response: &mut [u8], packet: &[u8], number: usize, status: u8) -> Figures
-    requires { ⌜ (responseSize ≤ length (now response)) × (header + 2 ≤ length (now packet)) × (status < 16) ⌝ }
-    ensures { λ r. ⌜ Replied (now (response .entry)) (now (packet .entry)) number status (telling r) (now (response .exit)) × AllSet r false responseSize ⌝ }
+pub fn refuse(
+    state: &[usize],
+    response: &mut [u8],
+    packet: &[u8],
+    number: usize,
+    status: u8,
+) -> Figures
+    requires { ⌜ CanReply (now state) (now response) (now packet) × (status < 16) ⌝ }
+    ensures { λ r. ⌜ Replied (stateOf (now (state .entry))) (now (response .entry)) (now (packet .entry)) number status (telling r) (now (response .exit))
+        × AllSet r false (replySize (stateOf (now (state .entry)))) ⌝ }
 {
-    responses::respond(response, packet, status);
-    answers::refusal(number, false, responses::SIZE)
+    let written = responses::respond(response, packet, contexts::narrow(state), status);
+    answers::refusal(number, false, written)
 }
 
-// An accepted segment: its response is DONE. Every caller has a buffer for it and a packet with its head.
-pub fn done(response: &mut [u8], packet: &[u8])
-    requires { ⌜ (responseSize ≤ length (now response)) × (header + 2 ≤ length (now packet)) ⌝ }
-    ensures { λ _. ⌜ now (response .exit) ≡ answered (now (response .entry)) (now (packet .entry)) DONE ⌝ }
+// An accepted segment: its response is DONE; how long it is. Every caller has a buffer for it and a packet with its head.
+pub fn done(state: &[usize], response: &mut [u8], packet: &[u8]) -> usize
+    requires { ⌜ CanReply (now state) (now response) (now packet) ⌝ }
+    ensures { λ r. ⌜ (r ≡ replySize (stateOf (now (state .entry))))
+        × (now (response .exit) ≡ answered (idsIn (stateOf (now (state .entry)))) (now (response .entry)) (now (packet .entry)) DONE) ⌝ }
 {
-    responses::respond(response, packet, responses::DONE);
+    responses::respond(response, packet, contexts::narrow(state), responses::DONE)
 }
 
-// Context n with these marks: delivered where all segments are in, else kept.
-fn keep(state: &mut [usize], m: MessageSegment, n: usize, marks: usize, last: usize) -> Figures
+// Context n with these marks: delivered where all segments are in, else kept. So many bytes of response were written.
+fn keep(
+    state: &mut [usize],
+    m: MessageSegment,
+    n: usize,
+    marks: usize,
+    last: usize,
+    written: usize,
+) -> Figures
     requires { ⌜ (n < messageContexts) × (length (now state) ≡ stateWords) ⌝ }
     requires { ⌜ (marks < 65536) × (last ≤ 256) × (m .msglen < 16) × (m .msgseg < 16) × (m .mbox < 4) ⌝ }
-    ensures { λ r. ⌜ MessageKept (stateOf (now (state .entry))) m n marks last (telling r) (stateOf (now (state .exit))) × AllSet r false responseSize ⌝ }
+    ensures { λ r. ⌜ MessageKept (stateOf (now (state .entry))) m n marks last (telling r) (stateOf (now (state .exit))) × AllSet r false written ⌝ }
 {
     if marks::all_marked(marks as u16, m.msglen + 1) {
         message_contexts::close_message(state, n);
@@ -48,7 +62,7 @@ fn keep(state: &mut [usize], m: MessageSegment, n: usize, marks: usize, last: us
             kind: answers::MESSAGE,
             number: 0,
             dropped: false,
-            response: responses::SIZE,
+            response: written,
             context: n,
             source: m.source,
             cos_or_letter: m.letter,
@@ -67,7 +81,7 @@ fn keep(state: &mut [usize], m: MessageSegment, n: usize, marks: usize, last: us
         marks,
         last,
     );
-    answers::holding(false, responses::SIZE)
+    answers::holding(false, written)
 }
 
 // Segment k is stored at k ssize of room n: the part of the memory from there on is lent to the copying leaf.
@@ -86,15 +100,23 @@ pub fn place(
     requires { ⌜ Sound m ⌝ }
     requires { ⌜ MessageFits m n marks last ⌝ }
     ensures { λ r. ⌜ (messageJoining (telling r) (stateOf (now (state .exit))) (now (memory .exit)) (now (response .exit))
-        ≡ messagePlaced (stateOf (now (state .entry))) (now (memory .entry)) (now (response .entry)) (now (packet .entry)) m n marks last) × AllSet r false responseSize ⌝ }
+        ≡ messagePlaced (stateOf (now (state .entry))) (now (memory .entry)) (now (response .entry)) (now (packet .entry)) m n marks last)
+        × AllSet r false (replySize (stateOf (now (state .entry)))) ⌝ }
 {
     let size = sizes::bytes_of(m.ssize);
     let with_this = marks + marks::power(m.msgseg);
     lists::store(
         memory,
         n * ROOM + m.msgseg * size,
-        &packet[wire::HEADER + 2..],
+        &packet[packet.len() - m.raw..],
     );
-    done(response, packet);
-    keep(state, m, n, with_this, message_rules::last_with(m, last))
+    let written = done(state, response, packet);
+    keep(
+        state,
+        m,
+        n,
+        with_this,
+        message_rules::last_with(m, last),
+        written,
+    )
 }

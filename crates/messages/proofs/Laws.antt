@@ -1,5 +1,5 @@
 -- Laws of a type 11 step: what each way through the code leaves is what the definition says.
-use Prim.Native.Nat.{ℕ, _≤_, _<_, _-_, _*_}
+use Prim.Native.Nat.{ℕ, _≤_, _<_, _+_, _-_, _*_}
 use mathlib.Core.Path.{_≡_, refl, ap, sym, _∙_}
 use mathlib.Core.List.{List}
 use mathlib.Core.Bool.{Bool, true, false, cond, not, _||_, or-true}
@@ -20,7 +20,7 @@ use Rattle.sizes.specs.Sizes.{bytesOf, inEights}
 use Rattle.responses.specs.Type13.{ERROR, RETRY, DONE, answered}
 use Rattle.sizes.proofs.Laws.{bytes-le, eights-le}
 use Rattle.contexts.specs.declared.MessageContext.{MessageContext}
-use Rattle.contexts.specs.State.{State, messageContexts, messageIn, withMessage, closedMessage, messageContext, freeMessage}
+use Rattle.contexts.specs.State.{State, idsIn, messageContexts, messageIn, withMessage, closedMessage, messageContext, freeMessage}
 use Rattle.marks.specs.Marks.{marked}
 use Rattle.refusal19.specs.Refusal19.{badLast, namedBy19}
 use Rattle.contexts.specs.Words.{stateOf}
@@ -47,7 +47,7 @@ last-le c = go (marked (c .marks) (c .msglen))
 
 -- ---- a refusal and its response
 replying : (s : State) (memory response p : List ℕ) (number status : ℕ) (says : Said) (after : List ℕ)
-    → Replied response p number status says after → messageJoining says s memory after ≡ refusedWith s memory response p number status
+    → Replied s response p number status says after → messageJoining says s memory after ≡ refusedWith s memory response p number status
 unfolding refusedWith
 replying s memory response p number status says after r = rw (r .answer, r .response)
 
@@ -155,7 +155,7 @@ module _ (s : State) (memory response p : List ℕ) (m : MessageSegment) where
       (λ passed. accepts (raw-le m (passed .1 .0)) (passed .1 .1 .1 .1 .1 .0))
 
   -- rows 20 to 22
-  pub step-refused : {says : Said} {after : List ℕ} (number : ℕ) → number ≡ judged m → (number ≡ 0 → ⊥) → Replied response p number ERROR says after
+  pub step-refused : {says : Said} {after : List ℕ} (number : ℕ) → number ≡ judged m → (number ≡ 0 → ⊥) → Replied s response p number ERROR says after
       → messageJoining says s memory after ≡ messageStepped s memory response p m
   unfolding messageStepped messageRows judged
   step-refused number j n r =
@@ -182,7 +182,7 @@ module _ (s : State) (memory response p : List ℕ) (m : MessageSegment) where
       unfolding otherMessage alreadyMarked
       never = (rw none-open, rw none-open)
 
-      pub alone-none : {says : Said} {after : List ℕ} → messageContexts ≤ freeMessage s → Replied response p 25 RETRY says after
+      pub alone-none : {says : Said} {after : List ℕ} → messageContexts ≤ freeMessage s → Replied s response p 25 RETRY says after
           → messageJoining says s memory after ≡ messageStepped s memory response p m
       unfolding neededNoneFree
       alone-none h r = replying s memory response p 25 RETRY _ _ r ∙ sym (matched ∙ rw (never .0, never .1, none-open, le-ltb (freeMessage s) messageContexts h))
@@ -211,7 +211,7 @@ module _ (s : State) (memory response p : List ℕ) (m : MessageSegment) where
     -- what is chosen
     module _ (c : Chosen) (chosen : Chooses s m c) where
       pub chosen-refused : {says : Said} {after : List ℕ} (status : ℕ) → (c .number ≡ 0 → ⊥) → status ≡ refusalStatus (c .number)
-          → Replied response p (c .number) status says after → messageJoining says s memory after ≡ messageStepped s memory response p m
+          → Replied s response p (c .number) status says after → messageJoining says s memory after ≡ messageStepped s memory response p m
       chosen-refused status h e r = replying s memory response p (c .number) status _ _ r ∙ sym (by-number ∙ rw (← chosen .row, ne-eqb (c .number) 0 h, e))
 
       pub chosen-placed : {j : MessageJoined} → c .number ≡ 0 → j ≡ messagePlaced s memory response p m (c .n) (c .marks) (c .last)
@@ -233,11 +233,12 @@ module _ (s : State) (memory response p : List ℕ) (m : MessageSegment) where
 pub taking : (s : State) (memory response p : List ℕ) (m : MessageSegment) (n box : ℕ) (state : State) (memory′ response′ : List ℕ)
     → box ≡ mailbox m
     → state ≡ withMessage s n closedMessage
-    → memory′ ≡ written memory (n * messageRoomBytes) (take (length p - messageDataFrom) (drop messageDataFrom p))
-    → response′ ≡ answered response p DONE
+    → messageDataFrom (idsIn s) + m .raw ≡ length p
+    → memory′ ≡ written memory (n * messageRoomBytes) (take (length p - (length p - m .raw)) (drop (length p - m .raw) p))
+    → response′ ≡ answered (idsIn s) response p DONE
     → messageJoining (message n (m .source) (m .letter) box (m .raw)) state memory′ response′ ≡ deliveredAtOnce s memory response p m n
 unfolding deliveredAtOnce
-taking s memory response p m n box state memory′ response′ b a e r = rw (b, a, e, r, data-whole p)
+taking s memory response p m n box state memory′ response′ b a i e r = rw (b, a, e, r, data-whole (idsIn s) p (m .raw) i)
 
 -- what 19 leaves of the message found
 pub found-message : (s : State) (m : MessageSegment) (w : List ℕ) (c : MessageContext) → s ≡ stateOf w → namedBy19 s ≡ false

@@ -8,7 +8,7 @@ use Rattle.answers.specs.Answers.{message, refused}
 use Rattle.wire.specs.declared.MessageSegment.{MessageSegment}
 use Rattle.wire.specs.Type11.{isSingle, mailbox}
 use Rattle.responses.specs.Type13.{DONE, ERROR, RETRY, answered}
-use Rattle.contexts.specs.State.{State, messageIn, withMessage, closedMessage, freeMessage}
+use Rattle.contexts.specs.State.{State, idsIn, messageIn, withMessage, closedMessage, freeMessage}
 use Rattle.message_rooms.specs.Placing.{MessageJoined, messageJoining, messageData, messagePlaced, messageRoomBytes}
 use Rattle.messages.specs.Rows.{messageFound, messageOpen, messageRows}
 
@@ -17,8 +17,8 @@ unfoldable pub deliveredAtOnce : State → List ℕ → List ℕ → List ℕ �
 deliveredAtOnce s memory response p m n =
     messageJoining (message n (m .source) (m .letter) (mailbox m) (m .raw))
     (withMessage s n closedMessage)
-    (written memory (n * messageRoomBytes) (messageData p))
-    (answered response p DONE)
+    (written memory (n * messageRoomBytes) (messageData (idsIn s) p))
+    (answered (idsIn s) response p DONE)
 
 -- accepted: a single-segment message takes the lowest free context, and so does the first-come segment of a new message
 unfoldable pub messageAccepted : State → List ℕ → List ℕ → List ℕ → MessageSegment → MessageJoined
@@ -30,7 +30,7 @@ messageAccepted s memory response p m =
 
 -- refused: all stays but the response
 unfoldable pub refusedWith : State → List ℕ → List ℕ → List ℕ → ℕ → ℕ → MessageJoined
-refusedWith s memory response p number status = messageJoining (refused number) s memory (answered response p status)
+refusedWith s memory response p number status = messageJoining (refused number) s memory (answered (idsIn s) response p status)
 
 -- the table's last column; every row of type 11 has a response
 abbrev pub messageRefusing : State → List ℕ → List ℕ → List ℕ → ℕ → Leaves → MessageJoined

@@ -1,4 +1,5 @@
 // A log of packets that the second program made. Prints for each packet its line, and the response that it wrote, or `none`.
+use endpoint::Setup;
 use libc::STDIN_FILENO;
 use log_records::Next;
 use printing::print_bytes;
@@ -6,7 +7,7 @@ use printing::print_text;
 ghost use mathlib.Core.Path.{_≡_};
 ghost use Rattle.outside_responses.specs.Found.{LiesIn, isRecord};
 
-// Every response has seven bytes, and none begins with 0.
+// With IDs of 16 bits every response has seven bytes, and none begins with 0.
 fn print_response(response: &[u8; 7]) {
     if response[0] == 0 {
         print_text(b"none\n");
@@ -75,7 +76,15 @@ fn main() {
     let mut streams = [0u8; 32768];
     let mut messages = [0u8; 32768];
     let mut log = [0u8; 65536];
-    endpoint::setup(&mut state, 1, 32, 2048);
+    endpoint::setup(
+        &mut state,
+        Setup {
+            device: 1,
+            mtu: 32,
+            room: 2048,
+            narrow: 0,
+        },
+    );
     let n = io::read_full(STDIN_FILENO, &mut log);
     print_packets(&mut state, &mut streams, &mut messages, &log[..n]);
 }

@@ -24,5 +24,5 @@ fits out h mtu pdu k r after size promised is = go (verdict (writerTable out h m
     go (refuse number leaves) decides says = absurd (let z : _≡_ {A = ℕ} 0 1 = cc in omega arith)
     go accept decides says =
         let same : size ≡ length (packetOf h mtu pdu k) = cc in
-        let room = ltb-false (length out) (length (packetOf h mtu pdu k)) (none-held (writerTable out h mtu pdu k) decides .1 .1 .1 .1 .0) in
+        let room = ltb-false (length out) (length (packetOf h mtu pdu k)) (none-held (writerTable out h mtu pdu k) decides .1 .1 .1 .1 .1 .0) in
         omega (arith, same, room)

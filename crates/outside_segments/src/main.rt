@@ -1,4 +1,4 @@
-// PDUs that the second program chose, in cases of twenty bytes. Prints every segment that the writer makes of them, and its refusals.
+// PDUs that the second program chose, in cases of twenty-one bytes. Prints every segment that the writer makes of them, and its refusals.
 use answers::Written;
 use cutting::Heading;
 use libc::STDIN_FILENO;
@@ -56,9 +56,9 @@ fn print_pdu(heading: Heading, mtu: usize, seed: u8, pdu: &mut [u8], out: &mut [
     print_segments(heading, mtu, pdu, out);
 }
 
-// mtu 4, priority 1, destination 2, source 2, cos 1, streamID 2, length 4, seed 1, output's length 3.
+// mtu 4, priority 1, destination 2, source 2, cos 1, streamID 2, length 4, seed 1, output's length 3, width 1: 0 is 16 bits, else 8.
 fn print_case(case: &[u8])
-    requires { ⌜ length (now case) ≡ 20 ⌝ }
+    requires { ⌜ length (now case) ≡ 21 ⌝ }
 {
     let mut pdu = [0u8; 65537];
     let mut out = [0u8; 300];
@@ -76,6 +76,7 @@ fn print_case(case: &[u8])
         cos: case[9],
         stream: lists::word_at(case, 10) as u16,
         priority: case[4],
+        narrow: lists::wide(case[20]),
     };
     print_pdu(
         heading,
@@ -88,14 +89,14 @@ fn print_case(case: &[u8])
 
 fn print_cases(cases: &[u8]) {
     let mut at = 0;
-    while at + 20 <= cases.len() {
-        print_case(&cases[at..at + 20]);
-        at += 20;
+    while at + 21 <= cases.len() {
+        print_case(&cases[at..at + 21]);
+        at += 21;
     }
 }
 
 fn main() {
-    let mut cases = [0u8; 16384];
+    let mut cases = [0u8; 32768];
     let n = io::read_full(STDIN_FILENO, &mut cases);
     print_cases(&cases[..n]);
 }

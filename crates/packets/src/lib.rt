@@ -16,7 +16,7 @@ pub fn step(
     ensures { λ r. ⌜ FiguresPromise (lent (desk (now (state .entry)) (now («stream_memory» .entry)) (now («message_memory» .entry)) (now (response .entry))) (now (packet .entry)))
         r (desk (now (state .exit)) (now («stream_memory» .exit)) (now («message_memory» .exit)) (now (response .exit))) ⌝ }
 {
-    let kind = heads::head(packet, contexts::device(state));
+    let kind = heads::head(packet, contexts::device(state), contexts::narrow(state));
     if kind < 9 {
         return answers::refusal(kind, false, 0);
     }
@@ -42,7 +42,7 @@ pub fn read(
     if number != 0 {
         return answers::refusal(number, false, 0);
     }
-    let head = heads::head(packet, contexts::device(state));
+    let head = heads::head(packet, contexts::device(state), contexts::narrow(state));
     if head < 9 {
         return answers::refusal(head, false, 0);
     }

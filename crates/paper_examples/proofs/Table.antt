@@ -5,4 +5,4 @@ use Rattle.paper_examples.proofs.Computing.{computing}
 
 pub examples-hold : ExamplesHold
 unfolding computing
-examples-hold = (refl, (refl, (refl, (refl, (refl, (refl, (refl, (refl, (refl, (refl, (refl, tt)))))))))))
+examples-hold = (refl, (refl, (refl, (refl, (refl, (refl, (refl, (refl, (refl, (refl, (refl, (refl, (refl, (refl, (refl, tt)))))))))))))))

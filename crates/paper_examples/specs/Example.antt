@@ -8,11 +8,12 @@ use lib.Dec.{eqb}
 use Rattle.lists.specs.Bytes.{byte, word}
 use Rattle.answers.specs.Answers.{Said, held, delivered, message, refused}
 use Rattle.wire.specs.Packet.{header}
+use Rattle.contexts.specs.State.{idsIn}
 use Rattle.message_rooms.specs.Placing.{messageRoomBytes}
 use Rattle.cutting.specs.declared.Heading.{Heading}
 use Rattle.cutting.specs.Cutting.{segmentCount, packetOf}
 use Rattle.reading.specs.Desk.{Desk, stateOn}
-use Rattle.flows.specs.Fresh.{paperDesk}
+use Rattle.flows.specs.Fresh.{zeroDesk, paperSetupAt}
 use Rattle.flows.specs.Deliveries.{read, after, inRoom}
 
 -- ---- What is sent
@@ -36,9 +37,9 @@ cut h mtu pdu = segments h mtu pdu 0 (segmentCount mtu (length pdu))
 pub data Fact : Type 0 where
   -- the packet is so many bytes long
   hasBytes : ℕ → Fact
-  -- its byte 6
-  byte6 : ℕ → Fact
-  -- its bytes 7-8, where they are the PDU length
+  -- its byte at a place
+  hasByte : (place value : ℕ) → Fact
+  -- the two bytes behind its flags, where they are the PDU length
   lengthField : ℕ → Fact
   -- these bytes are delivered
   delivers : List ℕ → Fact
@@ -59,14 +60,20 @@ gets says facts = arrives says false facts
 abbrev pub getsDropped : Said → List Fact → Line
 getsDropped says facts = arrives says true facts
 
--- an example: its number in the paper, the packets that are sent, and a line for each
+-- an example: its number in the paper, the width of an ID, the packets that are sent, and a line for each
 pub record Example : Type 0 where
   pub number : ℕ
+  pub narrow : ℕ
   pub sent : List (List ℕ)
   pub lines : List Line
 
+-- with IDs of 16 bits, as the paper has them
 abbrev pub example : ℕ → List (List ℕ) → List Line → Example
-example number sent lines = record { number = number; sent = sent; lines = lines }
+example number sent lines = record { number = number; narrow = 0; sent = sent; lines = lines }
+
+-- the same with IDs of 8 bits (document 02, M-112)
+abbrev pub narrowExample : ℕ → List (List ℕ) → List Line → Example
+narrowExample number sent lines = record { number = number; narrow = 1; sent = sent; lines = lines }
 
 -- ---- What is computed
 
@@ -86,8 +93,8 @@ sameBytes (x ∷ xs) (y ∷ ys) = eqb x y && sameBytes xs ys
 -- a fact of the same kind, as it is for this packet at this desk
 abbrev pub found : Desk → List ℕ → Fact → Fact
 found d p (hasBytes n) = hasBytes (length p)
-found d p (byte6 n) = byte6 (byte p (header + 1))
-found d p (lengthField n) = lengthField (word p (header + 2))
+found d p (hasByte place n) = hasByte place (byte p place)
+found d p (lengthField n) = lengthField (word p (header (idsIn (stateOn d)) + 2))
 found d p (delivers bytes) = delivers (deliveredBytes (after d p) (read d p .says))
 found d p (deliversNot bytes) = cond (sameBytes (deliveredBytes (after d p) (read d p .says)) bytes) (delivers bytes) (deliversNot bytes)
 found d p (response bytes) = response (after d p .response)
@@ -101,6 +108,10 @@ computed d (p ∷ ps) (arrives says dropped facts ∷ lines) = arrives (read d p
 
 -- ---- What is stated
 
+-- the paper's desk, with IDs of the example's width
+abbrev pub deskOf : Example → Desk
+deskOf e = zeroDesk (paperSetupAt (e .narrow))
+
 -- an example comes out as it says
 abbrev pub Holds : Example → Type 0
-Holds e = computed paperDesk (e .sent) (e .lines) ≡ e .lines
+Holds e = computed (deskOf e) (e .sent) (e .lines) ≡ e .lines

@@ -1,4 +1,5 @@
--- The starred examples of document 01, in its order and with its numbers ('Examples to hold it to'). MTU 32.
+-- The starred examples of document 01, in its order and with its numbers ('Examples to hold it to'). MTU 32. Behind them a few of the same with IDs of
+-- 8 bits (document 02, M-112).
 use Prim.Native.Nat.{ℕ, zero, suc}
 use mathlib.Core.List.{List, [], _∷_, _++_}
 use lib.ListN.{take, drop, replicate}
@@ -7,19 +8,28 @@ use Rattle.wire.specs.declared.Flow.{Flow}
 use Rattle.cutting.specs.declared.Heading.{Heading}
 use Rattle.cutting.specs.Cutting.{packetOf}
 use Rattle.lists.specs.Each.{Each}
-use Rattle.paper_examples.specs.Example.{counting, cut, Fact, hasBytes, byte6, lengthField, delivers, deliversNot, response, lost, gets, getsDropped, Example, example, Holds}
+use Rattle.flows.specs.Widths.{narrowed}
+use Rattle.paper_examples.specs.Example.{counting, cut, Fact, hasBytes, hasByte, lengthField, delivers, deliversNot, response, lost, gets, getsDropped, Example, example, narrowExample, Holds}
 
 -- the flow of a source: cos 5
 abbrev pub sourceOf : ℕ → Flow
 sourceOf source = record { source = source; cos = 5 }
 
--- to device 1, cos 5, priority 0
+-- to device 1, cos 5, priority 0, with IDs of that width
+abbrev pub headingAt : (narrow source stream : ℕ) → Heading
+headingAt narrow source stream = record { destination = 1; source = source; cos = 5; stream = stream; priority = 0; narrow = narrow }
+
+-- of 16 bits
 abbrev pub heading : (source stream : ℕ) → Heading
-heading source stream = record { destination = 1; source = source; cos = 5; stream = stream; priority = 0 }
+heading source stream = headingAt 0 source stream
 
 -- the packets of a PDU of L bytes 0, 1, 2, .. with streamID 7, from source 2
 abbrev pub cutPDU : ℕ → List (List ℕ)
 cutPDU L = cut (heading 2 7) 32 (counting 0 L)
+
+-- with IDs of 8 bits
+abbrev pub cutNarrow : ℕ → List (List ℕ)
+cutNarrow L = cut (headingAt 1 2 7) 32 (counting 0 L)
 
 -- two PDUs of 40 bytes on that flow, whose bytes and streamIDs differ
 abbrev pub firstPDU : List ℕ
@@ -55,7 +65,7 @@ segment0 = 0x1B ∷ 0x00 ∷ 0x01 ∷ 0x00 ∷ 0x02 ∷ 0x1C ∷ 0x60 ∷ counti
 abbrev pub segment1 : List ℕ
 segment1 = 0x1B ∷ 0x00 ∷ 0x01 ∷ 0x00 ∷ 0x02 ∷ 0x1C ∷ 0x61 ∷ counting 64 8
 
--- the response to each: its byte 5 has the status, byte 6 is the request's
+-- the response to each, with IDs of 16 bits: its byte 5 has the status, byte 6 is the request's
 abbrev pub respondsDONE : (byte6 : ℕ) → Fact
 respondsDONE b = response (0x5D ∷ 0x00 ∷ 0x02 ∷ 0x00 ∷ 0x01 ∷ 0x10 ∷ b ∷ [])
 
@@ -69,11 +79,11 @@ examples =
     -- L=32: one packet of 41 bytes.
     example 1 (cutPDU 32) (gets (delivered 0 (sourceOf 2) 7 32) (hasBytes 41 ∷ []) ∷ [])
     -- L=33: 41 bytes (byte 6 is 80), then 11 (byte 6 is 43, length 0021).
-    ∷ example 2 (cutPDU 33) (gets held (hasBytes 41 ∷ byte6 0x80 ∷ []) ∷ gets (delivered 0 (sourceOf 2) 7 33) (hasBytes 11 ∷ byte6 0x43 ∷ lengthField 0x0021 ∷ []) ∷ [])
+    ∷ example 2 (cutPDU 33) (gets held (hasBytes 41 ∷ hasByte 6 0x80 ∷ []) ∷ gets (delivered 0 (sourceOf 2) 7 33) (hasBytes 11 ∷ hasByte 6 0x43 ∷ lengthField 0x0021 ∷ []) ∷ [])
     -- L=64: the end has 41 bytes, byte 6 is 40, length 0040.
-    ∷ example 3 (cutPDU 64) (gets held [] ∷ gets (delivered 0 (sourceOf 2) 7 64) (hasBytes 41 ∷ byte6 0x40 ∷ lengthField 0x0040 ∷ []) ∷ [])
+    ∷ example 3 (cutPDU 64) (gets held [] ∷ gets (delivered 0 (sourceOf 2) 7 64) (hasBytes 41 ∷ hasByte 6 0x40 ∷ lengthField 0x0040 ∷ []) ∷ [])
     -- L=65: the continuation has 39 bytes, byte 6 is 00.
-    ∷ example 4 (cutPDU 65) (gets held [] ∷ gets held (hasBytes 39 ∷ byte6 0x00 ∷ []) ∷ gets (delivered 0 (sourceOf 2) 7 65) [] ∷ [])
+    ∷ example 4 (cutPDU 65) (gets held [] ∷ gets held (hasBytes 39 ∷ hasByte 6 0x00 ∷ []) ∷ gets (delivered 0 (sourceOf 2) 7 65) [] ∷ [])
     -- L=96, middle lost: the end gets 11, dropped.
     ∷ example 6 (cutPDU 96) (gets held [] ∷ lost ∷ getsDropped (refused 11) [] ∷ [])
     -- L=96, start lost: 8, then 8.
@@ -89,8 +99,18 @@ examples =
     ∷ example 11 (segment1 ∷ segment0 ∷ []) (gets held (respondsDONE 0x61 ∷ []) ∷ gets (message 0 2 1 2 72) (delivers (counting 0 72) ∷ respondsDONE 0x60 ∷ []) ∷ [])
     -- A segment twice while open: 24, ERROR.
     ∷ example 12 (segment1 ∷ segment1 ∷ []) (gets held (respondsDONE 0x61 ∷ []) ∷ gets (refused 24) (respondsERROR 0x61 ∷ []) ∷ [])
+    -- With IDs of 8 bits. L=33: 39 bytes (byte 4 is 80), then 9 (byte 4 is 43, length 0021).
+    ∷ narrowExample 2 (cutNarrow 33) (gets held (hasBytes 39 ∷ hasByte 4 0x80 ∷ []) ∷ gets (delivered 0 (sourceOf 2) 7 33) (hasBytes 9 ∷ hasByte 4 0x43 ∷ lengthField 0x0021 ∷ []) ∷ [])
+    -- The message of two segments: its responses have 5 bytes.
+    ∷ narrowExample 11 (narrowed segment1 ∷ narrowed segment0 ∷ [])
+    (gets held (response (0x4D ∷ 0x02 ∷ 0x01 ∷ 0x10 ∷ 0x61 ∷ []) ∷ [])
+    ∷ gets (message 0 2 1 2 72) (delivers (counting 0 72) ∷ response (0x4D ∷ 0x02 ∷ 0x01 ∷ 0x10 ∷ 0x60 ∷ []) ∷ [])
+    ∷ [])
+    -- A packet of the other width gets 2, at either endpoint.
+    ∷ narrowExample 1 (cutPDU 32) (gets (refused 2) [] ∷ [])
+    ∷ example 1 (cutNarrow 32) (gets (refused 2) [] ∷ [])
     ∷ []
 
--- every example comes out as the paper says
+-- every example comes out as it says
 abbrev pub ExamplesHold : Type 0
 ExamplesHold = Each Holds examples

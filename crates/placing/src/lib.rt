@@ -5,10 +5,9 @@ ghost use mathlib.Core.Path.{_≡_};
 ghost use mathlib.Core.Bool.{true, false};
 ghost use Rattle.answers.specs.Figures.{telling, AllSet};
 ghost use Rattle.contexts.specs.Words.{stateOf};
-ghost use Rattle.wire.specs.Type9.{segmentOf};
 ghost use Rattle.contexts.specs.State.{streamIn};
 ghost use Rattle.stream_rooms.specs.Placing.{joining, placed};
-ghost use Rattle.stream_rooms.specs.Inside.{Ready, Fields, Fits, GoesOn};
+ghost use Rattle.stream_rooms.specs.Inside.{Ready, Fields, Fits, GoesOn, streamFor};
 
 // A PDU begins in room n: a start is held there, a single delivered.
 pub fn begin_room(
@@ -22,14 +21,14 @@ pub fn begin_room(
     count: usize,
     dropped: bool,
 ) -> Figures
-    requires { ⌜ Ready (now state) (now memory) (now packet) (segmentOf (now packet)) ⌝ }
-    requires { ⌜ (Fields (now packet) flags from flow) × (segmentOf (now packet) .begins ≡ true) × Fits (stateOf (now state)) (segmentOf (now packet)) n 0 count ⌝ }
+    requires { ⌜ Ready (now state) (now memory) (now packet) (streamFor (now state) (now packet)) ⌝ }
+    requires { ⌜ (Fields (now state) (now packet) flags from flow) × (streamFor (now state) (now packet) .begins ≡ true) × Fits (stateOf (now state)) (streamFor (now state) (now packet)) n 0 count ⌝ }
     ensures { λ r. ⌜ (joining (telling r) (r .dropped) (stateOf (now (state .exit))) (now (memory .exit))
-        ≡ placed (stateOf (now (state .entry))) (now (memory .entry)) (now (packet .entry)) (segmentOf (now (packet .entry))) n 0 (segmentOf (now (packet .entry)) .field) dropped)
+        ≡ placed (stateOf (now (state .entry))) (now (memory .entry)) (now (packet .entry)) (streamFor (now (state .entry)) (now (packet .entry))) n 0 (streamFor (now (state .entry)) (now (packet .entry)) .field) dropped)
         × AllSet r (r .dropped) 0 ⌝ }
 {
     stream_rooms::store_data(state, memory, packet, from, n, 0, count);
-    let stream = lists::word_at(packet, wire::HEADER + 2);
+    let stream = lists::word_at(packet, from - 2);
     if wire::bit(flags, 64) {
         return stream_rooms::deliver(state, n, flow, stream, count, dropped);
     }
@@ -47,10 +46,10 @@ pub fn hold_room(
     held: usize,
     count: usize,
 ) -> Figures
-    requires { ⌜ Ready (now state) (now memory) (now packet) (segmentOf (now packet)) ⌝ }
-    requires { ⌜ (from ≡ segmentOf (now packet) .from) × GoesOn (stateOf (now state)) (segmentOf (now packet)) n held count false ⌝ }
+    requires { ⌜ Ready (now state) (now memory) (now packet) (streamFor (now state) (now packet)) ⌝ }
+    requires { ⌜ (from ≡ streamFor (now state) (now packet) .from) × GoesOn (stateOf (now state)) (streamFor (now state) (now packet)) n held count false ⌝ }
     ensures { λ r. ⌜ (joining (telling r) (r .dropped) (stateOf (now (state .exit))) (now (memory .exit))
-        ≡ placed (stateOf (now (state .entry))) (now (memory .entry)) (now (packet .entry)) (segmentOf (now (packet .entry))) n held (streamIn (stateOf (now (state .entry))) n .stream) false)
+        ≡ placed (stateOf (now (state .entry))) (now (memory .entry)) (now (packet .entry)) (streamFor (now (state .entry)) (now (packet .entry))) n held (streamIn (stateOf (now (state .entry))) n .stream) false)
         × AllSet r (r .dropped) 0 ⌝ }
 {
     stream_rooms::store_data(state, memory, packet, from, n, held, count);
@@ -69,10 +68,10 @@ pub fn end_room(
     held: usize,
     count: usize,
 ) -> Figures
-    requires { ⌜ Ready (now state) (now memory) (now packet) (segmentOf (now packet)) ⌝ }
-    requires { ⌜ (from ≡ segmentOf (now packet) .from) × (flow ≡ segmentOf (now packet) .flow) × GoesOn (stateOf (now state)) (segmentOf (now packet)) n held count true ⌝ }
+    requires { ⌜ Ready (now state) (now memory) (now packet) (streamFor (now state) (now packet)) ⌝ }
+    requires { ⌜ (from ≡ streamFor (now state) (now packet) .from) × (flow ≡ streamFor (now state) (now packet) .flow) × GoesOn (stateOf (now state)) (streamFor (now state) (now packet)) n held count true ⌝ }
     ensures { λ r. ⌜ (joining (telling r) (r .dropped) (stateOf (now (state .exit))) (now (memory .exit))
-        ≡ placed (stateOf (now (state .entry))) (now (memory .entry)) (now (packet .entry)) (segmentOf (now (packet .entry))) n held (streamIn (stateOf (now (state .entry))) n .stream) false)
+        ≡ placed (stateOf (now (state .entry))) (now (memory .entry)) (now (packet .entry)) (streamFor (now (state .entry)) (now (packet .entry))) n held (streamIn (stateOf (now (state .entry))) n .stream) false)
         × AllSet r (r .dropped) 0 ⌝ }
 {
     stream_rooms::store_data(state, memory, packet, from, n, held, count);

@@ -10,6 +10,7 @@ use Rattle.tables.proofs.Exactly.{answered, decided, accepted, none-held}
 use Rattle.answers.specs.Answers.{Said, held, refused, AbandonSaid, abandonRefused, StreamContextSaid, streamAskRefused, MessageContextSaid, messageAskRefused}
 use Rattle.wire.specs.Parsed.{Parsed}
 use Rattle.wire.specs.Parsed.{Refused, Stream, Message}
+use Rattle.wire.specs.Packet.{idsOf}
 use Rattle.wire.specs.Type9.{segmentOf}
 use Rattle.wire.specs.Type11.{isSingle, messageOf}
 use Rattle.wire.specs.Head.{is9, headRows}
@@ -101,15 +102,15 @@ reading-by-table x =
 
 pub head-by-table : HeadByTable
 unfolding parsed
-head-by-table device p =
-    by-table (headRows device p) (λ (n : ℕ) (o : Parsed). o ≡ Refused n) (parsedBy p) (λ number leaves. refl) (λ n number leaves e. cc)
-    (λ n. chosen (λ (o : Parsed). o ≡ Refused n → ⊥) (is9 p) (Stream (segmentOf p)) (Message (messageOf p)) (λ e. let z : _≡_ {A = ℕ} 0 1 = cc in omega arith)
+head-by-table settings p =
+    by-table (headRows (settings .device) (idsOf settings) p) (λ (n : ℕ) (o : Parsed). o ≡ Refused n) (parsedBy (idsOf settings) p) (λ number leaves. refl) (λ n number leaves e. cc)
+    (λ n. chosen (λ (o : Parsed). o ≡ Refused n → ⊥) (is9 p) (Stream (segmentOf (idsOf settings) p)) (Message (messageOf (idsOf settings) p)) (λ e. let z : _≡_ {A = ℕ} 0 1 = cc in omega arith)
     (λ e. let z : _≡_ {A = ℕ} 0 1 = cc in omega arith))
 
 pub setup-by-table : SetupByTable
 unfolding setup
-setup-by-table words fixed =
-    by-table (setupTable words (fixed .mtu) (fixed .room)) _ (setupBy words (fixed .device) (fixed .mtu) (fixed .room)) (λ number leaves. refl) (λ n number leaves e. cc)
+setup-by-table words settings =
+    by-table (setupTable words settings) _ (setupBy words settings) (λ number leaves. refl) (λ n number leaves e. cc)
     (λ n e. let z : _≡_ {A = ℕ} 0 1 = cc in omega arith)
 
 -- of either kind of context

@@ -34,7 +34,7 @@ room memory p r r′ a b = (a .block ∙ sym (b .block), a .offset ∙ sym (b .o
 pub one-outcome-each : OneOutcomeEach
 one-outcome-each = record {
   state-length = λ y z p q. p ∙ sym q;
-  setup = λ words device mtu room y z p q.
+  setup = λ words settings y z p q.
       let e = p ∙ sym q in
       both (setup-once (y .answer) (z .answer) (ap (λ (l : Stands SetupSaid). l .says) e)) (ap (λ (l : Stands SetupSaid). l .words) e);
   read = λ x y z p q.

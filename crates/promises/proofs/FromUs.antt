@@ -1,18 +1,21 @@
 -- What is responded to is a message packet addressed to us: a row that writes comes behind row 3, and only message rows write.
-use Prim.Native.Nat.{ℕ}
+use Prim.Native.Nat.{ℕ, _+_, _*_}
 use mathlib.Core.Path.{_≡_, refl, ap, sym, _∙_}
 use mathlib.Core.Logic.{_⊎_, inl, inr}
 use mathlib.Core.List.{List, [], _∷_, _++_}
 use mathlib.Core.Bool.{Bool, true, false, cond}
 use mathlib.Core.Option as option
-use lib.ListN.{take, drop}
+use lib.ListN.{length, take, drop}
 use borrow.Author.Tests.{eqb-true, not-false}
 use Rattle.tables.specs.Refusals.{Leaves, all, Row, Verdict, refuse, accept, verdict, none}
 use Rattle.tables.proofs.Exactly.{none-held}
-use Rattle.lists.specs.Bytes.{written}
-use Rattle.wire.specs.Packet.{packetType, destination, source}
+use Rattle.lists.specs.Bytes.{byte, written}
+use Rattle.lists.proofs.Numbers.{read-from}
+use Rattle.wire.specs.Packet.{header, priority, packetType, destination, source, firstByte}
+use Rattle.wire.proofs.Addressed.{swapped, append-headed, source-headed}
+use Rattle.contexts.specs.State.{idsIn}
 use Rattle.wire.specs.Head.{is9, is11, headRows}
-use Rattle.responses.specs.Type13.{responseTo, answered}
+use Rattle.responses.specs.Type13.{above, responseTo, answered}
 use Rattle.reading.specs.Table.{Lent, stateIn, lentRows, table}
 use Rattle.reading.specs.Read.{reading, outcome, accepting}
 use Rattle.lists.proofs.Tests.{by-test, _and_}
@@ -36,16 +39,16 @@ past-quiet (r ∷ earlier) later q = go (r .holds) refl (past-quiet earlier late
 
 module _ (x : Lent) where
   -- row 3 is the fifth
-  addressed : none (take 5 (table x)) → destination (x .packet) ≡ stateIn x .setup .device
+  addressed : none (take 5 (table x)) → destination (idsIn (stateIn x)) (x .packet) ≡ stateIn x .setup .device
   unfolding none table lentRows headRows
-  addressed n = eqb-true (destination (x .packet)) (stateIn x .setup .device) (not-false _ (n .1 .1 .1 .1 .0))
+  addressed n = eqb-true (destination (idsIn (stateIn x)) (x .packet)) (stateIn x .setup .device) (not-false _ (n .1 .1 .1 .1 .0))
 
   -- the first five write nothing; so a verdict that writes has passed them
-  written-for-us : (number status : ℕ) (leaves : Leaves) → verdict (table x) ≡ refuse number leaves → writes leaves ≡ option.some status → destination (x .packet) ≡ stateIn x .setup .device
+  written-for-us : (number status : ℕ) (leaves : Leaves) → verdict (table x) ≡ refuse number leaves → writes leaves ≡ option.some status → destination (idsIn (stateIn x)) (x .packet) ≡ stateIn x .setup .device
   unfolding table lentRows headRows
   written-for-us number status leaves e w = go (past-quiet (take 5 (table x)) (drop 5 (table x)) (refl and refl and refl and refl and refl and tt))
     where
-      go : ((n : ℕ) × (verdict (table x) ≡ refuse n all)) ⊎ none (take 5 (table x)) → destination (x .packet) ≡ stateIn x .setup .device
+      go : ((n : ℕ) × (verdict (table x) ≡ refuse n all)) ⊎ none (take 5 (table x)) → destination (idsIn (stateIn x)) (x .packet) ≡ stateIn x .setup .device
       go (inl q) =
           let same : refuse number leaves ≡ refuse (q .0) all = sym e ∙ q .1 in
           let l : leaves ≡ all = cc in
@@ -55,7 +58,7 @@ module _ (x : Lent) where
   -- what is responded to is of type 11 and addressed to us
   record Right : Type 0 where
     type : is11 (x .packet) ≡ true
-    for-us : destination (x .packet) ≡ stateIn x .setup .device
+    for-us : destination (idsIn (stateIn x)) (x .packet) ≡ stateIn x .setup .device
 
   first-five : none (table x) → none (take 5 (table x))
   unfolding none table lentRows headRows
@@ -75,9 +78,14 @@ module _ (x : Lent) where
   right accept e status s = accepted-right (none-held (table x) e) status s
 
 -- a response's source is the request's destination
-swapped : (response p : List ℕ) (status : ℕ) → source (answered response p status) ≡ destination p
+source-is : (ids : ℕ) (response p : List ℕ) (status : ℕ) → source ids (answered ids response p status) ≡ destination ids p
 unfolding answered written responseTo
-swapped response p status = refl
+source-is ids response p status =
+    let first : ℕ = firstByte ids (above (priority p)) 13 in
+    let fields : List ℕ = (0b0001 * 16 + status) ∷ byte p (header ids + 1) ∷ [] in
+    let behind : List ℕ = drop (0 + length (responseTo ids p status)) response in
+    ap (source ids) (append-headed (swapped ids p) first fields behind)
+    ∙ (source-headed (swapped ids p) first (fields ++ behind) ∙ read-from ids p 1 (fields ++ behind))
 
 pub from-us : (x : Lent) (status : ℕ) → statusOf x (reading x .says) ≡ option.some status → Responds x
 from-us x status s =
@@ -85,5 +93,5 @@ from-us x status s =
     record {
       to-message = eqb-true (packetType (x .packet)) 11 (r .type);
       for-us = r .for-us;
-      own-source = ap source (written-by x ∙ ap (responseLeft x) s) ∙ (swapped (x .desk .response) (x .packet) status ∙ r .for-us);
+      own-source = ap (source (idsIn (stateIn x))) (written-by x ∙ ap (responseLeft x) s) ∙ (source-is (idsIn (stateIn x)) (x .desk .response) (x .packet) status ∙ r .for-us);
     }

@@ -8,11 +8,13 @@ use lib.ListN.{length-set}
 use Rattle.tables.specs.Refusals.{Verdict, VerdictOf, refuse, accept, verdict, none}
 use Rattle.answers.specs.Answers.{SetupSaid, ready, setupRefused}
 use Rattle.tables.proofs.Exactly.{none-held}
-use Rattle.contexts.specs.State.{State, fresh, fixed, withStream, withMessage, closedStream, closedMessage, streamContexts, messageContexts}
+use Rattle.wire.specs.declared.Setup.{Setup}
+use Rattle.contexts.specs.State.{State, idsIn, fresh, withStream, withMessage, closedStream, closedMessage, streamContexts, messageContexts}
 use Rattle.contexts.specs.Words.{stateOf, wordsOf}
 use Rattle.refusal19.specs.Refusal19.{namedBy19}
 use Rattle.contexts.proofs.Words.{state-of, length-words}
 use Rattle.refusal19.proofs.Kept.{fresh-good, stream-kept, message-kept, closed-stream, closed-message}
+use Rattle.reading.specs.Table.{stateIn}
 use Rattle.reading.specs.Good.{GoodWords, StillGood}
 use Rattle.reading.proofs.Kept.{good-words, unchanged, stays-good}
 use Rattle.wire.specs.Packet.{header}
@@ -23,23 +25,23 @@ use Rattle.abandoning.specs.Abandoning.{contextTable, abandonBy, abandonStream,
 use Rattle.promises.specs.GoodStates.{GoodStatesStay}
 
 -- ---- setup
-fresh-words : (device mtu room : ℕ) → namedBy19 (fresh (fixed device mtu room)) ≡ false → GoodWords (wordsOf (fresh (fixed device mtu room)))
-fresh-words device mtu room g = record { whole = length-words (fresh (fixed device mtu room)) refl refl; good = ap namedBy19 (state-of (fresh (fixed device mtu room)) refl refl) ∙ g }
+fresh-words : (settings : Setup) → namedBy19 (fresh settings) ≡ false → GoodWords (wordsOf (fresh settings))
+fresh-words settings g = record { whole = length-words (fresh settings) refl refl; good = ap namedBy19 (state-of (fresh settings) refl refl) ∙ g }
 
-passed : (words : List ℕ) (device mtu room : ℕ) → none (setupTable words mtu room) → GoodWords (wordsOf (fresh (fixed device mtu room)))
+passed : (words : List ℕ) (settings : Setup) → none (setupTable words settings) → GoodWords (wordsOf (fresh settings))
 unfolding none setupTable
-passed words device mtu room n = fresh-words device mtu room (fresh-good (fixed device mtu room) (n .1 .0) (n .1 .1 .0))
+passed words settings n = fresh-words settings (fresh-good settings (n .1 .1 .0) (n .1 .1 .1 .0))
 
-module _ (words : List ℕ) (device mtu room : ℕ) (after : List ℕ) where
-  by-setup : (v : VerdictOf SetupLeaves) → verdict (setupTable words mtu room) ≡ v → stands ready after ≡ setupBy words device mtu room v → GoodWords after
+module _ (words : List ℕ) (settings : Setup) (after : List ℕ) where
+  by-setup : (v : VerdictOf SetupLeaves) → verdict (setupTable words settings) ≡ v → stands ready after ≡ setupBy words settings v → GoodWords after
   by-setup (refuse number leaves) e p =
       let says : ready ≡ setupRefused number = ap (λ (s : Stands SetupSaid). s .says) p in
       absurd (let z : _≡_ {A = ℕ} 0 1 = cc in omega arith)
-  by-setup accept e p = subst GoodWords (sym (ap (λ (s : Stands SetupSaid). s .words) p)) (passed words device mtu room (none-held (setupTable words mtu room) e))
+  by-setup accept e p = subst GoodWords (sym (ap (λ (s : Stands SetupSaid). s .words) p)) (passed words settings (none-held (setupTable words settings) e))
 
-  setup-good : SetupPromise words device mtu room Ready after → GoodWords after
+  setup-good : SetupPromise words settings Ready after → GoodWords after
   unfolding setup
-  setup-good p = by-setup (verdict (setupTable words mtu room)) refl p
+  setup-good p = by-setup (verdict (setupTable words settings)) refl p
 
 -- ---- abandoning
 by-verdict : (words : List ℕ) (isFree : Bool) (after : State) (v : Verdict) → GoodWords words → StillGood (stateOf words) (wordsOf after)
@@ -66,7 +68,7 @@ module _ (words : List ℕ) (n : ℕ) (g : GoodWords words) where
 pub good-states-stay : GoodStatesStay
 good-states-stay = record {
   set-up = setup-good;
-  read = λ x g bytes. stays-good x (g .whole) (g .good) (bytes header);
+  read = λ x g bytes. stays-good x (g .whole) (g .good) (bytes (header (idsIn (stateIn x))));
   abandon-stream = abandon-stream-good;
   abandon-message = abandon-message-good;
 }

@@ -5,7 +5,9 @@ use Rattle.sending.proofs.Joint.{joint-exactly, joint-only, joint-length, joint
 use Rattle.sending.proofs.Untold.{joint-untold}
 use Rattle.sending.proofs.Mixture.{mixture-is-fair}
 use Rattle.sending.proofs.MixtureRun.{mixture-delivered}
+use Rattle.sending.proofs.Widths.{segment-of-other-width-refused, segments-same-but-for-ids}
 use Rattle.flows.proofs.Apart.{flows-apart, same-packets-same-answers}
+use Rattle.flows.proofs.Widths.{other-width-refused, same-but-for-ids}
 use Rattle.mailing.proofs.Packets.{mail-read}
 use Rattle.mailing.proofs.Desks.{others-leave-mail}
 use Rattle.mailing.proofs.Runs.{message-read-back-of-calls}
@@ -15,7 +17,7 @@ use Rattle.calls.proofs.Rooms.{room-of-delivered}
 use Rattle.demands.proofs.Demands.{ours-meets, our-writer-meets, corollary3}
 use Rattle.demands.proofs.OfCalls.{demand2-of-calls, demand3-of-calls, demand3-any-loss}
 use Rattle.demands.proofs.Impostors.{impostors-break}
-use Rattle.demands.proofs.Witnesses.{calls-not-empty, allowed-not-empty, flows-not-empty, joint-not-empty}
+use Rattle.demands.proofs.Witnesses.{calls-not-empty, allowed-not-empty, flows-not-empty, joint-not-empty, widths-not-empty}
 use Rattle.sixteen.proofs.Sixteen.{sixteen-at-once, sixteen-delivered}
 use Rattle.promises.specs.Statements.{Promises}
 use Rattle.promises.specs.Witnesses.{PremisesCanBeMet}
@@ -37,6 +39,7 @@ premises-can-be-met = record {
   sixteen = sixteen-at-once;
   sixteen-delivered = sixteen-delivered;
   flows = flows-not-empty;
+  widths = widths-not-empty;
   joint = joint-not-empty;
 }
 
@@ -75,6 +78,10 @@ promises = record {
   joint-length = joint-length;
   joint-unsent = joint-unsent;
   joint-untold = joint-untold;
+  other-width = other-width-refused;
+  other-segment = segment-of-other-width-refused;
+  same-segments = segments-same-but-for-ids;
+  same-packets = same-but-for-ids;
   examples = examples-hold;
   witnesses = premises-can-be-met;
 }

@@ -11,6 +11,7 @@ use Rattle.tables.specs.Refusals.{Leaves, all, flowClosed, allERROR, allRETRY, 
 use Rattle.tables.proofs.Exactly.{decided, none-held}
 use Rattle.wire.specs.Type11.{isSingle}
 use Rattle.wire.specs.Head.{is9, is11, headRows}
+use Rattle.contexts.specs.State.{idsIn}
 use Rattle.responses.specs.Type13.{DONE, RETRY, ERROR, answered}
 use Rattle.stream_rooms.specs.Placing as streamRoom
 use Rattle.streams.specs.Joining as stream
@@ -43,7 +44,7 @@ left-response x number flowClosed = refl
 left-response x number allERROR = refl
 left-response x number allRETRY = refl
 
-left-replied : (x : Lent) (number : ℕ) (leaves : Leaves) → refusing x number leaves .replied ≡ repliedBy (writes leaves)
+left-replied : (x : Lent) (number : ℕ) (leaves : Leaves) → refusing x number leaves .replied ≡ repliedBy x (writes leaves)
 left-replied x number all = refl
 left-replied x number flowClosed = refl
 left-replied x number allERROR = refl
@@ -102,7 +103,7 @@ module _ (x : Lent) where
   -- DONE, and in the buffer
   record Done (j : messageRoom.MessageJoined) : Type 0 where
     status : statusOf x (j .says) ≡ option.some DONE
-    response : j .response ≡ answered (x .desk .response) (x .packet) DONE
+    response : j .response ≡ answered (idsIn (stateIn x)) (x .desk .response) (x .packet) DONE
 
   placed-done : is11 (x .packet) ≡ true → (n marks last : ℕ) → Done (messageRoom.messagePlaced (stateIn x) (x .desk .messageMemory) (x .desk .response) (x .packet) (messageSegmentIn x) n marks last)
   unfolding messageRoom.messagePlaced
@@ -141,17 +142,17 @@ module _ (x : Lent) where
   left accept e = by-test (is9 (x .packet)) stream-left (λ n. message-left n (other-type x (none-held (table x) e) n))
 
   -- how many bytes
-  counts : (v : Verdict) → verdict (table x) ≡ v → outcome x v .replied ≡ repliedBy (statusOf x (outcome x v .says))
-  counts (refuse number leaves) e = left-replied x number leaves ∙ ap repliedBy (sym (said-status number leaves ∙ refused-so number leaves e .status))
+  counts : (v : Verdict) → verdict (table x) ≡ v → outcome x v .replied ≡ repliedBy x (statusOf x (outcome x v .says))
+  counts (refuse number leaves) e = left-replied x number leaves ∙ ap (repliedBy x) (sym (said-status number leaves ∙ refused-so number leaves e .status))
   counts accept e =
       by-test (is9 (x .packet))
-      (λ n. rw n (ap repliedBy (sym (stream-silent (one-type (x .packet) n)))))
-      (λ n. rw n (ap repliedBy (sym (message-done (other-type x (none-held (table x) e) n) .status))))
+      (λ n. rw n (ap (repliedBy x) (sym (stream-silent (one-type (x .packet) n)))))
+      (λ n. rw n (ap (repliedBy x) (sym (message-done (other-type x (none-held (table x) e) n) .status))))
 
 pub written-by : (x : Lent) → reading x .desk .response ≡ responseLeft x (statusOf x (reading x .says))
 unfolding reading
 written-by x = left x (verdict (table x)) refl
 
-pub counted : (x : Lent) → reading x .replied ≡ repliedBy (statusOf x (reading x .says))
+pub counted : (x : Lent) → reading x .replied ≡ repliedBy x (statusOf x (reading x .says))
 unfolding reading
 counted x = counts x (verdict (table x)) refl

@@ -14,7 +14,9 @@ use Rattle.wire.specs.Type9.{segmentOf}
 use Rattle.wire.specs.Type11.{messageOf}
 use Rattle.wire.specs.Head.{is9, headRows}
 use Rattle.wire.specs.Parsed.{parsed}
-use Rattle.contexts.specs.State.{Setup, fresh, streamIn, messageIn, withStream, withMessage, closedStream, closedMessage, isFreeStream, isFreeMessage}
+use Rattle.wire.specs.declared.Setup.{Setup}
+use Rattle.wire.specs.Packet.{idsOf}
+use Rattle.contexts.specs.State.{fresh, streamIn, messageIn, withStream, withMessage, closedStream, closedMessage, isFreeStream, isFreeMessage}
 use Rattle.contexts.specs.State.{streamContexts, messageContexts}
 use Rattle.contexts.specs.Words.{stateOf, wordsOf}
 use Rattle.reading.specs.Table.{Lent, table}
@@ -45,15 +47,16 @@ ReadingByTable = (x : Lent) → ByTable (table x) (λ (n : ℕ) (o : Settled). o
 -- a packet by itself, before any context: rows 1 to 5; else the fields of its type
 abbrev pub HeadByTable : Type 0
 HeadByTable =
-    (device : ℕ) (p : List ℕ)
-    → ByTable (headRows device p) (λ (n : ℕ) (o : Parsed). o ≡ Refused n) (λ (n : ℕ) (l : Leaves). Refused n) (cond (is9 p) (Stream (segmentOf p)) (Message (messageOf p))) (parsed device p)
+    (settings : Setup) (p : List ℕ)
+    → ByTable (headRows (settings .device) (idsOf settings) p) (λ (n : ℕ) (o : Parsed). o ≡ Refused n) (λ (n : ℕ) (l : Leaves). Refused n)
+    (cond (is9 p) (Stream (segmentOf (idsOf settings) p)) (Message (messageOf (idsOf settings) p))) (parsed settings p)
 
--- setup: refused, it hands back a state of zeros (a buffer that is no state stays as it is); else a state of that device, MTU and R, all free
+-- setup: refused, it hands back a state of zeros (a buffer that is no state stays as it is); else a state of that device, MTU, R and width, all free
 abbrev pub SetupByTable : Type 0
 SetupByTable =
-    (words : List ℕ) (fixed : Setup)
-    → ByTable (setupTable words (fixed .mtu) (fixed .room)) (λ (n : ℕ) (o : Stands SetupSaid). o .says ≡ setupRefused n)
-    (λ n l. stands (setupRefused n) (setupLeaving words l)) (stands ready (wordsOf (fresh fixed))) (setup words (fixed .device) (fixed .mtu) (fixed .room))
+    (words : List ℕ) (settings : Setup)
+    → ByTable (setupTable words settings) (λ (n : ℕ) (o : Stands SetupSaid). o .says ≡ setupRefused n)
+    (λ n l. stands (setupRefused n) (setupLeaving words l)) (stands ready (wordsOf (fresh settings))) (setup words settings)
 
 -- abandoning: a refusal leaves the state; else a free context stays as it is and the answer says so, an open one is closed and nothing else changes
 abbrev pub AbandonStreamByTable : Type 0

@@ -10,6 +10,7 @@ use Rattle.answers.specs.declared.StreamAsked.{StreamAsked}
 use Rattle.answers.specs.declared.MessageAsked.{MessageAsked}
 use Rattle.answers.specs.declared.Written.{Written}
 use Rattle.answers.specs.Once.{Outcome, OneOutcome}
+use Rattle.wire.specs.declared.Setup.{Setup}
 use Rattle.reading.specs.Desk.{Desk}
 use Rattle.reading.specs.Table.{Lent}
 use Rattle.reading.specs.Read.{ReadPromise}
@@ -26,7 +27,7 @@ OneRoom allowed = (r r′ : RefT (List ℕ)) → allowed r → allowed r′ → 
 
 pub record OneOutcomeEach : Type 0 where
   pub state-length : OneOutcome LengthPromise
-  pub setup : (words : List ℕ) (device mtu room : ℕ) → OneOutcome (λ (y : Outcome Begun (List ℕ)). SetupPromise words device mtu room (y .answer) (y .after))
+  pub setup : (words : List ℕ) (settings : Setup) → OneOutcome (λ (y : Outcome Begun (List ℕ)). SetupPromise words settings (y .answer) (y .after))
   pub read : (x : Lent) → OneOutcome (λ (y : Outcome Reading Desk). ReadPromise x (y .answer) (y .after))
   pub abandon-stream : (words : List ℕ) (n : ℕ) → OneOutcome (λ (y : Outcome Abandoned (List ℕ)). AbandonStreamPromise words n (y .answer) (y .after))
   pub abandon-message : (words : List ℕ) (n : ℕ) → OneOutcome (λ (y : Outcome Abandoned (List ℕ)). AbandonMessagePromise words n (y .answer) (y .after))

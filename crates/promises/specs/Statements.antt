@@ -11,7 +11,9 @@
 use Rattle.sending.specs.Segment.{SegmentsReadBack}
 use Rattle.sending.specs.Meaning.{InOrder, WholeIsIntact}
 use Rattle.sending.specs.Joint.{JointExactly, JointOnly, JointLength, JointUnsent, JointUntold}
+use Rattle.sending.specs.Widths.{SegmentOfOtherWidthRefused, SegmentsSameButForIDs}
 use Rattle.flows.specs.Apart.{FlowsApart, SamePacketsSameAnswers}
+use Rattle.flows.specs.Widths.{OtherWidthRefused, SameButForIDs}
 use Rattle.mailing.specs.Mail.{MailSegmentsReadBack}
 use Rattle.mailing.specs.ReadBack.{OthersLeaveMail}
 use Rattle.mailing.specs.OfCalls.{MessageReadBackOfCalls}
@@ -93,6 +95,15 @@ pub record Promises : Type 0 where
   pub joint-unsent : JointUnsent
   -- no receiver can tell: the joint's packets are left by a sending that breaks the neighbours' premise and no other, and by a fair one
   pub joint-untold : JointUntold
+  -- ==== THE WIDTH OF AN ID (document 02, M-112). Every line above holds at the width that setup chose, IDs of 16 bits or of 8, and is said once.
+
+  -- a packet of the other width is refused 2 and leaves all, whatever its IDs; so is every segment that was cut for it
+  pub other-width : OtherWidthRefused
+  pub other-segment : SegmentOfOtherWidthRefused
+  -- the same but for the IDs: a segment with IDs of 8 bits is the one of 16 with tt 00 and the two high bytes left out, and the two endpoints answer
+  -- the same to it; and to every packet
+  pub same-segments : SegmentsSameButForIDs
+  pub same-packets : SameButForIDs
   -- ==== The paper's starred examples come out as it says; and every premise above can be met
   pub examples : ExamplesHold
   pub witnesses : PremisesCanBeMet

@@ -1,8 +1,9 @@
 -- A proof by computation looks through every definition of reading: this names them all, once.
-use Rattle.lists.specs.Bytes.{written}
+use Rattle.lists.specs.Bytes.{bytesFrom, number, inBytes, written}
 use Rattle.lists.specs.First.{firstOf, any}
 use Rattle.lists.specs.Rows.{rows, joined}
 use Rattle.tables.specs.Refusals.{verdict, given}
+use Rattle.wire.specs.Packet.{idBytes, addressed}
 use Rattle.wire.specs.Type9.{sameFlow, segmentAt, segmentOf}
 use Rattle.wire.specs.Type11.{messageOf}
 use Rattle.wire.specs.Head.{headRows}
@@ -25,8 +26,8 @@ use Rattle.reading.specs.Table.{wrongSizes, lentRows, table}
 use Rattle.reading.specs.Read.{reading}
 
 unfoldable pub reads : Unit {0}
-unfolding written firstOf any rows joined verdict given
-    sameFlow segmentAt segmentOf messageOf headRows parsed badMTU pduLength dataLength bytesOf inEights responseTo answered
+unfolding bytesFrom number inBytes written firstOf any rows joined verdict given
+    idBytes addressed sameFlow segmentAt segmentOf messageOf headRows parsed badMTU pduLength dataLength bytesOf inEights responseTo answered
     malformed wrongForm reservedSize badLength pastLast formRows
     marked allMarked isFreeStream isFreeMessage isOfFlow isOfMessage flowContext freeStream messageContext freeMessage stateOf wordsOf
     badRoom badStream badLast badMarks badMessage namedBy19

@@ -11,7 +11,8 @@ use Rattle.tables.proofs.Exactly.{none-held}
 use Rattle.wire.specs.Packet.{header}
 use Rattle.wire.specs.Type11.{messageOf, isSingle}
 use Rattle.wire.specs.Head.{is9, is11, headRows}
-use Rattle.contexts.specs.State.{Setup, State, freeMessage}
+use Rattle.wire.specs.declared.Setup.{Setup}
+use Rattle.contexts.specs.State.{State, idsIn, freeMessage}
 use Rattle.contexts.specs.Words.{stateOf, wordsOf, stateWords}
 use Rattle.refusal19.specs.Refusal19.{namedBy19}
 use Rattle.contexts.proofs.Words.{sixteen, eight, state-of, length-words}
@@ -71,20 +72,23 @@ module _ (x : Lent) where
       (λ o. rw (t, o) (placed-same (messageFound (stateIn x) (messageSegmentIn x)) _ _))
       (λ o. rw (t, o) (placed-same (freeMessage (stateIn x)) 0 0)))
 
-  -- R stays, whatever the words
-  same-R : (t : State) → Same (stateIn x) t → stateOf (wordsOf t) .setup .room ≡ stateIn x .setup .room
-  same-R t e = ap (λ (s : State). s .setup .room) (state-of t (e .streams ∙ sixteen (x .desk .words)) (e .messages ∙ eight (x .desk .words))) ∙ ap (λ (f : Setup). f .room) (e .setup)
+  -- what setup fixed stays, whatever the words
+  same-setup : (t : State) → Same (stateIn x) t → stateOf (wordsOf t) .setup ≡ stateIn x .setup
+  same-setup t e = ap (λ (s : State). s .setup) (state-of t (e .streams ∙ sixteen (x .desk .words)) (e .messages ∙ eight (x .desk .words))) ∙ e .setup
 
-  pub room-kept : stateOf (reading x .desk .words) .setup .room ≡ stateIn x .setup .room
+  pub setup-kept : stateOf (reading x .desk .words) .setup ≡ stateIn x .setup
   unfolding reading
-  room-kept = by-verdict (verdict (table x))
+  setup-kept = by-verdict (verdict (table x))
     where
-      by-verdict : (v : Verdict) → stateOf (outcome x v .desk .words) .setup .room ≡ stateIn x .setup .room
+      by-verdict : (v : Verdict) → stateOf (outcome x v .desk .words) .setup ≡ stateIn x .setup
       by-verdict (refuse number all) = refl
-      by-verdict (refuse number flowClosed) = same-R _ (closing-same number)
+      by-verdict (refuse number flowClosed) = same-setup _ (closing-same number)
       by-verdict (refuse number allERROR) = refl
       by-verdict (refuse number allRETRY) = refl
-      by-verdict accept = by-test (is9 (x .packet)) (λ t. rw t (same-R _ stream-same)) (λ t. rw t (same-R _ message-same))
+      by-verdict accept = by-test (is9 (x .packet)) (λ t. rw t (same-setup _ stream-same)) (λ t. rw t (same-setup _ message-same))
+
+  pub room-kept : stateOf (reading x .desk .words) .setup .room ≡ stateIn x .setup .room
+  room-kept = ap (λ (f : Setup). f .room) setup-kept
 
   -- every row of an accepted packet has failed
   abbrev Passed : Type 0
@@ -95,7 +99,7 @@ module _ (x : Lent) where
   unfolding none table lentRows headRows given streamRows messageRows formRows
   other-type n f = the-other (is9 (x .packet)) (is11 (x .packet)) (n .1 .1 .1 .1 .1 .0) f
 
-  module _ (whole : length (x .desk .words) ≡ stateWords) (fine : namedBy19 (stateIn x) ≡ false) (small : getD (x .packet) header 0 < 256) where
+  module _ (whole : length (x .desk .words) ≡ stateWords) (fine : namedBy19 (stateIn x) ≡ false) (small : getD (x .packet) (header (idsIn (stateIn x))) 0 < 256) where
     stream-good : Passed → is9 (x .packet) ≡ true → StillGood (stateIn x) (wordsOf (stream.accepted (stateIn x) (x .desk .streamMemory) (x .packet) (segmentIn x) .state))
     unfolding none table lentRows headRows given streamRows messageRows formRows
     stream-good n t =

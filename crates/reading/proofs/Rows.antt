@@ -18,6 +18,7 @@ use Rattle.wire.specs.Head.{is9, is11, headRows}
 use Rattle.wire.proofs.HeadLaws.{one-type, other-type}
 use Rattle.responses.specs.Type13.{ERROR, RETRY}
 use Rattle.rules.specs.Messages.{formRows}
+use Rattle.contexts.specs.State.{idsIn}
 use Rattle.contexts.specs.Words.{stateWords}
 use Rattle.contexts.proofs.Words.{words-of}
 use Rattle.refusal19.specs.Refusal19.{namedBy19}
@@ -41,14 +42,14 @@ typedRows x = given (is9 (x .packet)) (streamRows (stateIn x) (segmentIn x)) ++ 
 
 -- rows 19 and 12, then those of the head and those of its type
 flat : (x : Lent) → reading x ≡ cond (isState (x .desk) && namedBy19 (stateIn x)) (refusing x 19 all)
-    (cond (not (isState (x .desk)) || wrongSizes (x .desk)) (refusing x 12 all) (outcome x (verdict (headRows (stateIn x .setup .device) (x .packet) ++ typedRows x))))
+    (cond (not (isState (x .desk)) || wrongSizes (x .desk)) (refusing x 12 all) (outcome x (verdict (headRows (stateIn x .setup .device) (idsIn (stateIn x)) (x .packet) ++ typedRows x))))
 unfolding reading table lentRows typedRows
 flat x = by-row (refusing x) (accepting x) 19 _ all _ ∙ rw (by-row (refusing x) (accepting x) 12 (not (isState (x .desk)) || wrongSizes (x .desk)) all)
 
 -- every row of the head leaves all
-head-leaves : (device : ℕ) (p : List ℕ) → Each (λ (r : Row). r .leaves ≡ all) (headRows device p)
+head-leaves : (device ids : ℕ) (p : List ℕ) → Each (λ (r : Row). r .leaves ≡ all) (headRows device ids p)
 unfolding headRows
-head-leaves device p = refl and refl and refl and refl and refl and refl and refl and tt
+head-leaves device ids p = refl and refl and refl and refl and refl and refl and refl and tt
 
 module _ (x : Lent) (whole : length (x .desk .words) ≡ stateWords) where
   -- type 9: what a row leaves is the same on the desk
@@ -88,20 +89,20 @@ module _ (x : Lent) (whole : length (x .desk .words) ≡ stateWords) where
       ap (outcome x) (only-11 n e)
       ∙ sym (carried (ofMessage x) _ _ (refusing x) (accepting x) (messageRows (stateIn x) (messageSegmentIn x)) (errs and errs and errs and errs and errs and retries and tt) (rw n))
 
-  packet-rows : outcome x (verdict (headRows (stateIn x .setup .device) (x .packet) ++ typedRows x)) ≡ byParsed x (parsed (stateIn x .setup .device) (x .packet))
+  packet-rows : outcome x (verdict (headRows (stateIn x .setup .device) (idsIn (stateIn x)) (x .packet) ++ typedRows x)) ≡ byParsed x (parsed (stateIn x .setup) (x .packet))
   unfolding parsed
-  packet-rows = ap (outcome x) (verdict-joined (headRows (stateIn x .setup .device) (x .packet)) (typedRows x)) ∙ go (verdict (headRows (stateIn x .setup .device) (x .packet))) refl
+  packet-rows = ap (outcome x) (verdict-joined (headRows (stateIn x .setup .device) (idsIn (stateIn x)) (x .packet)) (typedRows x)) ∙ go (verdict (headRows (stateIn x .setup .device) (idsIn (stateIn x)) (x .packet))) refl
     where
       by-type : Bool → Settled
       by-type b = byParsed x (cond b (Stream (segmentIn x)) (Message (messageSegmentIn x)))
 
-      go : (v : Verdict) → verdict (headRows (stateIn x .setup .device) (x .packet)) ≡ v → outcome x (orElse v (verdict (typedRows x))) ≡ byParsed x (parsedBy (x .packet) v)
+      go : (v : Verdict) → verdict (headRows (stateIn x .setup .device) (idsIn (stateIn x)) (x .packet)) ≡ v → outcome x (orElse v (verdict (typedRows x))) ≡ byParsed x (parsedBy (idsIn (stateIn x)) (x .packet) v)
       go (refuse number leaves) e =
-          rw (every-row (λ (l : Leaves). l ≡ all) (headRows (stateIn x .setup .device) (x .packet)) number leaves (head-leaves (stateIn x .setup .device) (x .packet)) e)
+          rw (every-row (λ (l : Leaves). l ≡ all) (headRows (stateIn x .setup .device) (idsIn (stateIn x)) (x .packet)) number leaves (head-leaves (stateIn x .setup .device) (idsIn (stateIn x)) (x .packet)) e)
       go accept e =
           by-test (is9 (x .packet))
           (λ n. stream-typed n ∙ sym (ap by-type n))
-          (λ n. message-typed n (other-type (x .packet) (stateIn x .setup .device) (none-held _ e) n) ∙ sym (ap by-type n))
+          (λ n. message-typed n (other-type (idsIn (stateIn x)) (x .packet) (stateIn x .setup .device) (none-held _ e) n) ∙ sym (ap by-type n))
 
 module _ (x : Lent) where
   -- rows 19 and 12
@@ -111,5 +112,5 @@ module _ (x : Lent) where
 
   -- what remains once they have passed
   pub by-packet : length (x .desk .words) ≡ stateWords → namedBy19 (stateIn x) ≡ false → wrongSizes (x .desk) ≡ false
-      → reading x ≡ byParsed x (parsed (stateIn x .setup .device) (x .packet))
+      → reading x ≡ byParsed x (parsed (stateIn x .setup) (x .packet))
   by-packet l h m = flat x ∙ (rw (eq-eqb (length (x .desk .words)) stateWords l, h, m) (packet-rows x l))

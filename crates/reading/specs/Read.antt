@@ -8,6 +8,7 @@ use Rattle.answers.specs.declared.Reading.{Reading}
 use Rattle.tables.specs.Refusals.{Leaves, all, flowClosed, allERROR, allRETRY, Verdict, verdict, byVerdict}
 use Rattle.wire.specs.Head.{is9}
 use Rattle.responses.specs.Type13.{responseSize, ERROR, RETRY, answered}
+use Rattle.contexts.specs.State.{idsIn}
 use Rattle.contexts.specs.Words.{wordsOf}
 use Rattle.stream_rooms.specs.Placing as streamRoom
 use Rattle.streams.specs.Joining as stream
@@ -37,18 +38,18 @@ ofStream x j = settled (j .says) (j .dropped) 0 (withStreams (x .desk) (wordsOf 
 
 -- what an accepted type 11 packet leaves; the stream memory stays
 abbrev pub ofMessage : Lent → MessageJoined → Settled
-ofMessage x j = settled (j .says) false responseSize (withMessages (x .desk) (wordsOf (j .state)) (j .memory) (j .response))
+ofMessage x j = settled (j .says) false (responseSize (idsIn (stateIn x))) (withMessages (x .desk) (wordsOf (j .state)) (j .memory) (j .response))
 
 -- the desk with a response of that status
 abbrev pub responded : Lent → ℕ → Desk
-responded x status = withResponse (x .desk) (answered (x .desk .response) (x .packet) status)
+responded x status = withResponse (x .desk) (answered (idsIn (stateIn x)) (x .desk .response) (x .packet) status)
 
 -- the table's last column
 abbrev pub refusing : Lent → ℕ → Leaves → Settled
 refusing x number all = settled (refused number) false 0 (x .desk)
 refusing x number flowClosed = ofStream x (stream.refusedClosing (stateIn x) (x .desk .streamMemory) (segmentIn x) number)
-refusing x number allERROR = settled (refused number) false responseSize (responded x ERROR)
-refusing x number allRETRY = settled (refused number) false responseSize (responded x RETRY)
+refusing x number allERROR = settled (refused number) false (responseSize (idsIn (stateIn x))) (responded x ERROR)
+refusing x number allRETRY = settled (refused number) false (responseSize (idsIn (stateIn x))) (responded x RETRY)
 
 -- an accepted packet: of type 9, else of type 11, since row 4 has passed
 abbrev pub accepting : Lent → Settled

@@ -12,7 +12,7 @@ use Rattle.wire.specs.Type9.{segmentOf}
 use Rattle.wire.specs.Type11.{messageOf}
 use Rattle.wire.specs.Head.{is9, is11, headRows}
 use Rattle.responses.specs.Type13.{responseSize}
-use Rattle.contexts.specs.State.{State, streamContexts}
+use Rattle.contexts.specs.State.{State, idsIn, streamContexts}
 use Rattle.contexts.specs.Words.{stateWords}
 use Rattle.refusal19.specs.Refusal19.{namedBy19}
 use Rattle.message_rooms.specs.Placing.{messageMemoryBytes}
@@ -32,23 +32,24 @@ abbrev pub stateIn : Lent → State
 stateIn x = stateOn (x .desk)
 
 abbrev pub segmentIn : Lent → Segment
-segmentIn x = segmentOf (x .packet)
+segmentIn x = segmentOf (idsIn (stateIn x)) (x .packet)
 
 abbrev pub messageSegmentIn : Lent → MessageSegment
-messageSegmentIn x = messageOf (x .packet)
+messageSegmentIn x = messageOf (idsIn (stateIn x)) (x .packet)
 
 -- so many words are a state; a buffer of another length is a lent memory of the wrong size
 abbrev pub isState : Desk → Bool
 isState d = eqb (length (d .words)) stateWords
 
--- 12: a stream memory that is not 16 R bytes long, a message memory that is not 32,768, or a response buffer under 7
+-- 12: a stream memory that is not 16 R bytes long, a message memory that is not 32,768, or a response buffer under 7; with IDs
+-- of one byte, under 5
 unfoldable pub wrongSizes : Desk → Bool
 wrongSizes d =
     not (eqb (length (d .streamMemory)) (streamContexts * stateOn d .setup .room))
     || not (eqb (length (d .messageMemory)) messageMemoryBytes)
-    || ltb (length (d .response)) responseSize
+    || ltb (length (d .response)) (responseSize (idsIn (stateOn d)))
 
--- the rows of what is lent
+-- the rows of what is lent; with IDs of one byte 7 is 5
 unfoldable pub lentRows : Desk → List Row
 lentRows d =
     -- a state that 19 names
@@ -65,8 +66,8 @@ unfoldable pub table : Lent → List Row
 table x =
     -- 19, 12
     lentRows (x .desk)
-    -- 1 under 5 bytes, 2, 3, 4, 1 under 7, 5, 1 under 9 (wire/specs/Head.antt)
-    ++ (headRows (stateIn x .setup .device) (x .packet)
+    -- 1 under 5 bytes, 2, 3, 4, 1 under 7, 5, 1 under 9; with IDs of one byte, 2 less each (wire/specs/Head.antt)
+    ++ (headRows (stateIn x .setup .device) (idsIn (stateIn x)) (x .packet)
     -- type 9: 6 to 11 (streams/specs/Rows.antt)
     ++ (given (is9 (x .packet)) (streamRows (stateIn x) (segmentIn x))
     -- type 11: 20 to 25 (messages/specs/Rows.antt)

@@ -23,7 +23,10 @@ fn wrong_memory(
     if message_memory.len() != message_rooms::MEMORY {
         return true;
     }
-    response.len() < responses::SIZE
+    if contexts::narrow(state) == 0 {
+        return response.len() < responses::size(2);
+    }
+    response.len() < responses::size(1)
 }
 
 // What everything lent is refused with, rows 19 and 12: 19, 12 or 0. A run over many packets asks once.

@@ -13,7 +13,8 @@ use Rattle.lists.proofs.First.{none-passes, all-fail}
 use Rattle.sizes.specs.Sizes.{badMTU, bytesOf}
 use Rattle.contexts.specs.declared.StreamContext.{StreamContext}
 use Rattle.contexts.specs.declared.MessageContext.{MessageContext}
-use Rattle.contexts.specs.State.{Setup, State, fresh, withStream, withMessage, closedStream, closedMessage, isFreeStream, isFreeMessage}
+use Rattle.wire.specs.declared.Setup.{Setup}
+use Rattle.contexts.specs.State.{State, fresh, withStream, withMessage, closedStream, closedMessage, isFreeStream, isFreeMessage}
 use Rattle.marks.specs.Marks.{allMarked}
 use Rattle.refusal19.specs.Refusal19.{badRoom, badStream, badLast, badMarks, badMessage, namedBy19}
 use Rattle.lists.proofs.Tests.{neither}

@@ -1,6 +1,6 @@
 -- Laws of rows 6 and 7 by numbers: O and E as bits of the flags.
-use Prim.Native.Nat.{ℕ, _<_, _≤_, _/_, _%_}
-use mathlib.Core.Path.{_≡_, refl, sym}
+use Prim.Native.Nat.{ℕ, _<_, _≤_, _*_, _/_, _%_}
+use mathlib.Core.Path.{_≡_, refl, sym, ap, _∙_}
 use mathlib.Core.Bool.{Bool, true, false, cond, not}
 use native.Mathlib.Omega.{arith}
 use native.Mathlib.Decide.{ℕ-discrete}
@@ -26,13 +26,22 @@ module _ (raw flags : ℕ) where
   no-data e = rw (eq-eqb raw 0 e)
 
   module _ (some : raw ≡ 0 → ⊥) where
-    pub odd-bytes : raw % 2 ≡ 1 → true ≡ wrongForm raw (bit flags 2)
-    unfolding wrongForm
-    odd-bytes e = rw (ne-eqb raw 0 some, eq-eqb (raw % 2) 1 e)
-
-    pub by-O : (raw % 2 ≡ 1 → ⊥) → not (eqb (raw / 2 % 2) (flags / 2 % 2)) ≡ wrongForm raw (bit flags 2)
+    -- an even number of bytes, by the parity of its half-words
+    by-O : (raw % 2 ≡ 1 → ⊥) → not (eqb (raw / 2 % 2) (flags / 2 % 2)) ≡ wrongForm raw (bit flags 2)
     unfolding wrongForm
     by-O even = rw (ne-eqb raw 0 some, ne-eqb (raw % 2) 1 even) (bits-differ (raw / 2 % 2) (flags / 2 % 2) (omega arith) (omega arith))
+
+    -- both at once: by four, a good number of bytes leaves 2 where O is set, else 0
+    pub by-four : not (eqb (raw % 4) (2 * (flags / 2 % 2))) ≡ wrongForm raw (bit flags 2)
+    unfolding wrongForm
+    by-four = go (ℕ-discrete (raw % 2) 1) (ℕ-discrete (raw / 2 % 2) (flags / 2 % 2))
+      where
+        go : Dec (raw % 2 ≡ 1) → Dec (raw / 2 % 2 ≡ flags / 2 % 2) → not (eqb (raw % 4) (2 * (flags / 2 % 2))) ≡ wrongForm raw (bit flags 2)
+        go (yes uneven) same = rw (ne-eqb raw 0 some, eq-eqb (raw % 2) 1 uneven, ne-eqb (raw % 4) (2 * (flags / 2 % 2)) (λ e. omega arith))
+        go (no even) (yes same) =
+            ap not (eq-eqb (raw % 4) (2 * (flags / 2 % 2)) (omega arith)) ∙ (sym (ap not (eq-eqb (raw / 2 % 2) (flags / 2 % 2) same)) ∙ by-O even)
+        go (no even) (no other) =
+            ap not (ne-eqb (raw % 4) (2 * (flags / 2 % 2)) (λ e. other (omega arith))) ∙ (sym (ap not (ne-eqb (raw / 2 % 2) (flags / 2 % 2) other)) ∙ by-O even)
 
 -- ---- row 7
 pub over : (e : Bool) (n mtu : ℕ) → mtu < n → true ≡ wrongSize e n mtu

@@ -7,8 +7,9 @@ use mathlib.Core.Option.{Option, none, some}
 use Rattle.lists.specs.First.{any}
 use Rattle.answers.specs.Answers as answers
 use Rattle.wire.specs.declared.Flow.{Flow}
+use Rattle.wire.specs.Packet.{idsOf}
 use Rattle.wire.specs.Type9.{sameFlow, segmentOf}
-use Rattle.contexts.specs.State.{Setup}
+use Rattle.wire.specs.declared.Setup.{Setup}
 use Rattle.flows.specs.OneFlow.{PDU, Told, held, delivered, refused}
 use Rattle.reading.specs.Desk.{Desk, stateOn}
 use Rattle.flows.specs.Deliveries.{deliveries, Delivery, delivery, deliveredBy, read, after, view}
@@ -42,10 +43,10 @@ pub record Own (Ok : Desk → Type 0) (setup : Setup) (flow : Flow) (b : Desk) (
 
 module _ (setup : Setup) (flows : List Flow) (Ok : Desk → Type 0) (law : ByFlow setup flows Ok) (own-R : (b : Desk) → Ok b → stateOn b .setup .room ≡ (setup .room))
     (flow : Flow) (known : among flow flows ≡ true) where
-  pub by-own : (b : Desk) (p : List ℕ) → Ok b → Proper (setup .device) flow p → Own Ok setup flow b p
+  pub by-own : (b : Desk) (p : List ℕ) → Ok b → Proper setup flow p → Own Ok setup flow b p
   by-own b p ok proper =
-      let f : segmentOf p .flow ≡ flow = proper .of-flow in
-      let o : OwnFlow Ok setup b p (segmentOf p) = law .of-flow b p (segmentOf p) ok (proper .bytes) (proper .reads) (ap (λ (y : Flow). among y flows) f ∙ known) in
+      let f : segmentOf (idsOf setup) p .flow ≡ flow = proper .of-flow in
+      let o : OwnFlow Ok setup b p (segmentOf (idsOf setup) p) = law .of-flow b p (segmentOf (idsOf setup) p) ok (proper .bytes) (proper .reads) (ap (λ (y : Flow). among y flows) f ∙ known) in
       let t : Tells (setup .room) (after b p .streamMemory) flow (read b p .says) (packetStep setup (view b flow) p .told) =
       subst (λ (y : Flow). Tells (setup .room) (after b p .streamMemory) y (read b p .says) (packetStep setup (view b y) p .told)) f (o .tells) in
       record {
@@ -59,7 +60,7 @@ module _ (setup : Setup) (flows : List Flow) (Ok : Desk → Type 0) (law : ByFlo
       }
 
   -- a run over one flow's packets delivers what the one-flow endpoint does
-  pub flow-alone : (ps : List (List ℕ)) (b : Desk) → Ok b → Each (Proper (setup .device) flow) ps → deliveries b ps ≡ map (delivery flow) (flowDeliveries setup (view b flow) ps)
+  pub flow-alone : (ps : List (List ℕ)) (b : Desk) → Ok b → Each (Proper setup flow) ps → deliveries b ps ≡ map (delivery flow) (flowDeliveries setup (view b flow) ps)
   flow-alone [] b ok proper = refl
   flow-alone (p ∷ ps) b ok proper =
       let o = by-own b p ok (proper .0) in

@@ -1,5 +1,5 @@
 -- Whether a sending is fair is decided by computation.
-use Prim.Native.Nat.{ℕ, _≤_}
+use Prim.Native.Nat.{ℕ, _^_, _≤_}
 use mathlib.Core.Path.{_≡_, ap, sym, _∙_}
 use mathlib.Core.List.{List, [], _∷_}
 use mathlib.Core.Bool.{Bool, true, false, not, _||_, _&&_, false≢true}
@@ -12,8 +12,9 @@ use Rattle.lists.proofs.Tests.{both}
 use Rattle.lists.proofs.Below.{below, below-at, are-bytes}
 use Rattle.wire.specs.Parsed.{Parsed}
 use Rattle.wire.specs.Parsed.{Refused, Stream, Message}
+use Rattle.wire.specs.Packet.{idsOf}
 use Rattle.wire.specs.Parsed.{parsed}
-use Rattle.contexts.specs.State.{Setup}
+use Rattle.wire.specs.declared.Setup.{Setup}
 use Rattle.sending.specs.Sending.{Sent, losses, isWhole, FlowSent, Turn, next, between, Sending, FairPDU, FairFlow, FairTurn, OneOfTwoWhole, Fair}
 
 -- ---- Lists
@@ -49,15 +50,15 @@ fair-PDU R s e =
     }
 
 unfoldable pub isFairFlow : Setup → FlowSent → Bool
-isFairFlow setup x = ltb (x .flow .source) 65536 && (ltb (x .flow .cos) 256 && allOf (isFairPDU (setup .room)) (x .sent))
+isFairFlow setup x = ltb (x .flow .source) (256 ^ idsOf setup) && (ltb (x .flow .cos) 256 && allOf (isFairPDU (setup .room)) (x .sent))
 
 fair-flow : (setup : Setup) (x : FlowSent) → isFairFlow setup x ≡ true → FairFlow setup x
 unfolding isFairFlow
 fair-flow setup x e =
-    let a = both (ltb (x .flow .source) 65536) _ e in
+    let a = both (ltb (x .flow .source) (256 ^ idsOf setup)) _ e in
     let b = both (ltb (x .flow .cos) 256) _ (a .1) in
     record {
-      source = ltb-true (x .flow .source) 65536 (a .0);
+      source = ltb-true (x .flow .source) (256 ^ idsOf setup) (a .0);
       cos = ltb-true (x .flow .cos) 256 (b .0);
       PDUs = each-by (FairPDU (setup .room)) (isFairPDU (setup .room)) (fair-PDU (setup .room)) (x .sent) (b .1);
     }
@@ -70,14 +71,14 @@ isSegment (Message m) = false
 
 unfoldable pub isFairTurn : Setup → Turn → Bool
 isFairTurn setup (next flow) = true
-isFairTurn setup (between p) = not (isSegment (parsed (setup .device) p)) && below 256 p
+isFairTurn setup (between p) = not (isSegment (parsed setup p)) && below 256 p
 
 fair-turn : (setup : Setup) (t : Turn) → isFairTurn setup t ≡ true → FairTurn setup t
 unfolding isFairTurn isSegment
 fair-turn setup (next flow) e = tt
 fair-turn setup (between p) e =
-    let a = both (not (isSegment (parsed (setup .device) p))) (below 256 p) e in
-    let none-parsed : isSegment (parsed (setup .device) p) ≡ false = not-true _ (a .0) in
+    let a = both (not (isSegment (parsed setup p))) (below 256 p) e in
+    let none-parsed : isSegment (parsed setup p) ≡ false = not-true _ (a .0) in
     (λ g s. absurd (false≢true (sym none-parsed ∙ ap isSegment s)), are-bytes p (a .1))
 
 -- at most one loss each, and one of two neighbours whole

@@ -1,30 +1,31 @@
 -- The numbers and bytes that a type 9 packet's head is made of.
-use Prim.Native.Nat.{ℕ, zero, suc, _+_, _-_, _*_, _/_, _%_, _≤_, _<_}
+use Prim.Native.Nat.{ℕ, zero, suc, _+_, _-_, _*_, _/_, _%_, _^_, _≤_, _<_}
 use mathlib.Core.Path.{_≡_, refl, ap}
 use mathlib.Core.List.{List, [], _∷_, _++_}
 use mathlib.Core.Bool.{Bool, true, false, cond}
+use native.Mathlib.Nat.{mod-lt}
 use native.Mathlib.Omega.{arith}
 use lib.ListN.{length, take, drop, length-append}
 use lib.Seq.{getD-append-seam}
 use lib.Dec.{eqb, ltb}
 use borrow.Author.Tests.{eqb-true, eqb-false}
-use Rattle.lists.specs.Bytes.{byte, high, low, AreBytes}
-use Rattle.wire.specs.Packet.{bit}
+use Rattle.lists.specs.Bytes.{byte, high, low, inBytes, AreBytes}
+use Rattle.wire.specs.Packet.{ttOf, firstByte, addressed, bit}
 use Rattle.wire.specs.Type9.{xh}
 use Rattle.sizes.specs.Sizes.{pduLength}
 use Rattle.cutting.specs.Cutting.{segmentData, padOf, flagsOf, fieldOf}
 
 -- ---- Numbers
 
--- byte 0 of priority q
-pub record FirstByte (q x : ℕ) : Type 0 where
-  pub of-tt : x / 16 % 4 ≡ 1
+-- byte 0 of priority q, with IDs of so many bytes
+pub record FirstByte (ids q x : ℕ) : Type 0 where
+  pub of-tt : x / 16 % 4 ≡ ttOf ids
   pub of-type : x % 16 ≡ 9
   pub of-priority : x / 64 ≡ q
   pub is-byte : x < 256
 
-pub first-byte : (q : ℕ) → q ≤ 3 → FirstByte q (q * 64 + 16 + 9)
-first-byte q h = omega arith
+pub first-byte : (ids q : ℕ) → 1 ≤ ids → ids ≤ 2 → q ≤ 3 → FirstByte ids q (firstByte ids q 9)
+first-byte ids q a b h = omega arith
 
 -- two bytes of a number
 pub two-bytes : (n : ℕ) → n < 65536 → high n * 256 + low n ≡ n
@@ -33,7 +34,7 @@ two-bytes n h = omega arith
 pub two-bytes-mod : (n : ℕ) → high n * 256 + low n ≡ n % 65536
 two-bytes-mod n = omega arith
 
--- what byte 6 says: S, E, the reserved bits, xh, O, P, and whether it is a byte
+-- what the flags say: S, E, the reserved bits, xh, O, P, and whether it is a byte
 record Bits : Type 0 where
   S : Bool
   E : Bool
@@ -117,19 +118,20 @@ pub bytes-cons : (x : ℕ) (xs : List ℕ) → x < 256 → AreBytes xs → AreBy
 bytes-cons x xs h t zero = h
 bytes-cons x xs h t (suc i) = t i
 
-pub bytes-seven : (a b c d e f g : ℕ) (l : List ℕ) → a < 256 → b < 256 → c < 256 → d < 256 → e < 256 → f < 256 → g < 256 → AreBytes l → AreBytes (a ∷ b ∷ c ∷ d ∷ e ∷ f ∷ g ∷ l)
-bytes-seven a b c d e f g l ha hb hc hd he hf hg t =
-    bytes-cons a (b ∷ c ∷ d ∷ e ∷ f ∷ g ∷ l) ha
-    (bytes-cons b (c ∷ d ∷ e ∷ f ∷ g ∷ l) hb
-    (bytes-cons c (d ∷ e ∷ f ∷ g ∷ l) hc
-    (bytes-cons d (e ∷ f ∷ g ∷ l) hd
-    (bytes-cons e (f ∷ g ∷ l) he
-    (bytes-cons f (g ∷ l) hf
-    (bytes-cons g l hg t))))))
-
 pub bytes-append : (a b : List ℕ) → AreBytes a → AreBytes b → AreBytes (a ++ b)
 bytes-append [] b h t = t
 bytes-append (x ∷ xs) b h t = bytes-cons x (xs ++ b) (h 0) (bytes-append xs b (λ i. h (suc i)) t)
+
+pub bytes-in : (n v : ℕ) → AreBytes (inBytes n v)
+unfolding inBytes
+bytes-in zero v = no-bytes
+bytes-in (suc n) v = bytes-cons (v / 256 ^ n % 256) (inBytes n v) (mod-lt (v / 256 ^ n) (omega arith)) (bytes-in n v)
+
+pub bytes-addressed : (ids first to by : ℕ) (rest : List ℕ) → first < 256 → AreBytes rest → AreBytes (addressed ids first to by rest)
+unfolding addressed
+bytes-addressed ids first to by rest f r =
+    bytes-cons first (inBytes ids to ++ (inBytes ids by ++ rest)) f
+    (bytes-append (inBytes ids to) (inBytes ids by ++ rest) (bytes-in ids to) (bytes-append (inBytes ids by) rest (bytes-in ids by) r))
 
 pub bytes-take : (n : ℕ) (l : List ℕ) → AreBytes l → AreBytes (take n l)
 bytes-take zero l h = no-bytes

@@ -16,7 +16,7 @@ use lib.Dec.{eqb, leb}
 use borrow.Author.Tests.{eqb-true, ne-eqb, le-leb}
 use Rattle.wire.specs.declared.Flow.{Flow}
 use Rattle.cutting.specs.Cutting.{segmentData, packetOf}
-use Rattle.contexts.specs.State.{Setup}
+use Rattle.wire.specs.declared.Setup.{Setup}
 use Rattle.flows.specs.OneFlow.{PDU, pdu, Told, held, delivered, refused, FlowOutcome, flowOutcome}
 use Rattle.sending.specs.Sending.{Sent, isLost, packetCount, lossesFrom, losses, isWhole, Put, headingFor, putOf, putsFrom, FairPDU, Ranges}
 use Rattle.sending.specs.OneFlow.{packetStep, deliveredPDU, also}
@@ -30,7 +30,7 @@ module _ (setup : Setup) (flow : Flow) (ranges : Ranges setup flow) (s : Sent) (
   bytes = s .pdu .bytes
 
   abbrev packet : ℕ → List ℕ
-  packet k = packetOf (headingFor (setup .device) flow s k) (setup .mtu) (s .pdu .bytes) k
+  packet k = packetOf (headingFor setup flow s k) (setup .mtu) (s .pdu .bytes) k
 
   abbrev put : ℕ → Put
   put k = putOf setup flow s k

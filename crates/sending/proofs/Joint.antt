@@ -12,7 +12,7 @@ use lib.Seq.{length-take-le}
 use lib.Dec.{eqb, leb}
 use borrow.Author.Tests.{eqb-true, eq-eqb, ne-eqb, leb-true}
 use Rattle.wire.specs.declared.Flow.{Flow}
-use Rattle.contexts.specs.State.{Setup}
+use Rattle.wire.specs.declared.Setup.{Setup}
 use Rattle.flows.specs.OneFlow.{PDU, pdu}
 use Rattle.flows.specs.Deliveries.{delivery}
 use Rattle.lists.specs.Each.{Each}
@@ -110,17 +110,17 @@ joint-unsent mtu a b ends begins = (
 
 -- each packet of a flow that arrives is of that flow
 proper-puts : (setup : Setup) (flow : Flow) (ranges : Ranges setup flow) (s : Sent) (fair : FairPDU (setup .room) s) (more : List Put) (n k : ℕ) → k + n ≡ packetCount (setup .mtu) s
-    → Each (Proper (setup .device) flow) (arriving more) → Each (Proper (setup .device) flow) (arriving (putsFrom setup flow s k n ++ more))
+    → Each (Proper setup flow) (arriving more) → Each (Proper setup flow) (arriving (putsFrom setup flow s k n ++ more))
 proper-puts setup flow ranges s fair more zero k e rest = rest
 proper-puts setup flow ranges s fair more (suc n) k e rest =
     go (putOf setup flow s k .lost) (proper-put (omega arith)) (proper-puts setup flow ranges s fair more n (suc k) (omega arith) rest)
   where
-    go : (t : Bool) → Proper (setup .device) flow (putOf setup flow s k .packet) → Each (Proper (setup .device) flow) (arriving (putsFrom setup flow s (suc k) n ++ more))
-        → Each (Proper (setup .device) flow) (cond t (arriving (putsFrom setup flow s (suc k) n ++ more)) (putOf setup flow s k .packet ∷ arriving (putsFrom setup flow s (suc k) n ++ more)))
+    go : (t : Bool) → Proper setup flow (putOf setup flow s k .packet) → Each (Proper setup flow) (arriving (putsFrom setup flow s (suc k) n ++ more))
+        → Each (Proper setup flow) (cond t (arriving (putsFrom setup flow s (suc k) n ++ more)) (putOf setup flow s k .packet ∷ arriving (putsFrom setup flow s (suc k) n ++ more)))
     go true p others = others
     go false p others = (p, others)
 
-    proper-put : k < packetCount (setup .mtu) s → Proper (setup .device) flow (putOf setup flow s k .packet)
+    proper-put : k < packetCount (setup .mtu) s → Proper setup flow (putOf setup flow s k .packet)
     proper-put below = unfold putOf in proper-packet setup flow ranges s fair k below
 
 pub joint-delivered : JointDelivered

@@ -11,7 +11,7 @@ use Rattle.wire.specs.declared.Flow.{Flow}
 use Rattle.wire.specs.Type9.{sameFlow}
 use Rattle.sizes.specs.Sizes.{badMTU}
 use Rattle.cutting.specs.Cutting.{isFinal}
-use Rattle.contexts.specs.State.{Setup}
+use Rattle.wire.specs.declared.Setup.{Setup}
 use Rattle.flows.specs.OneFlow.{PDU}
 use Rattle.lists.specs.Each.{Each}
 use Rattle.sending.specs.Sending.{Sent, packetCount, isWhole, Put, putOf, putsFrom, flowPuts, FlowSent, Turn, next, between, sentOn}

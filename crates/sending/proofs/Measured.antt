@@ -21,7 +21,8 @@ use Rattle.sizes.specs.Sizes.{bytesOf, dataLength}
 use Rattle.rules.specs.Segments.{malformed}
 use Rattle.rules.specs.Messages.{lastWith, formRows}
 use Rattle.messages.specs.Rows.{messageFound as found, messageOpen, messageRows}
-use Rattle.contexts.specs.State.{Setup, State, freeStream, freeMessage, messageIn}
+use Rattle.wire.specs.declared.Setup.{Setup}
+use Rattle.contexts.specs.State.{State, freeStream, freeMessage, messageIn}
 use Rattle.contexts.specs.Words.{stateWords}
 use Rattle.refusal19.specs.Refusal19.{namedBy19}
 use Rattle.streams.specs.Rows.{foundFor, flowOpen, heldBefore, total, notOpen, passesRoom, noneFree, streamRows}

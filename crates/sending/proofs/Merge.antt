@@ -1,6 +1,6 @@
 -- Any mixture: an endpoint that treats each flow by itself, as the one-flow endpoint does, delivers exactly the whole PDUs.
 -- The invariant: what each flow still has to send is good from what the board has of that flow, and a flow that is not listed has nothing.
-use Prim.Native.Nat.{ℕ, zero, suc, _<_}
+use Prim.Native.Nat.{ℕ, zero, suc, _^_, _<_}
 use mathlib.Core.Path.{_≡_, refl, sym, ap, _∙_, subst}
 use mathlib.Core.List.{List, [], _∷_, _++_, map, tail}
 use mathlib.Core.Bool.{Bool, true, false, cond, _||_, false≢true}
@@ -9,9 +9,10 @@ use lib.ListN.{take}
 use Rattle.wire.specs.declared.Flow.{Flow}
 use Rattle.wire.specs.Parsed.{Parsed}
 use Rattle.wire.specs.Parsed.{Refused, Stream, Message}
+use Rattle.wire.specs.Packet.{idsOf}
 use Rattle.wire.specs.Type9.{sameFlow}
 use Rattle.wire.specs.Parsed.{parsed}
-use Rattle.contexts.specs.State.{Setup}
+use Rattle.wire.specs.declared.Setup.{Setup}
 use Rattle.flows.specs.OneFlow.{PDU}
 use Rattle.reading.specs.Desk.{Desk, stateOn}
 use Rattle.flows.specs.Deliveries.{deliveries, Delivery, deliveredBy, read, after, view}
@@ -19,7 +20,7 @@ use Rattle.flows.specs.Fresh.{Allowed}
 use Rattle.flows.specs.ByFlow.{among, NoFlow, ByFlow}
 use Rattle.lists.specs.Each.{Each}
 use Rattle.lists.specs.First.{any}
-use Rattle.sending.specs.Sending.{Put, flowPuts, FlowSent, Turn, next, between, sentOn, flowsOf, Event, came, nextEvent}
+use Rattle.sending.specs.Sending.{Put, flowPuts, FlowSent, Turn, next, between, sentOn, flowsOf, Event, nextEvent}
 use Rattle.sending.specs.Sending.{advance, events, queues, packetsLeft, tell, wholes, whole, FairFlow, FairTurn, OneOfTwoWhole}
 use Rattle.sending.specs.OneFlow.{packetStep, deliveredPDU}
 use Rattle.contexts.proofs.Flows.{same-true}
@@ -105,9 +106,9 @@ module _ (setup : Setup) (flows : List Flow) (Ok : Desk → Type 0) (law : ByFlo
 
   -- another packet between: nothing is delivered of it, and no flow is touched
   quiet : (b : Desk) (p : List ℕ) → Ok b → FairTurn setup (between p) → NoFlow Ok setup b p
-  quiet b p ok fair = go (parsed (setup .device) p) refl
+  quiet b p ok fair = go (parsed setup p) refl
     where
-      go : (x : Parsed) → parsed (setup .device) p ≡ x → NoFlow Ok setup b p
+      go : (x : Parsed) → parsed setup p ≡ x → NoFlow Ok setup b p
       go (Refused number) e = law .of-refused b p number ok (fair .1) e
       go (Stream g) e = absurd (fair .0 g e)
       go (Message m) e = law .of-message b p m ok (fair .1) e
@@ -138,7 +139,7 @@ module _ (setup : Setup) (allowed : Allowed setup) where
           let e : flow ≡ x .flow = same-true flow (x .flow) t in
           one-flow setup flow (record {
             allowed = allowed;
-            source = subst (λ (y : Flow). y .source < 65536) (sym e) (f .source);
+            source = subst (λ (y : Flow). y .source < 256 ^ idsOf setup) (sym e) (f .source);
             cos = subst (λ (y : Flow). y .cos < 256) (sym e) (f .cos);
           }) (x .sent) (f .PDUs) (apart .0)
       go false t rest = rest

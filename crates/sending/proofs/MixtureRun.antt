@@ -2,9 +2,10 @@
 use mathlib.Core.Path.{refl}
 use Rattle.reading.proofs.Computing.{reads}
 use Rattle.cutting.specs.Cutting.{segmentCount, segmentData, isFirst, isFinal, padOf, flagsOf, fieldOf, packetOf}
+use Rattle.flows.specs.Widths.{narrowed}
 use Rattle.sending.specs.Sending.{putOf}
 use Rattle.sending.specs.Mixture.{MixtureDelivered}
 
 pub mixture-delivered : MixtureDelivered
-unfolding reads segmentCount segmentData isFirst isFinal padOf flagsOf fieldOf packetOf putOf
-mixture-delivered = refl
+unfolding reads segmentCount segmentData isFirst isFinal padOf flagsOf fieldOf packetOf putOf narrowed
+mixture-delivered = (refl, (refl, tt))

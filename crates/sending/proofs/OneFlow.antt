@@ -13,10 +13,11 @@ use borrow.Author.Tests.{eqb-true, eqb-false}
 use Rattle.lists.specs.Bytes.{AreBytes}
 use Rattle.wire.specs.declared.Flow.{Flow}
 use Rattle.wire.specs.Parsed.{Stream}
+use Rattle.wire.specs.Packet.{idsOf}
 use Rattle.wire.specs.Type9.{segmentOf}
 use Rattle.wire.specs.Parsed.{parsed}
 use Rattle.cutting.specs.Cutting.{segmentData, isFinal, packetOf}
-use Rattle.contexts.specs.State.{Setup}
+use Rattle.wire.specs.declared.Setup.{Setup}
 use Rattle.flows.specs.OneFlow.{PDU, pdu, Told, held, delivered, refused, flowOutcome, isOpen}
 use Rattle.lists.specs.Each.{Each}
 use Rattle.sending.specs.Sending.{Sent, isLost, packetCount, lossesFrom, losses, isWhole, Put, headingFor, putOf, putsFrom, flowPuts, FairPDU, OneOfTwoWhole, Ranges}
@@ -26,9 +27,9 @@ use Rattle.sending.proofs.Steps.{mtu-pos, packet-read, packet-bytes, pa
 use Rattle.sending.proofs.Steps.{data-behind, all-taken, at-single, at-start, at-inner, at-last, at-last-wrong, at-closed}
 
 -- a packet that is read, and is of that flow
-pub record Proper (device : ℕ) (flow : Flow) (p : List ℕ) : Type 0 where
-  pub reads : parsed device p ≡ Stream (segmentOf p)
-  pub of-flow : segmentOf p .flow ≡ flow
+pub record Proper (setup : Setup) (flow : Flow) (p : List ℕ) : Type 0 where
+  pub reads : parsed setup p ≡ Stream (segmentOf (idsOf setup) p)
+  pub of-flow : segmentOf (idsOf setup) p .flow ≡ flow
   pub bytes : AreBytes p
 
 module _ (setup : Setup) where
@@ -42,11 +43,11 @@ module _ (setup : Setup) where
 -- at each packet the endpoint delivers the PDU that is whole with it, and else none
 abbrev pub Good : Setup → Flow → Option PDU → List Put → Type 0
 Good setup flow o [] = Unit {0}
-Good setup flow o (x ∷ xs) = Proper (setup .device) flow (x .packet) × (seenAt setup o x ≡ x .whole) × Good setup flow (afterPut setup o x) xs
+Good setup flow o (x ∷ xs) = Proper setup flow (x .packet) × (seenAt setup o x ≡ x .whole) × Good setup flow (afterPut setup o x) xs
 
 -- packet k is
 pub proper-packet : (setup : Setup) (flow : Flow) → Ranges setup flow → (s : Sent) → FairPDU (setup .room) s → (k : ℕ) → k < packetCount (setup .mtu) s
-    → Proper (setup .device) flow (packetOf (headingFor (setup .device) flow s k) (setup .mtu) (s .pdu .bytes) k)
+    → Proper setup flow (packetOf (headingFor setup flow s k) (setup .mtu) (s .pdu .bytes) k)
 proper-packet setup flow ranges s fair k below = record {
   reads = packet-read setup flow ranges s fair k below;
   of-flow = packet-flow setup flow ranges s fair k;
@@ -58,12 +59,12 @@ module _ (setup : Setup) (flow : Flow) (ranges : Ranges setup flow) (s : Sent) (
   Good′ = Good setup flow
 
   abbrev packet : ℕ → List ℕ
-  packet k = packetOf (headingFor (setup .device) flow s k) (setup .mtu) (s .pdu .bytes) k
+  packet k = packetOf (headingFor setup flow s k) (setup .mtu) (s .pdu .bytes) k
 
   abbrev put : ℕ → Put
   put k = putOf setup flow s k
 
-  proper : (k : ℕ) → k < packetCount (setup .mtu) s → Proper (setup .device) flow (put k .packet)
+  proper : (k : ℕ) → k < packetCount (setup .mtu) s → Proper setup flow (put k .packet)
   unfolding putOf
   proper k below = proper-packet setup flow ranges s fair k below
 

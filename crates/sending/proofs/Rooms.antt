@@ -10,7 +10,8 @@ use Rattle.wire.specs.Segment.{Segment}
 use Rattle.wire.specs.declared.MessageSegment.{MessageSegment}
 use Rattle.wire.specs.Type11.{isSingle}
 use Rattle.wire.specs.Head.{is9}
-use Rattle.contexts.specs.State.{Setup, State, freeMessage, messageIn}
+use Rattle.wire.specs.declared.Setup.{Setup}
+use Rattle.contexts.specs.State.{State, freeMessage, messageIn}
 use Rattle.contexts.specs.Words.{stateOf, wordsOf}
 use Rattle.messages.specs.Rows.{messageFound as found, messageOpen}
 use Rattle.stream_rooms.specs.Placing as placing

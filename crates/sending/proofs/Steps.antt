@@ -14,6 +14,7 @@ use borrow.Author.Tests.{eq-eqb, ne-eqb, le-ltb, lt-ltb, ltb-false}
 use Rattle.lists.specs.Bytes.{AreBytes}
 use Rattle.lists.proofs.Tests.{neither}
 use Rattle.wire.specs.declared.Flow.{Flow}
+use Rattle.wire.specs.Packet.{idsOf}
 use Rattle.wire.specs.Type9.{segmentOf}
 use Rattle.sizes.specs.Sizes.{badMTU}
 use Rattle.sizes.proofs.Laws.{mtu-fits}
@@ -24,7 +25,7 @@ use Rattle.stream_rooms.specs.Placing as placing
 use Rattle.cutting.specs.Cutting.{segmentCount, segmentData, isFirst, isFinal, packetOf}
 use Rattle.writing.proofs.Sizes.{length-data}
 use Rattle.refusal19.specs.Refusal19.{badRoom}
-use Rattle.contexts.specs.State.{Setup}
+use Rattle.wire.specs.declared.Setup.{Setup}
 use Rattle.flows.specs.OneFlow.{PDU, pdu, held, delivered, refused, FlowOutcome, flowOutcome, isOpen, flowStep}
 use Rattle.sending.specs.Segment.{cutSegment, segmentFor, InRange, ReadsAs}
 use Rattle.sending.specs.Sending.{Sent, packetCount, headingFor, FairPDU, Ranges}
@@ -35,59 +36,59 @@ use Rattle.sending.proofs.Cut.{cut-length, cut-well-formed, segment-of-
 -- ---- A segment with the data d. Every one that passes row 6 has some
 
 module _ (setup : Setup) (flow : Flow) (stream size : ℕ) (d : List ℕ) (some-byte : 0 < length d) where
-  step-single : (o : Option PDU) → length d ≤ (setup .mtu) → flowStep setup o (cutSegment flow true true stream size (length d)) d ≡ flowOutcome none (delivered (pdu stream d)) (isOpen o)
+  step-single : (o : Option PDU) → length d ≤ (setup .mtu) → flowStep setup o (cutSegment (idsOf setup) flow true true stream size (length d)) d ≡ flowOutcome none (delivered (pdu stream d)) (isOpen o)
   unfolding flowStep
-  step-single o fits = rw (cut-well-formed flow true true stream size (length d) some-byte, cut-length flow true true stream size (length d), le-ltb (setup .mtu) (length d) fits)
+  step-single o fits = rw (cut-well-formed (idsOf setup) flow true true stream size (length d) some-byte, cut-length (idsOf setup) flow true true stream size (length d), le-ltb (setup .mtu) (length d) fits)
 
-  step-start : (o : Option PDU) → length d ≡ (setup .mtu) → flowStep setup o (cutSegment flow true false stream size (length d)) d ≡ flowOutcome (some (pdu stream d)) held (isOpen o)
+  step-start : (o : Option PDU) → length d ≡ (setup .mtu) → flowStep setup o (cutSegment (idsOf setup) flow true false stream size (length d)) d ≡ flowOutcome (some (pdu stream d)) held (isOpen o)
   unfolding flowStep
-  step-start o full = rw (cut-well-formed flow true false stream size (length d) some-byte, cut-length flow true false stream size (length d), eq-eqb (length d) (setup .mtu) full)
+  step-start o full = rw (cut-well-formed (idsOf setup) flow true false stream size (length d) some-byte, cut-length (idsOf setup) flow true false stream size (length d), eq-eqb (length d) (setup .mtu) full)
 
   step-continuation : (p : PDU) → length d ≡ (setup .mtu) → length (p .bytes) + length d ≤ setup .room
-      → flowStep setup (some p) (cutSegment flow false false stream size (length d)) d ≡ flowOutcome (some (pdu (p .stream) (p .bytes ++ d))) held false
+      → flowStep setup (some p) (cutSegment (idsOf setup) flow false false stream size (length d)) d ≡ flowOutcome (some (pdu (p .stream) (p .bytes ++ d))) held false
   unfolding flowStep
   step-continuation p full fits =
       rw (
-        cut-well-formed flow false false stream size (length d) some-byte,
-        cut-length flow false false stream size (length d),
+        cut-well-formed (idsOf setup) flow false false stream size (length d) some-byte,
+        cut-length (idsOf setup) flow false false stream size (length d),
         eq-eqb (length d) (setup .mtu) full,
         le-ltb (setup .room) (length (p .bytes) + length d) fits,
       )
 
   -- row 8
   step-closed : (final : Bool) → (final ≡ true → length d ≤ (setup .mtu)) → (final ≡ false → length d ≡ (setup .mtu))
-      → flowStep setup none (cutSegment flow false final stream size (length d)) d ≡ flowOutcome none (refused 8) false
+      → flowStep setup none (cutSegment (idsOf setup) flow false final stream size (length d)) d ≡ flowOutcome none (refused 8) false
   unfolding flowStep
-  step-closed true fits full = rw (cut-well-formed flow false true stream size (length d) some-byte, cut-length flow false true stream size (length d), le-ltb (setup .mtu) (length d) (fits refl))
-  step-closed false fits full = rw (cut-well-formed flow false false stream size (length d) some-byte, cut-length flow false false stream size (length d), eq-eqb (length d) (setup .mtu) (full refl))
+  step-closed true fits full = rw (cut-well-formed (idsOf setup) flow false true stream size (length d) some-byte, cut-length (idsOf setup) flow false true stream size (length d), le-ltb (setup .mtu) (length d) (fits refl))
+  step-closed false fits full = rw (cut-well-formed (idsOf setup) flow false false stream size (length d) some-byte, cut-length (idsOf setup) flow false false stream size (length d), eq-eqb (length d) (setup .mtu) (full refl))
 
   -- row 9
   step-over : (p : PDU) (final : Bool) → (final ≡ true → length d ≤ (setup .mtu)) → (final ≡ false → length d ≡ (setup .mtu)) → (setup .room) < length (p .bytes) + length d
-      → flowStep setup (some p) (cutSegment flow false final stream size (length d)) d ≡ flowOutcome none (refused 9) true
+      → flowStep setup (some p) (cutSegment (idsOf setup) flow false final stream size (length d)) d ≡ flowOutcome none (refused 9) true
   unfolding flowStep
   step-over p true fits full over =
       rw (
-        cut-well-formed flow false true stream size (length d) some-byte,
-        cut-length flow false true stream size (length d),
+        cut-well-formed (idsOf setup) flow false true stream size (length d) some-byte,
+        cut-length (idsOf setup) flow false true stream size (length d),
         le-ltb (setup .mtu) (length d) (fits refl),
         lt-ltb (setup .room) (length (p .bytes) + length d) over,
       )
   step-over p false fits full over =
       rw (
-        cut-well-formed flow false false stream size (length d) some-byte,
-        cut-length flow false false stream size (length d),
+        cut-well-formed (idsOf setup) flow false false stream size (length d) some-byte,
+        cut-length (idsOf setup) flow false false stream size (length d),
         eq-eqb (length d) (setup .mtu) (full refl),
         lt-ltb (setup .room) (length (p .bytes) + length d) over,
       )
 
   module _ (some-size : 1 ≤ size) (most : size ≤ 65536) where
     step-end : (p : PDU) → length d ≤ (setup .mtu) → length (p .bytes) + length d ≤ (setup .room) → length (p .bytes) + length d ≡ size
-        → flowStep setup (some p) (cutSegment flow false true stream size (length d)) d ≡ flowOutcome none (delivered (pdu (p .stream) (p .bytes ++ d))) false
+        → flowStep setup (some p) (cutSegment (idsOf setup) flow false true stream size (length d)) d ≡ flowOutcome none (delivered (pdu (p .stream) (p .bytes ++ d))) false
     unfolding flowStep
     step-end p fits room e =
         rw (
-          cut-well-formed flow false true stream size (length d) some-byte,
-          cut-length flow false true stream size (length d),
+          cut-well-formed (idsOf setup) flow false true stream size (length d) some-byte,
+          cut-length (idsOf setup) flow false true stream size (length d),
           le-ltb (setup .mtu) (length d) fits,
           le-ltb (setup .room) (length (p .bytes) + length d) room,
           pdu-length-back size some-size most,
@@ -96,12 +97,12 @@ module _ (setup : Setup) (flow : Flow) (stream size : ℕ) (d : List ℕ) (some-
 
     -- row 11
     step-end-wrong : (p : PDU) → length d ≤ (setup .mtu) → length (p .bytes) + length d ≤ (setup .room) → (length (p .bytes) + length d ≡ size → ⊥)
-        → flowStep setup (some p) (cutSegment flow false true stream size (length d)) d ≡ flowOutcome none (refused 11) true
+        → flowStep setup (some p) (cutSegment (idsOf setup) flow false true stream size (length d)) d ≡ flowOutcome none (refused 11) true
     unfolding flowStep
     step-end-wrong p fits room ne =
         rw (
-          cut-well-formed flow false true stream size (length d) some-byte,
-          cut-length flow false true stream size (length d),
+          cut-well-formed (idsOf setup) flow false true stream size (length d) some-byte,
+          cut-length (idsOf setup) flow false true stream size (length d),
           le-ltb (setup .mtu) (length d) fits,
           le-ltb (setup .room) (length (p .bytes) + length d) room,
           pdu-length-back size some-size most,
@@ -128,9 +129,9 @@ module _ (setup : Setup) (flow : Flow) (ranges : Ranges setup flow) (s : Sent) (
   bytes = s .pdu .bytes
 
   abbrev packet : ℕ → List ℕ
-  packet k = packetOf (headingFor (setup .device) flow s k) (setup .mtu) (s .pdu .bytes) k
+  packet k = packetOf (headingFor setup flow s k) (setup .mtu) (s .pdu .bytes) k
 
-  in-range : (k : ℕ) → InRange (headingFor (setup .device) flow s k)
+  in-range : (k : ℕ) → InRange (headingFor setup flow s k)
   in-range k = record { destination = ranges .allowed .device-ID; source = ranges .source; cos = ranges .cos; stream = fair .stream; priority = fair .priorities k }
 
   -- 19 allows an R of 65,536 at most
@@ -142,9 +143,9 @@ module _ (setup : Setup) (flow : Flow) (ranges : Ranges setup flow) (s : Sent) (
   mtu-pos = let m = mtu-fits (setup .mtu) (ranges .allowed .allowed-MTU) in omega arith
 
   reads-as : (k : ℕ) → k < packetCount (setup .mtu) s
-      → ReadsAs (headingFor (setup .device) flow s k) (setup .mtu) bytes k (packet k) (segmentFor (headingFor (setup .device) flow s k) (setup .mtu) bytes k)
+      → ReadsAs (headingFor setup flow s k) (setup .mtu) bytes k (packet k) (segmentFor (headingFor setup flow s k) (setup .mtu) bytes k)
   reads-as k below =
-      segments-read-back (headingFor (setup .device) flow s k) (setup .mtu) bytes k (record {
+      segments-read-back (headingFor setup flow s k) (setup .mtu) bytes k (record {
         heading = in-range k;
         allowed = ranges .allowed .allowed-MTU;
         bytes = fair .bytes;
@@ -153,24 +154,24 @@ module _ (setup : Setup) (flow : Flow) (ranges : Ranges setup flow) (s : Sent) (
         segment = below;
       })
 
-  segment-is : (k : ℕ) → segmentOf (packet k) ≡ segmentFor (headingFor (setup .device) flow s k) (setup .mtu) bytes k
-  segment-is k = segment-of-cut (headingFor (setup .device) flow s k) (setup .mtu) bytes k (in-range k)
+  segment-is : (k : ℕ) → segmentOf (idsOf setup) (packet k) ≡ segmentFor (headingFor setup flow s k) (setup .mtu) bytes k
+  segment-is k = segment-of-cut (headingFor setup flow s k) (setup .mtu) bytes k (in-range k)
 
-  pub packet-read : (k : ℕ) → k < packetCount (setup .mtu) s → parsed (setup .device) (packet k) ≡ Stream (segmentOf (packet k))
-  packet-read k below = reads-as k below .read ∙ ap Stream (sym (segment-is k))
+  pub packet-read : (k : ℕ) → k < packetCount (setup .mtu) s → parsed setup (packet k) ≡ Stream (segmentOf (idsOf setup) (packet k))
+  packet-read k below = reads-as k below .read setup refl refl ∙ ap Stream (sym (segment-is k))
 
   pub packet-bytes : (k : ℕ) → k < packetCount (setup .mtu) s → AreBytes (packet k)
   packet-bytes k below = reads-as k below .are-bytes
 
-  pub packet-flow : (k : ℕ) → segmentOf (packet k) .flow ≡ flow
+  pub packet-flow : (k : ℕ) → segmentOf (idsOf setup) (packet k) .flow ≡ flow
   packet-flow k = ap (λ (g : Segment). g .flow) (segment-is k)
 
   -- the step, by S and E
   step-is : (k : ℕ) (first final : Bool) (o : Option PDU) → k < packetCount (setup .mtu) s → isFirst k ≡ first → isFinal (setup .mtu) bytes k ≡ final
-      → packetStep setup o (packet k) ≡ flowStep setup o (cutSegment flow first final (s .pdu .stream) (length bytes) (length (segmentData (setup .mtu) bytes k))) (segmentData (setup .mtu) bytes k)
+      → packetStep setup o (packet k) ≡ flowStep setup o (cutSegment (idsOf setup) flow first final (s .pdu .stream) (length bytes) (length (segmentData (setup .mtu) bytes k))) (segmentData (setup .mtu) bytes k)
   step-is k first final o below e e′ =
       ap (λ (g : Segment). flowStep setup o g (placing.dataOf (packet k) g)) (segment-is k)
-      ∙ ap (flowStep setup o (segmentFor (headingFor (setup .device) flow s k) (setup .mtu) bytes k)) (reads-as k below .data-of)
+      ∙ ap (flowStep setup o (segmentFor (headingFor setup flow s k) (setup .mtu) bytes k)) (reads-as k below .data-of)
       ∙ rw (e, e′)
 
   -- which is first, and which last; what each holds

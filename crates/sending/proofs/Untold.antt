@@ -12,10 +12,10 @@ use lib.Seq.{length-take-le, take-at, drop-append-add, drop-drop, getD-drop}
 use lib.Dec.{eqb, leb}
 use borrow.Author.Tests.{eqb-true, leb-true, eq-eqb, ne-eqb}
 use Rattle.wire.specs.declared.Flow.{Flow}
-use Rattle.lists.specs.Bytes.{high, low}
+use Rattle.wire.specs.Packet.{idsOf, firstByte, addressed}
 use Rattle.cutting.specs.Cutting.{segmentCount, segmentData, isFirst, isFinal, padOf, flagsOf, fieldOf, packetOf}
 use Rattle.sizes.specs.Sizes.{badMTU}
-use Rattle.contexts.specs.State.{Setup}
+use Rattle.wire.specs.declared.Setup.{Setup}
 use Rattle.flows.specs.OneFlow.{PDU}
 use Rattle.flows.specs.Deliveries.{Delivery, delivery}
 use Rattle.flows.proofs.Flows.{same-refl}
@@ -53,7 +53,7 @@ is-joint mtu a b e = go (eqb (packetCount mtu a) 2) (isLost a 1) (leb 2 (packetC
 -- n packets from number k on
 abbrev pub packetsFrom : Setup → Flow → Sent → (k n : ℕ) → List (List ℕ)
 packetsFrom setup flow s k zero = []
-packetsFrom setup flow s k (suc n) = packetOf (headingFor (setup .device) flow s k) (setup .mtu) (s .pdu .bytes) k ∷ packetsFrom setup flow s (suc k) n
+packetsFrom setup flow s k (suc n) = packetOf (headingFor setup flow s k) (setup .mtu) (s .pdu .bytes) k ∷ packetsFrom setup flow s (suc k) n
 
 -- none of them lost, they all arrive
 module _ (setup : Setup) (flow : Flow) (s : Sent) (more : List Put) where
@@ -61,7 +61,7 @@ module _ (setup : Setup) (flow : Flow) (s : Sent) (more : List Put) where
   unfolding putOf
   arriving-lost k xs e = rw e
 
-  arriving-seen : (k : ℕ) (xs : List Put) → isLost s k ≡ false → arriving (putOf setup flow s k ∷ xs) ≡ packetOf (headingFor (setup .device) flow s k) (setup .mtu) (s .pdu .bytes) k ∷ arriving xs
+  arriving-seen : (k : ℕ) (xs : List Put) → isLost s k ≡ false → arriving (putOf setup flow s k ∷ xs) ≡ packetOf (headingFor setup flow s k) (setup .mtu) (s .pdu .bytes) k ∷ arriving xs
   unfolding putOf
   arriving-seen k xs e = rw e
 
@@ -70,21 +70,19 @@ module _ (setup : Setup) (flow : Flow) (s : Sent) (more : List Put) where
   all-arrive (suc n) k e =
       let h = none-lost (s .lost) k n e in
       arriving-seen k (putsFrom setup flow s (suc k) n ++ more) (h .0) ∙ ap
-      (λ (l : List (List ℕ)). packetOf (headingFor (setup .device) flow s k) (setup .mtu) (s .pdu .bytes) k ∷ l) (all-arrive n (suc k) (h .1))
+      (λ (l : List (List ℕ)). packetOf (headingFor setup flow s k) (setup .mtu) (s .pdu .bytes) k ∷ l) (all-arrive n (suc k) (h .1))
 
 -- ---- Two packets are the same by their parts
 
-abbrev parts : (device : ℕ) → Flow → (k priority : ℕ) → (final : Bool) → (field bytes : List ℕ) → List ℕ
-parts device flow k priority final field bytes =
-    (priority * 64 + 0b01 * 16 + 9)
-    ∷ high device ∷ low device
-    ∷ high (flow .source) ∷ low (flow .source)
-    ∷ flow .cos
+abbrev parts : Setup → Flow → (k priority : ℕ) → (final : Bool) → (field bytes : List ℕ) → List ℕ
+parts setup flow k priority final field bytes =
+    addressed (idsOf setup) (firstByte (idsOf setup) priority 9) (setup .device) (flow .source)
+    (flow .cos
     ∷ flagsOf (isFirst k) final (length bytes)
-    ∷ (field ++ bytes ++ padOf (length bytes))
+    ∷ (field ++ bytes ++ padOf (length bytes)))
 
-same-parts : (device : ℕ) (flow : Flow) (k q q′ : ℕ) (l l′ : Bool) (f f′ d d′ : List ℕ) → q ≡ q′ → l ≡ l′ → f ≡ f′ → d ≡ d′ → parts device flow k q l f d ≡ parts device flow k q′ l′ f′ d′
-same-parts device flow k q q′ l l′ f f′ d d′ e₁ e₂ e₃ e₄ = rw (e₁, e₂, e₃, e₄)
+same-parts : (setup : Setup) (flow : Flow) (k q q′ : ℕ) (l l′ : Bool) (f f′ d d′ : List ℕ) → q ≡ q′ → l ≡ l′ → f ≡ f′ → d ≡ d′ → parts setup flow k q l f d ≡ parts setup flow k q′ l′ f′ d′
+same-parts setup flow k q q′ l l′ f f′ d d′ e₁ e₂ e₃ e₄ = rw (e₁, e₂, e₃, e₄)
 
 -- the k-th of two PDUs
 abbrev fieldAt : ℕ → Sent → ℕ → List ℕ
@@ -92,9 +90,9 @@ fieldAt mtu s k = fieldOf (isFirst k) (isFinal mtu (s .pdu .bytes) k) (s .pdu .s
 
 same-packet : (setup : Setup) (flow : Flow) (s s′ : Sent) (k : ℕ) → priorityOf s k ≡ priorityOf s′ k → isFinal (setup .mtu) (s .pdu .bytes) k ≡ isFinal (setup .mtu) (s′ .pdu .bytes) k
     → fieldAt (setup .mtu) s k ≡ fieldAt (setup .mtu) s′ k → segmentData (setup .mtu) (s .pdu .bytes) k ≡ segmentData (setup .mtu) (s′ .pdu .bytes) k
-    → packetOf (headingFor (setup .device) flow s k) (setup .mtu) (s .pdu .bytes) k ≡ packetOf (headingFor (setup .device) flow s′ k) (setup .mtu) (s′ .pdu .bytes) k
+    → packetOf (headingFor setup flow s k) (setup .mtu) (s .pdu .bytes) k ≡ packetOf (headingFor setup flow s′ k) (setup .mtu) (s′ .pdu .bytes) k
 unfolding packetOf
-same-packet setup flow s s′ k e₁ e₂ e₃ e₄ = same-parts (setup .device) flow k _ _ _ _ _ _ _ _ e₁ e₂ e₃ e₄
+same-packet setup flow s s′ k e₁ e₂ e₃ e₄ = same-parts setup flow k _ _ _ _ _ _ _ _ e₁ e₂ e₃ e₄
 
 -- ---- The joint's packets
 
@@ -123,8 +121,8 @@ module _ (setup : Setup) (flow : Flow) (a b : Sent) (pair : Pair setup flow a b)
   unfolding segmentData
   first-data = rw (zero-mul (setup .mtu)) (take-at (take (setup .mtu) (a .pdu .bytes)) (drop (setup .mtu) (b .pdu .bytes)) (setup .mtu) front-length)
 
-  first-packet : packetOf (headingFor (setup .device) flow (jointSent (setup .mtu) a b) 0) (setup .mtu) (jointPDU (setup .mtu) a b .bytes) 0
-      ≡ packetOf (headingFor (setup .device) flow a 0) (setup .mtu) (a .pdu .bytes) 0
+  first-packet : packetOf (headingFor setup flow (jointSent (setup .mtu) a b) 0) (setup .mtu) (jointPDU (setup .mtu) a b .bytes) 0
+      ≡ packetOf (headingFor setup flow a 0) (setup .mtu) (a .pdu .bytes) 0
   unfolding isFirst isFinal fieldOf
   first-packet =
       same-packet setup flow (jointSent (setup .mtu) a b) a 0 refl
@@ -132,8 +130,8 @@ module _ (setup : Setup) (flow : Flow) (a b : Sent) (pair : Pair setup flow a b)
       ∙ sym (ne-eqb (0 + 1) (packetCount (setup .mtu) a) (λ e. omega (arith, j .two))))
       refl first-data
 
-  later-packet : (k : ℕ) → packetOf (headingFor (setup .device) flow (jointSent (setup .mtu) a b) (suc k)) (setup .mtu) (jointPDU (setup .mtu) a b .bytes) (suc k)
-      ≡ packetOf (headingFor (setup .device) flow b (suc k)) (setup .mtu) (b .pdu .bytes) (suc k)
+  later-packet : (k : ℕ) → packetOf (headingFor setup flow (jointSent (setup .mtu) a b) (suc k)) (setup .mtu) (jointPDU (setup .mtu) a b .bytes) (suc k)
+      ≡ packetOf (headingFor setup flow b (suc k)) (setup .mtu) (b .pdu .bytes) (suc k)
   unfolding isFirst isFinal
   later-packet k =
       let final : isFinal (setup .mtu) (jointPDU (setup .mtu) a b .bytes) (suc k) ≡ isFinal (setup .mtu) (b .pdu .bytes) (suc k) = ap
@@ -149,7 +147,7 @@ module _ (setup : Setup) (flow : Flow) (a b : Sent) (pair : Pair setup flow a b)
   later-packets zero k = refl
   later-packets (suc n) k =
       ap (λ (p : List ℕ). p ∷ packetsFrom setup flow (jointSent (setup .mtu) a b) (suc (suc k)) n) (later-packet k)
-      ∙ ap (λ (l : List (List ℕ)). packetOf (headingFor (setup .device) flow b (suc k)) (setup .mtu) (b .pdu .bytes) (suc k) ∷ l) (later-packets n (suc k))
+      ∙ ap (λ (l : List (List ℕ)). packetOf (headingFor setup flow b (suc k)) (setup .mtu) (b .pdu .bytes) (suc k) ∷ l) (later-packets n (suc k))
 
   -- the first's start arrives, since its end is the one that is lost
   start-arrives : isLost a 0 ≡ false
@@ -163,11 +161,11 @@ module _ (setup : Setup) (flow : Flow) (a b : Sent) (pair : Pair setup flow a b)
       go false e = refl
 
   first-left : (more : List Put)
-      → arriving (putsFrom setup flow a 0 (packetCount (setup .mtu) a) ++ more) ≡ packetOf (headingFor (setup .device) flow a 0) (setup .mtu) (a .pdu .bytes) 0 ∷ arriving more
+      → arriving (putsFrom setup flow a 0 (packetCount (setup .mtu) a) ++ more) ≡ packetOf (headingFor setup flow a 0) (setup .mtu) (a .pdu .bytes) 0 ∷ arriving more
   first-left more =
-      subst (λ (c : ℕ). arriving (putsFrom setup flow a 0 c ++ more) ≡ packetOf (headingFor (setup .device) flow a 0) (setup .mtu) (a .pdu .bytes) 0 ∷ arriving more) (sym (j .two))
+      subst (λ (c : ℕ). arriving (putsFrom setup flow a 0 c ++ more) ≡ packetOf (headingFor setup flow a 0) (setup .mtu) (a .pdu .bytes) 0 ∷ arriving more) (sym (j .two))
       (arriving-seen setup flow a more 0 (putOf setup flow a 1 ∷ more) start-arrives
-      ∙ ap (λ (l : List (List ℕ)). packetOf (headingFor (setup .device) flow a 0) (setup .mtu) (a .pdu .bytes) 0 ∷ l) (arriving-lost setup flow a more 1 more (j .end-lost)))
+      ∙ ap (λ (l : List (List ℕ)). packetOf (headingFor setup flow a 0) (setup .mtu) (a .pdu .bytes) 0 ∷ l) (arriving-lost setup flow a more 1 more (j .end-lost)))
 
   second-left : (n : ℕ) → packetCount (setup .mtu) b ≡ suc n → arriving (putsFrom setup flow b 0 (packetCount (setup .mtu) b) ++ []) ≡ packetsFrom setup flow b 1 n ++ []
   second-left n e =
@@ -177,7 +175,7 @@ module _ (setup : Setup) (flow : Flow) (a b : Sent) (pair : Pair setup flow a b)
       ∙ all-arrive setup flow b [] n 1 (count-lost (b .lost) 0 n 0 (j .start-lost) one))
 
   joint-left : (n : ℕ) → packetCount (setup .mtu) b ≡ suc n
-      → arriving (flowPuts setup flow (jointSent (setup .mtu) a b ∷ [])) ≡ packetOf (headingFor (setup .device) flow (jointSent (setup .mtu) a b) 0) (setup .mtu) (jointPDU (setup .mtu) a b .bytes) 0 ∷
+      → arriving (flowPuts setup flow (jointSent (setup .mtu) a b ∷ [])) ≡ packetOf (headingFor setup flow (jointSent (setup .mtu) a b) 0) (setup .mtu) (jointPDU (setup .mtu) a b .bytes) 0 ∷
       (packetsFrom setup flow (jointSent (setup .mtu) a b) 1 n ++ [])
   joint-left n e =
       let count : packetCount (setup .mtu) (jointSent (setup .mtu) a b) ≡ suc n = ap (segmentCount (setup .mtu)) same-length ∙ e in
@@ -191,7 +189,7 @@ module _ (setup : Setup) (flow : Flow) (a b : Sent) (pair : Pair setup flow a b)
       go zero e = absurd (omega (arith, j .several))
       go (suc n) e =
           first-left (putsFrom setup flow b 0 (packetCount (setup .mtu) b) ++ [])
-          ∙ ap (λ (l : List (List ℕ)). packetOf (headingFor (setup .device) flow a 0) (setup .mtu) (a .pdu .bytes) 0 ∷ l)
+          ∙ ap (λ (l : List (List ℕ)). packetOf (headingFor setup flow a 0) (setup .mtu) (a .pdu .bytes) 0 ∷ l)
           (second-left n e ∙ ap (λ (l : List (List ℕ)). l ++ []) (sym (later-packets n 0)))
           ∙ ap (λ (p : List ℕ). p ∷ (packetsFrom setup flow (jointSent (setup .mtu) a b) 1 n ++ [])) (sym first-packet)
           ∙ sym (joint-left n e)

@@ -9,7 +9,7 @@ use lib.ListN.{length, take, drop, replicate}
 use lib.Dec.{eqb, leb}
 use Rattle.wire.specs.declared.Flow.{Flow}
 use Rattle.flows.specs.OneFlow.{PDU, pdu}
-use Rattle.contexts.specs.State.{Setup}
+use Rattle.wire.specs.declared.Setup.{Setup}
 use Rattle.reading.specs.Desk.{Desk}
 use Rattle.flows.specs.Deliveries.{delivery, deliveries}
 use Rattle.sending.specs.Sending.{Sent, isLost, priorityOf, packetCount, losses, flowPuts, next, Sending, packets, whole, Ranges, FairPDU, FairlySent, OneLossEach, NoNeighboursLose, Fair}

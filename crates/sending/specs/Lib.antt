@@ -5,3 +5,4 @@ pub mod OfSendings
 pub mod Joint
 pub mod Mixture
 pub mod Meaning
+pub mod Widths

@@ -7,7 +7,7 @@ use mathlib.Core.Bool.{false, cond}
 use Rattle.wire.specs.declared.Flow.{Flow}
 use Rattle.wire.specs.Type9.{sameFlow}
 use Rattle.sizes.specs.Sizes.{badMTU}
-use Rattle.contexts.specs.State.{Setup}
+use Rattle.wire.specs.declared.Setup.{Setup}
 use Rattle.flows.specs.OneFlow.{PDU}
 use Rattle.flows.specs.Deliveries.{Delivery}
 use Rattle.sending.specs.Sending.{Sent, isWhole, Put, Turn, next, between, Sending, sentOn, Event, put, came, advance, events, queues, whole, FairlySent}

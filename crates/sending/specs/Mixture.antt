@@ -1,17 +1,20 @@
--- The premises can be met: two flows, a loss, and messages between. MTU 32, R 64, device 1.
+-- The premises can be met: two flows, a loss, and messages between. MTU 32, R 64, device 1, IDs of either width.
 use Prim.Native.Nat.{ℕ}
 use mathlib.Core.Path.{_≡_}
-use mathlib.Core.List.{List, [], _∷_}
+use mathlib.Core.List.{List, [], _∷_, map}
 use lib.ListN.{replicate}
+use Rattle.lists.specs.Each.{Each}
 use Rattle.wire.specs.declared.Flow.{Flow}
 use Rattle.flows.specs.OneFlow.{pdu}
-use Rattle.contexts.specs.State.{Setup, fixed}
+use Rattle.wire.specs.declared.Setup.{Setup}
+use Rattle.contexts.specs.State.{fixed}
 use Rattle.flows.specs.Deliveries.{delivery, deliveries}
 use Rattle.flows.specs.Fresh.{zeroDesk}
+use Rattle.flows.specs.Widths.{bothWidths, atWidth}
 use Rattle.sending.specs.Sending.{Sent, next, between, Sending, losses, packets, whole, Fair}
 
-abbrev pub smallSetup : Setup
-smallSetup = fixed 1 32 64
+abbrev pub smallSetup : (narrow : ℕ) → Setup
+smallSetup narrow = fixed 1 32 64 narrow
 
 abbrev pub five : Flow
 five = record { source = 5; cos = 1 }
@@ -38,29 +41,34 @@ letterOne = 0x1B ∷ 0x00 ∷ 0x01 ∷ 0x00 ∷ 0x02 ∷ 0x09 ∷ 0x60 ∷ 0x11 
 abbrev pub reservedSsize : List ℕ
 reservedSsize = 0x1B ∷ 0x00 ∷ 0x01 ∷ 0x00 ∷ 0x02 ∷ 0x00 ∷ 0x60 ∷ []
 
-abbrev pub mixture : Sending
-mixture = record {
+abbrev pub mixture : (narrow : ℕ) → Sending
+mixture narrow = record {
   flows = record { flow = five; sent = lossy ∷ sound ∷ [] } ∷ record { flow = six; sent = odd ∷ [] } ∷ [];
   turns =
-      next five ∷ next six ∷ between letterOne ∷ next five ∷ next five ∷ between reservedSsize
+      next five ∷ next six ∷ between (atWidth narrow letterOne) ∷ next five ∷ next five ∷ between (atWidth narrow reservedSsize)
       ∷ next six ∷ next five ∷ next six ∷ [];
 }
 
 -- it is fair; a packet of it is lost; these are left, to the byte; and these are whole, in the order of their last packets
-pub record MixtureIsFair : Type 0 where
-  pub fair : Fair smallSetup mixture
-  pub loses : losses (smallSetup .mtu) lossy ≡ 1
-  pub left : packets smallSetup mixture
-      ≡ (0xD9 ∷ 0x00 ∷ 0x01 ∷ 0x00 ∷ 0x05 ∷ 0x01 ∷ 0x80 ∷ 0x00 ∷ 0x01 ∷ replicate 32 7)
+pub record FairMixture (narrow : ℕ) : Type 0 where
+  pub fair : Fair (smallSetup narrow) (mixture narrow)
+  pub loses : losses (smallSetup narrow .mtu) lossy ≡ 1
+  pub left : packets (smallSetup narrow) (mixture narrow)
+      ≡ map (atWidth narrow)
+      ((0xD9 ∷ 0x00 ∷ 0x01 ∷ 0x00 ∷ 0x05 ∷ 0x01 ∷ 0x80 ∷ 0x00 ∷ 0x01 ∷ replicate 32 7)
       ∷ (0x59 ∷ 0x00 ∷ 0x01 ∷ 0x00 ∷ 0x06 ∷ 0x02 ∷ 0x80 ∷ 0x00 ∷ 0x03 ∷ replicate 32 3)
       ∷ letterOne
       ∷ (0x19 ∷ 0x00 ∷ 0x01 ∷ 0x00 ∷ 0x05 ∷ 0x01 ∷ 0x80 ∷ 0x00 ∷ 0x02 ∷ replicate 32 9)
       ∷ reservedSsize
       ∷ (0x19 ∷ 0x00 ∷ 0x01 ∷ 0x00 ∷ 0x06 ∷ 0x02 ∷ 0x43 ∷ 0x00 ∷ 0x21 ∷ 0x03 ∷ 0x00 ∷ [])
       ∷ (0x19 ∷ 0x00 ∷ 0x01 ∷ 0x00 ∷ 0x05 ∷ 0x01 ∷ 0x40 ∷ 0x00 ∷ 0x28 ∷ replicate 8 9)
-      ∷ []
-  pub complete : whole smallSetup mixture ≡ delivery six (pdu 3 (replicate 33 3)) ∷ delivery five (pdu 2 (replicate 40 9)) ∷ []
+      ∷ [])
+  pub complete : whole (smallSetup narrow) (mixture narrow) ≡ delivery six (pdu 3 (replicate 33 3)) ∷ delivery five (pdu 2 (replicate 40 9)) ∷ []
+
+abbrev pub MixtureIsFair : Type 0
+MixtureIsFair = Each FairMixture bothWidths
 
 -- and the endpoint, packet by packet at a desk that was just set up, delivers them
 abbrev pub MixtureDelivered : Type 0
-MixtureDelivered = deliveries (zeroDesk smallSetup) (packets smallSetup mixture) ≡ whole smallSetup mixture
+MixtureDelivered =
+    Each (λ (narrow : ℕ). deliveries (zeroDesk (smallSetup narrow)) (packets (smallSetup narrow) (mixture narrow)) ≡ whole (smallSetup narrow) (mixture narrow)) bothWidths

@@ -8,7 +8,8 @@ use Rattle.wire.specs.declared.Flow.{Flow}
 use Rattle.answers.specs.Answers.{Said, held, delivered}
 use Rattle.cutting.specs.Cutting.{packetOf}
 use Rattle.flows.specs.OneFlow.{PDU}
-use Rattle.contexts.specs.State.{Setup, streamContexts}
+use Rattle.wire.specs.declared.Setup.{Setup}
+use Rattle.contexts.specs.State.{streamContexts}
 use Rattle.reading.specs.Desk.{Desk, stateOn}
 use Rattle.flows.specs.Deliveries.{Endpoint, read, after, deliveries, inRoom, view}
 use Rattle.flows.specs.Fresh.{Allowed, Fresh}
@@ -66,7 +67,7 @@ SamePacketsSameWhole =
 
 -- packet k of a PDU of that flow
 abbrev pub packetAt : Setup → Flow → Sent → ℕ → List ℕ
-packetAt setup flow s k = packetOf (headingFor (setup .device) flow s k) (setup .mtu) (s .pdu .bytes) k
+packetAt setup flow s k = packetOf (headingFor setup flow s k) (setup .mtu) (s .pdu .bytes) k
 
 -- the desk after the first k packets, and what packet k gets there
 abbrev pub deskAt : Endpoint → Setup → Flow → Sent → Desk → ℕ → Desk

@@ -3,15 +3,16 @@ use Prim.Native.Nat.{ℕ}
 use mathlib.Core.List.{List, [], _∷_}
 use mathlib.Core.Bool.{cond}
 use mathlib.Core.Option.{Option, none, some}
+use Rattle.wire.specs.Packet.{idsOf}
 use Rattle.wire.specs.Type9.{segmentOf}
 use Rattle.stream_rooms.specs.Placing.{dataOf}
-use Rattle.contexts.specs.State.{Setup}
+use Rattle.wire.specs.declared.Setup.{Setup}
 use Rattle.flows.specs.OneFlow.{PDU, Told, held, delivered, refused, FlowOutcome, flowStep}
 use Rattle.sending.specs.Sending.{Put}
 
 -- what the one-flow endpoint does at a packet
 abbrev pub packetStep : Setup → Option PDU → List ℕ → FlowOutcome
-packetStep setup before p = flowStep setup before (segmentOf p) (dataOf p (segmentOf p))
+packetStep setup before p = flowStep setup before (segmentOf (idsOf setup) p) (dataOf p (segmentOf (idsOf setup) p))
 
 -- the PDU that an answer delivers, if one
 abbrev pub deliveredPDU : Told → Option PDU

@@ -1,5 +1,5 @@
 -- What boards send, what is left of it on the backplane, and which PDUs are whole (document 01, demand 3).
-use Prim.Native.Nat.{ℕ, zero, suc, _+_, _≤_, _<_}
+use Prim.Native.Nat.{ℕ, zero, suc, _+_, _^_, _≤_, _<_}
 use mathlib.Core.Path.{_≡_}
 use mathlib.Core.List.{List, [], _∷_, _++_, map, tail}
 use mathlib.Core.Bool.{Bool, true, false, cond, _||_, _&&_}
@@ -13,7 +13,9 @@ use Rattle.wire.specs.Segment.{Segment}
 use Rattle.wire.specs.Parsed.{Stream}
 use Rattle.wire.specs.Type9.{sameFlow}
 use Rattle.wire.specs.Parsed.{parsed}
-use Rattle.contexts.specs.State.{Setup, streamContexts}
+use Rattle.wire.specs.declared.Setup.{Setup}
+use Rattle.wire.specs.Packet.{idsOf}
+use Rattle.contexts.specs.State.{streamContexts}
 use Rattle.cutting.specs.declared.Heading.{Heading}
 use Rattle.cutting.specs.Cutting.{segmentCount, isFinal, packetOf}
 use Rattle.flows.specs.OneFlow.{PDU}
@@ -61,19 +63,20 @@ pub record Put : Type 0 where
   pub lost : Bool
   pub whole : Option PDU
 
-abbrev pub headingFor : (device : ℕ) → Flow → Sent → ℕ → Heading
-headingFor device flow s k = record {
-  destination = device;
+abbrev pub headingFor : Setup → Flow → Sent → ℕ → Heading
+headingFor setup flow s k = record {
+  destination = setup .device;
   source = flow .source;
   cos = flow .cos;
   stream = s .pdu .stream;
   priority = priorityOf s k;
+  narrow = setup .narrow;
 }
 
 -- packet k of a PDU. The PDU is whole with its last packet, if no packet is lost
 unfoldable pub putOf : Setup → Flow → Sent → ℕ → Put
 putOf setup flow s k = record {
-  packet = packetOf (headingFor (setup .device) flow s k) (setup .mtu) (s .pdu .bytes) k;
+  packet = packetOf (headingFor setup flow s k) (setup .mtu) (s .pdu .bytes) k;
   lost = isLost s k;
   whole = cond (isFinal (setup .mtu) (s .pdu .bytes) k && isWhole (setup .mtu) s) (some (s .pdu)) none;
 }
@@ -163,7 +166,7 @@ whole setup s = wholes (events (queues setup s) (s .turns))
 -- what all PDUs of a flow share is in its range
 pub record Ranges (setup : Setup) (flow : Flow) : Type 0 where
   pub allowed : Allowed setup
-  pub source : flow .source < 65536
+  pub source : flow .source < 256 ^ idsOf setup
   pub cos : flow .cos < 256
 
 -- a PDU of 1 to R bytes
@@ -175,14 +178,14 @@ pub record FairPDU (R : ℕ) (s : Sent) : Type 0 where
   pub priorities : (k : ℕ) → priorityOf s k ≤ 3
 
 pub record FairFlow (setup : Setup) (x : FlowSent) : Type 0 where
-  pub source : x .flow .source < 65536
+  pub source : x .flow .source < 256 ^ idsOf setup
   pub cos : x .flow .cos < 256
   pub PDUs : Each (FairPDU (setup .room)) (x .sent)
 
 -- any other packet is made of bytes, and is no type 9 segment for us: a message, or one that rows 1 to 5 refuse
 abbrev pub FairTurn : Setup → Turn → Type 0
 FairTurn setup (next flow) = Unit {0}
-FairTurn setup (between p) = ((g : Segment) → parsed (setup .device) p ≡ Stream g → ⊥) × AreBytes p
+FairTurn setup (between p) = ((g : Segment) → parsed setup p ≡ Stream g → ⊥) × AreBytes p
 
 -- what is sent. That a flow sends one PDU at a time and in order, cut by the rules and addressed to the endpoint, is how `packets` is made
 pub record FairlySent (setup : Setup) (s : Sending) : Type 0 where

@@ -17,7 +17,7 @@ use Rattle.wire.specs.declared.Flow.{Flow}
 use Rattle.wire.specs.Segment.{Segment}
 use Rattle.wire.specs.Packet.{header, bit}
 use Rattle.wire.specs.Type9.{flags, isS, isE, segmentOf}
-use Rattle.wire.proofs.Fields.{begins-is, ends-is, field-is, from-field}
+use Rattle.wire.proofs.Fields.{begins-is, ends-is, from-field, before-data}
 use Rattle.sizes.specs.Sizes.{dataLength}
 use Rattle.contexts.specs.declared.StreamContext.{StreamContext}
 use Rattle.contexts.specs.State.{State, withStream, closedStream, openStream, streamContexts}
@@ -74,19 +74,19 @@ stored memory after p s g {n} {base} {count} {room} {from} f r w e =
     e ∙ rw (same, r, w)
 
 -- E, as the code has it
-pub ends-by : (p : List ℕ) {byte-6 : ℕ} {r b : Bool} → byte-6 ≡ flags p → r ≡ bit byte-6 64 → r ≡ b → segmentOf p .ends ≡ b
-ends-by p w t e = ends-is p ∙ rw (← w) (sym t ∙ e)
+pub ends-by : (ids : ℕ) (p : List ℕ) {bits : ℕ} {r b : Bool} → bits ≡ flags ids p → r ≡ bit bits 64 → r ≡ b → segmentOf ids p .ends ≡ b
+ends-by ids p w t e = ends-is ids p ∙ rw (← w) (sym t ∙ e)
 
--- a start or single has a field: 9 bytes at least, of which two are the streamID
-module _ (p : List ℕ) (t : segmentOf p .begins ≡ true) where
-  fielded : (isS p || isE p) ≡ true
-  fielded = rw (sym (begins-is p) ∙ t)
+-- a start or single has a field: the two bytes before its data are the streamID
+module _ (ids : ℕ) (p : List ℕ) (t : segmentOf ids p .begins ≡ true) where
+  fielded : (isS ids p || isE ids p) ≡ true
+  fielded = rw (sym (begins-is ids p) ∙ t)
 
-  pub start-from : segmentOf p .from ≡ header + 4
-  start-from = from-field p fielded
+  pub start-from : segmentOf ids p .from ≡ header ids + 4
+  start-from = from-field ids p fielded
 
-  pub start-field : {stream : ℕ} → stream ≡ word p (header + 2) → stream ≡ segmentOf p .field
-  start-field e = e ∙ sym (field-is p fielded)
+  pub start-field : {stream from : ℕ} → from ≡ segmentOf ids p .from → stream ≡ word p (from - 2) → stream ≡ segmentOf ids p .field
+  start-field f e = e ∙ before-data ids p fielded f
 
 -- from its beginning
 module _ (s : State) (memory after p : List ℕ) (g : Segment) (n count : ℕ) (f : Fits s g n 0 count)

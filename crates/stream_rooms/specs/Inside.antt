@@ -10,9 +10,13 @@ use Rattle.wire.specs.declared.Flow.{Flow}
 use Rattle.wire.specs.Segment.{Segment}
 use Rattle.wire.specs.Type9.{flags, segmentOf}
 use Rattle.sizes.specs.Sizes.{dataLength}
-use Rattle.contexts.specs.State.{State, streamIn, withStream, closedStream, streamContexts}
+use Rattle.contexts.specs.State.{State, idsIn, streamIn, withStream, closedStream, streamContexts}
 use Rattle.contexts.specs.Words.{stateOf, stateWords}
 use Rattle.refusal19.specs.Refusal19.{namedBy19}
+
+-- the segment that a packet is, at the width of the endpoint
+abbrev pub streamFor : (words packet : List ℕ) → Segment
+streamFor words packet = segmentOf (idsIn (stateOf words)) packet
 
 -- what every step may rely on: words of a state that 19 does not name, the stream memory's size, data inside the packet
 pub record Ready (words memory packet : List ℕ) (g : Segment) : Type 0 where
@@ -27,11 +31,11 @@ pub record Closing (s : State) (found number : ℕ) (says : Said) (dropped : Boo
   pub drop : dropped ≡ ltb found streamContexts
   pub state : after ≡ withStream s found closedStream
 
--- what the code has read of a type 9 packet: byte 6, where the data begin, and the flow
-pub record Fields (p : List ℕ) (byte-6 from : ℕ) (flow : Flow) : Type 0 where
-  pub flag-bits : byte-6 ≡ flags p
-  pub data-from : from ≡ segmentOf p .from
-  pub sender : flow ≡ segmentOf p .flow
+-- what the code has read of a type 9 packet: its flags, where the data begin, and the flow
+pub record Fields (words packet : List ℕ) (bits from : ℕ) (flow : Flow) : Type 0 where
+  pub flag-bits : bits ≡ flags (idsIn (stateOf words)) packet
+  pub data-from : from ≡ streamFor words packet .from
+  pub sender : flow ≡ streamFor words packet .flow
 
 -- the PDU of context n delivered, and the context freed
 pub record Delivering (s : State) (n : ℕ) (flow : Flow) (stream total : ℕ) (gave : Bool) (says : Said) (dropped : Bool) (after : State) : Type 0 where

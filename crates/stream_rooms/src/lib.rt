@@ -7,10 +7,9 @@ ghost use lib.ListN.{length};
 ghost use Rattle.lists.specs.Bytes.{written};
 ghost use Rattle.answers.specs.Figures.{telling, AllSet};
 ghost use Rattle.contexts.specs.Words.{stateOf, stateWords};
-ghost use Rattle.wire.specs.Type9.{segmentOf};
 ghost use Rattle.contexts.specs.State.{streamContexts};
 ghost use Rattle.stream_rooms.specs.Placing.{dataOf};
-ghost use Rattle.stream_rooms.specs.Inside.{Ready, Closing, Delivering, Fits};
+ghost use Rattle.stream_rooms.specs.Inside.{Ready, Closing, Delivering, Fits, streamFor};
 
 // A refusal that closes the flow's context, where it has one. Every caller has tested the state, and `found` is what was found.
 pub fn refused_closing(state: &mut [usize], found: usize, number: usize) -> Figures
@@ -61,9 +60,9 @@ pub fn store_data(
     base: usize,
     count: usize,
 )
-    requires { ⌜ Ready (now state) (now memory) (now packet) (segmentOf (now packet)) ⌝ }
-    requires { ⌜ (from ≡ segmentOf (now packet) .from) × Fits (stateOf (now state)) (segmentOf (now packet)) n base count ⌝ }
-    ensures { λ _. ⌜ now (memory .exit) ≡ written (now (memory .entry)) (n * stateOf (now (state .entry)) .setup .room + base) (dataOf (now (packet .entry)) (segmentOf (now (packet .entry)))) ⌝ }
+    requires { ⌜ Ready (now state) (now memory) (now packet) (streamFor (now state) (now packet)) ⌝ }
+    requires { ⌜ (from ≡ streamFor (now state) (now packet) .from) × Fits (stateOf (now state)) (streamFor (now state) (now packet)) n base count ⌝ }
+    ensures { λ _. ⌜ now (memory .exit) ≡ written (now (memory .entry)) (n * stateOf (now (state .entry)) .setup .room + base) (dataOf (now (packet .entry)) (streamFor (now (state .entry)) (now (packet .entry)))) ⌝ }
 {
     let to = from + count;
     lists::store(memory, n * contexts::room(state) + base, &packet[from..to]);

@@ -10,10 +10,8 @@ pub fn is_wrong_form(raw: usize, flags: usize) -> bool
     if raw == 0 {
         return true;
     }
-    if raw % 2 == 1 {
-        return true;
-    }
-    raw / 2 % 2 != flags / 2 % 2
+    // by four a good number of bytes leaves 2 where O is set, else 0
+    raw % 4 != 2 * (flags / 2 % 2)
 }
 
 // Row 7, for n bytes of data: over MTU is wrong of every segment, under it where E is not set.

@@ -2,21 +2,21 @@
 use answers::Figures;
 ghost use mathlib.Core.Path.{_≡_};
 ghost use Rattle.answers.specs.Figures.{telling, AllSet};
-ghost use Rattle.wire.specs.Type9.{segmentOf};
 ghost use Rattle.contexts.specs.Words.{stateOf};
 ghost use Rattle.stream_rooms.specs.Placing.{joining};
-ghost use Rattle.stream_rooms.specs.Inside.{Ready};
+ghost use Rattle.stream_rooms.specs.Inside.{Ready, streamFor};
 ghost use Rattle.streams.specs.Joining.{stepped};
 
 // A type 9 packet from row 6 on. Every caller has tested the state, the memory's size and the packet's head.
 pub fn step(state: &mut [usize], memory: &mut [u8], packet: &[u8]) -> Figures
-    requires { ⌜ Ready (now state) (now memory) (now packet) (segmentOf (now packet)) ⌝ }
+    requires { ⌜ Ready (now state) (now memory) (now packet) (streamFor (now state) (now packet)) ⌝ }
     ensures { λ r. ⌜ (joining (telling r) (r .dropped) (stateOf (now (state .exit))) (now (memory .exit))
-        ≡ stepped (stateOf (now (state .entry))) (now (memory .entry)) (now (packet .entry)) (segmentOf (now (packet .entry)))) × AllSet r (r .dropped) 0 ⌝ }
+        ≡ stepped (stateOf (now (state .entry))) (now (memory .entry)) (now (packet .entry)) (streamFor (now (state .entry)) (now (packet .entry)))) × AllSet r (r .dropped) 0 ⌝ }
 {
-    let flags = lists::wide(packet[wire::HEADER + 1]);
-    let from = wire::data_from(flags);
-    let flow = wire::flow_of(packet);
+    let head = fields::stream_of(packet, contexts::narrow(state));
+    let flags = head.flags;
+    let from = head.from;
+    let flow = head.flow;
     let found = finding::find_stream(state, flow);
     let raw = packet.len() - from;
     if stream_rules::is_wrong_form(raw, flags) {

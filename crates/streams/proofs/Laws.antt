@@ -16,7 +16,7 @@ use Rattle.wire.specs.Segment.{Segment}
 use Rattle.lists.specs.Bytes.{word}
 use Rattle.wire.specs.Packet.{header, bit}
 use Rattle.wire.specs.Type9.{flags, isS, isE, segmentOf}
-use Rattle.wire.proofs.Fields.{begins-is, ends-is, odd-is, pad-is, raw-is, field-is, from-field}
+use Rattle.wire.proofs.Fields.{begins-is, ends-is, odd-is, pad-is, raw-is, from-field, before-data}
 use Rattle.sizes.specs.Sizes.{dataLength, withoutPad, pduLength}
 use Rattle.contexts.specs.State.{State, streamContexts, streamIn, closedStream, isOfFlow, flowContext, freeStream}
 use Rattle.contexts.proofs.Flows.{of-flow}
@@ -207,35 +207,36 @@ module _ (s : State) (memory p : List ℕ) (g : Segment) where
 
 -- ---- rows 6 to 8 by what the code has read of the packet
 
-module _ (p : List ℕ) {byte-6 from raw : ℕ} (w : byte-6 ≡ flags p) (f : from ≡ segmentOf p .from) (z : raw ≡ length p - from) where
-  pub raw-by : raw ≡ segmentOf p .raw
-  raw-by = z ∙ rw f (sym (raw-is p))
+module _ (ids : ℕ) (p : List ℕ) {bits from raw : ℕ} (w : bits ≡ flags ids p) (f : from ≡ segmentOf ids p .from) (z : raw ≡ length p - from) where
+  pub raw-by : raw ≡ segmentOf ids p .raw
+  raw-by = z ∙ rw f (sym (raw-is ids p))
 
-  pub malformed-by : {r b : Bool} → r ≡ wrongForm raw (bit byte-6 2) → r ≡ b → malformed (segmentOf p) ≡ b
+  pub malformed-by : {r b : Bool} → r ≡ wrongForm raw (bit bits 2) → r ≡ b → malformed (segmentOf ids p) ≡ b
   unfolding malformed
-  malformed-by t e = rw (odd-is p, ← raw-by, ← w) (sym t ∙ e)
+  malformed-by t e = rw (odd-is ids p, ← raw-by, ← w) (sym t ∙ e)
 
-  pub data-by : {count : ℕ} → count ≡ withoutPad raw (bit byte-6 1) → count ≡ dataLength (segmentOf p)
+  pub data-by : {count : ℕ} → count ≡ withoutPad raw (bit bits 1) → count ≡ dataLength (segmentOf ids p)
   unfolding dataLength
-  data-by t = t ∙ rw (pad-is p, ← raw-by, ← w)
+  data-by t = t ∙ rw (pad-is ids p, ← raw-by, ← w)
 
-module _ (p : List ℕ) {byte-6 : ℕ} (w : byte-6 ≡ flags p) where
-  pub begins-by : {r b : Bool} → r ≡ bit byte-6 128 → r ≡ b → segmentOf p .begins ≡ b
-  begins-by t e = begins-is p ∙ rw (← w) (sym t ∙ e)
+module _ (ids : ℕ) (p : List ℕ) {bits : ℕ} (w : bits ≡ flags ids p) where
+  pub begins-by : {r b : Bool} → r ≡ bit bits 128 → r ≡ b → segmentOf ids p .begins ≡ b
+  begins-by t e = begins-is ids p ∙ rw (← w) (sym t ∙ e)
 
-  pub size-by : (n mtu : ℕ) {r b : Bool} → r ≡ wrongSize (bit byte-6 64) n mtu → r ≡ b → wrongSize (segmentOf p .ends) n mtu ≡ b
-  size-by n mtu t e = rw (ends-is p, ← w) (sym t ∙ e)
+  pub size-by : (n mtu : ℕ) {r b : Bool} → r ≡ wrongSize (bit bits 64) n mtu → r ≡ b → wrongSize (segmentOf ids p .ends) n mtu ≡ b
+  size-by n mtu t e = rw (ends-is ids p, ← w) (sym t ∙ e)
 
 -- an end has a field, and by it its length differs or not
-module _ (p : List ℕ) (e : segmentOf p .ends ≡ true) where
-  fielded : (isS p || isE p) ≡ true
-  fielded = rw (sym (ends-is p) ∙ e) (or-true (isS p))
+module _ (ids : ℕ) (p : List ℕ) (e : segmentOf ids p .ends ≡ true) where
+  fielded : (isS ids p || isE ids p) ≡ true
+  fielded = rw (sym (ends-is ids p) ∙ e) (or-true (isS ids p))
 
-  pub end-from : segmentOf p .from ≡ header + 4
-  end-from = from-field p fielded
+  pub end-from : segmentOf ids p .from ≡ header ids + 4
+  end-from = from-field ids p fielded
 
-  pub length-by : (n : ℕ) {field size : ℕ} {b : Bool} → field ≡ word p (header + 2) → size ≡ pduLength field → not (eqb n size) ≡ b → wrongLength (segmentOf p) n ≡ b
-  length-by n w z t = rw (e, field-is p fielded, ← w, ← z) t
+  pub length-by : (n : ℕ) {from field size : ℕ} {b : Bool} → from ≡ segmentOf ids p .from → field ≡ word p (from - 2) → size ≡ pduLength field → not (eqb n size) ≡ b
+      → wrongLength (segmentOf ids p) n ≡ b
+  length-by n f w z t = rw (e, ← before-data ids p fielded f, ← w, ← z) t
 
 -- a continuation has none
 pub no-length : (g : Segment) (n : ℕ) → g .ends ≡ false → wrongLength g n ≡ false

@@ -1,5 +1,6 @@
 // Reads document 01's two sample packets and prints what the endpoint answers: for the PDU its bytes, for the message its response.
 use answers::Answer;
+use endpoint::Setup;
 use printing::print_bytes;
 use printing::print_number;
 use printing::print_text;
@@ -53,7 +54,15 @@ fn main() {
     let mut streams = [0u8; 16384];
     let mut messages = [0u8; 32768];
     let mut response = [0u8; 7];
-    endpoint::setup(&mut state, 1, 32, 1024);
+    endpoint::setup(
+        &mut state,
+        Setup {
+            device: 1,
+            mtu: 32,
+            room: 1024,
+            narrow: 0,
+        },
+    );
 
     let pdu = b"\x19\x00\x01\x00\x02\x05\xc1\x00\x07\xaa\xbb\xcc\x00";
     let read = endpoint::read(&mut state, &mut streams, &mut messages, &mut response, pdu);

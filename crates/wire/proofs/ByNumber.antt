@@ -7,10 +7,11 @@ use native.Mathlib.Omega.{arith}
 use lib.Dec.{eqb, ltb}
 use borrow.Author.Tests.{eqb-true, lt-ltb}
 use Rattle.lists.proofs.Tests.{by-test, _and_}
-use Rattle.tables.specs.Refusals.{Leaves, Verdict, refuse, accept, verdict}
+use Rattle.tables.specs.Refusals.{Row, Leaves, Verdict, refuse, accept, verdict}
 use Rattle.tables.proofs.Exactly.{none-held}
 use Rattle.tables.proofs.Numbers.{every-number}
-use Rattle.wire.specs.Packet.{packetType}
+use Rattle.wire.specs.declared.Setup.{Setup}
+use Rattle.wire.specs.Packet.{packetType, idsOf}
 use Rattle.wire.specs.Type9.{segmentOf}
 use Rattle.wire.specs.Type11.{messageOf}
 use Rattle.wire.specs.Head.{is9, headRows}
@@ -18,23 +19,26 @@ use Rattle.wire.specs.Parsed.{Parsed, Refused, Stream, Message, parsedBy
 use Rattle.wire.specs.Inside.{headed, headedBy}
 use Rattle.wire.proofs.HeadLaws.{other-type}
 
-module _ (device : ℕ) (p : List ℕ) where
-  small : (number : ℕ) (leaves : Leaves) → verdict (headRows device p) ≡ refuse number leaves → number < 9
+module _ (setup : Setup) (p : List ℕ) where
+  abbrev rowsOf : List Row
+  rowsOf = headRows (setup .device) (idsOf setup) p
+
+  small : (number : ℕ) (leaves : Leaves) → verdict rowsOf ≡ refuse number leaves → number < 9
   unfolding headRows
   small number leaves =
-      every-number (λ (n : ℕ). n < 9) (headRows device p) number leaves
+      every-number (λ (n : ℕ). n < 9) rowsOf number leaves
       (omega arith and omega arith and omega arith and omega arith and omega arith and omega arith and omega arith and tt)
 
   abbrev pub byNumber : ℕ → Parsed
-  byNumber n = cond (ltb n 9) (Refused n) (cond (eqb n 9) (Stream (segmentOf p)) (Message (messageOf p)))
+  byNumber n = cond (ltb n 9) (Refused n) (cond (eqb n 9) (Stream (segmentOf (idsOf setup) p)) (Message (messageOf (idsOf setup) p)))
 
-  pub by-number : (n : ℕ) → n ≡ headed device p → parsed device p ≡ byNumber n
+  pub by-number : (n : ℕ) → n ≡ headed (setup .device) (idsOf setup) p → parsed setup p ≡ byNumber n
   unfolding headed parsed
-  by-number n e = go (verdict (headRows device p)) refl e
+  by-number n e = go (verdict rowsOf) refl e
     where
-      go : (v : Verdict) → verdict (headRows device p) ≡ v → n ≡ headedBy p v → parsedBy p v ≡ byNumber n
+      go : (v : Verdict) → verdict rowsOf ≡ v → n ≡ headedBy p v → parsedBy (idsOf setup) p v ≡ byNumber n
       go (refuse number leaves) r e = rw (e, lt-ltb number 9 (small number leaves r))
       go accept r e =
           by-test (is9 p)
           (λ t. let nine : n ≡ 9 = e ∙ eqb-true (packetType p) 9 t in rw (nine, t))
-          (λ t. let eleven : n ≡ 11 = e ∙ eqb-true (packetType p) 11 (other-type p device (none-held (headRows device p) r) t) in rw (eleven, t))
+          (λ t. let eleven : n ≡ 11 = e ∙ eqb-true (packetType p) 11 (other-type (idsOf setup) p (setup .device) (none-held rowsOf r) t) in rw (eleven, t))

@@ -1,3 +1,5 @@
 pub mod HeadLaws
 pub mod Fields
 pub mod ByNumber
+pub mod Addressed
+pub mod Widths

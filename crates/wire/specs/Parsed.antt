@@ -3,6 +3,8 @@ use Prim.Native.Nat.{ℕ}
 use mathlib.Core.List.{List}
 use mathlib.Core.Bool.{cond}
 use Rattle.tables.specs.Refusals.{Verdict, refuse, accept, verdict}
+use Rattle.wire.specs.declared.Setup.{Setup}
+use Rattle.wire.specs.Packet.{idsOf}
 use Rattle.wire.specs.Segment.{Segment}
 use Rattle.wire.specs.declared.MessageSegment.{MessageSegment}
 use Rattle.wire.specs.Head.{is9, headRows}
@@ -15,10 +17,10 @@ pub data Parsed : Type 0 where
   Message : MessageSegment → Parsed
 
 -- by the rows' verdict: refused, else of type 9, else of type 11, since row 4 has passed
-abbrev pub parsedBy : List ℕ → Verdict → Parsed
-parsedBy p (refuse number leaves) = Refused number
-parsedBy p accept = cond (is9 p) (Stream (segmentOf p)) (Message (messageOf p))
+abbrev pub parsedBy : (ids : ℕ) → List ℕ → Verdict → Parsed
+parsedBy ids p (refuse number leaves) = Refused number
+parsedBy ids p accept = cond (is9 p) (Stream (segmentOf ids p)) (Message (messageOf ids p))
 
--- for the endpoint of that device ID
-unfoldable pub parsed : ℕ → List ℕ → Parsed
-parsed device p = parsedBy p (verdict (headRows device p))
+-- for the endpoint of that setup
+unfoldable pub parsed : Setup → List ℕ → Parsed
+parsed setup p = parsedBy (idsOf setup) p (verdict (headRows (setup .device) (idsOf setup) p))

@@ -8,37 +8,37 @@ use Rattle.lists.specs.Bytes.{byte}
 use Rattle.wire.specs.Packet.{header, source}
 use Rattle.wire.specs.declared.MessageSegment.{MessageSegment}
 
--- byte 5: msglen 4, ssize 4
-abbrev pub msglen : List ℕ → ℕ
-msglen p = byte p header / 16
+-- the byte behind the IDs: msglen 4, ssize 4
+abbrev pub msglen : (ids : ℕ) → List ℕ → ℕ
+msglen ids p = byte p (header ids) / 16
 
-abbrev pub ssize : List ℕ → ℕ
-ssize p = byte p header % 16
+abbrev pub ssize : (ids : ℕ) → List ℕ → ℕ
+ssize ids p = byte p (header ids) % 16
 
--- byte 6: letter 2, mbox 2, msgseg 4
-abbrev pub letter : List ℕ → ℕ
-letter p = byte p (header + 1) / 64
+-- the next: letter 2, mbox 2, msgseg 4
+abbrev pub letter : (ids : ℕ) → List ℕ → ℕ
+letter ids p = byte p (header ids + 1) / 64
 
-abbrev pub mbox : List ℕ → ℕ
-mbox p = byte p (header + 1) / 16 % 4
+abbrev pub mbox : (ids : ℕ) → List ℕ → ℕ
+mbox ids p = byte p (header ids + 1) / 16 % 4
 
-abbrev pub msgseg : List ℕ → ℕ
-msgseg p = byte p (header + 1) % 16
+abbrev pub msgseg : (ids : ℕ) → List ℕ → ℕ
+msgseg ids p = byte p (header ids + 1) % 16
 
--- data from byte 7
-abbrev pub messageDataFrom : ℕ
-messageDataFrom = header + 2
+-- then data
+abbrev pub messageDataFrom : (ids : ℕ) → ℕ
+messageDataFrom ids = header ids + 2
 
 -- what a type 11 packet says
-unfoldable pub messageOf : List ℕ → MessageSegment
-messageOf p = record {
-  source = source p;
-  letter = letter p;
-  mbox = mbox p;
-  msglen = msglen p;
-  ssize = ssize p;
-  msgseg = msgseg p;
-  raw = length p - messageDataFrom;
+unfoldable pub messageOf : (ids : ℕ) → List ℕ → MessageSegment
+messageOf ids p = record {
+  source = source ids p;
+  letter = letter ids p;
+  mbox = mbox ids p;
+  msglen = msglen ids p;
+  ssize = ssize ids p;
+  msgseg = msgseg ids p;
+  raw = length p - messageDataFrom ids;
 }
 
 -- msglen 0: one segment, whose last field is no number but xmbox

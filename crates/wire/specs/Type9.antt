@@ -10,50 +10,54 @@ use Rattle.wire.specs.Packet.{header, source, bit}
 use Rattle.wire.specs.declared.Flow.{Flow}
 use Rattle.wire.specs.Segment.{Segment}
 
--- byte 5
-abbrev pub cos : List ℕ → ℕ
-cos p = byte p header
+-- the byte behind the IDs
+abbrev pub cos : (ids : ℕ) → List ℕ → ℕ
+cos ids p = byte p (header ids)
 
--- byte 6: S, E, three reserved bits, xh, O, P
-abbrev pub flags : List ℕ → ℕ
-flags p = byte p (header + 1)
+-- the next: S, E, three reserved bits, xh, O, P
+abbrev pub flags : (ids : ℕ) → List ℕ → ℕ
+flags ids p = byte p (header ids + 1)
 
-abbrev pub isS : List ℕ → Bool
-isS p = bit (flags p) 128
+abbrev pub isS : (ids : ℕ) → List ℕ → Bool
+isS ids p = bit (flags ids p) 128
 
-abbrev pub isE : List ℕ → Bool
-isE p = bit (flags p) 64
+abbrev pub isE : (ids : ℕ) → List ℕ → Bool
+isE ids p = bit (flags ids p) 64
 
-abbrev pub xh : List ℕ → Bool
-xh p = bit (flags p) 4
+abbrev pub xh : (ids : ℕ) → List ℕ → Bool
+xh ids p = bit (flags ids p) 4
 
-abbrev pub isO : List ℕ → Bool
-isO p = bit (flags p) 2
+abbrev pub isO : (ids : ℕ) → List ℕ → Bool
+isO ids p = bit (flags ids p) 2
 
-abbrev pub isP : List ℕ → Bool
-isP p = bit (flags p) 1
+abbrev pub isP : (ids : ℕ) → List ℕ → Bool
+isP ids p = bit (flags ids p) 1
 
 -- a flow is a source ID and a cos
-abbrev pub flowOf : List ℕ → Flow
-flowOf p = record { source = source p; cos = cos p }
+abbrev pub flowOf : (ids : ℕ) → List ℕ → Flow
+flowOf ids p = record { source = source ids p; cos = cos ids p }
 
 -- whether two flows are one
 unfoldable pub sameFlow : Flow → Flow → Bool
 sameFlow a b = eqb (a .source) (b .source) && eqb (a .cos) (b .cos)
 
 -- what the packet says, where its data begin at `from`
-unfoldable pub segmentAt : List ℕ → ℕ → ℕ → Segment
-segmentAt p from field = record {
-  begins = isS p;
-  ends = isE p;
-  flow = flowOf p;
+unfoldable pub segmentAt : (ids : ℕ) → List ℕ → ℕ → ℕ → Segment
+segmentAt ids p from field = record {
+  begins = isS ids p;
+  ends = isE ids p;
+  flow = flowOf ids p;
   field = field;
   from = from;
   raw = length p - from;
-  odd = isO p;
-  pad = isP p;
+  odd = isO ids p;
+  pad = isP ids p;
 }
 
--- S=1: bytes 7-8 streamID, then data. S=0, E=1: bytes 7-8 PDU length, then data. S=0, E=0: data from byte 7
-unfoldable pub segmentOf : List ℕ → Segment
-segmentOf p = cond (isS p || isE p) (segmentAt p (header + 4) (word p (header + 2))) (segmentAt p (header + 2) 0)
+-- behind the flags, with IDs of two bytes from byte 7 on. S=1: two bytes streamID, then data. S=0, E=1: two bytes PDU length, then data.
+-- S=0, E=0: data
+unfoldable pub segmentOf : (ids : ℕ) → List ℕ → Segment
+segmentOf ids p =
+    cond (isS ids p || isE ids p)
+    (segmentAt ids p (header ids + 4) (word p (header ids + 2)))
+    (segmentAt ids p (header ids + 2) 0)

@@ -1,19 +1,31 @@
-// Packets as document 01 lays them out: the fields of types 9 and 11, and laws of their head. No state.
+// Packets as document 01 lays them out: their head, the fields of types 9 and 11, and laws of them. No state. fields is the code that reads them.
 ghost use mathlib.Core.Path.{_≡_};
-ghost use Prim.Native.Nat.{_+_, _<_, _≤_};
-ghost use lib.ListN.{length};
-ghost use Rattle.wire.specs.Packet.{header, bit as bitOf};
-ghost use Rattle.wire.specs.Type9.{flowOf, sameFlow};
-ghost use Rattle.wire.specs.Type11.{messageOf};
-ghost use Rattle.wire.specs.Inside.{dataFrom};
+ghost use Prim.Native.Nat.{_<_};
+ghost use Rattle.wire.specs.Packet.{bit as bitOf};
+ghost use Rattle.wire.specs.Type9.{sameFlow};
 
-// Where the fields of a type begin: behind byte 0 and two IDs of two bytes.
-pub const HEADER: usize = 5;
+// What setup fixes: our device ID, the MTU, R (the bytes of a stream context's room), and the width of an ID. Callers in C lend it too: its fields
+// stand in the order of include/kaiverohm.h.
+#[repr(C)]
+pub struct Setup {
+    pub device: u16,
+    pub mtu: usize,
+    pub room: usize,
+    // 0: IDs of 16 bits; any other number: of 8
+    pub narrow: usize,
+}
 
 // A flow: who sends, under which class of service.
 pub struct Flow {
     pub source: usize,
     pub cos: usize,
+}
+
+// What is read of a type 9 packet: its flags, where its data begin, and its flow.
+pub struct StreamHead {
+    pub flags: usize,
+    pub from: usize,
+    pub flow: Flow,
 }
 
 // A type 11 packet: `raw` bytes of data behind its head.
@@ -43,43 +55,4 @@ pub fn bit(byte: usize, weight: usize) -> bool
     ensures { λ r. ⌜ r ≡ bitOf byte weight ⌝ }
 {
     byte / weight % 2 == 1
-}
-
-// Where the data of a type 9 packet begin: S or E is set where its flags are 64 or more, and then a field of two bytes comes before them.
-pub fn data_from(flags: usize) -> usize
-    ensures { λ r. ⌜ r ≡ dataFrom flags ⌝ }
-{
-    if flags < 64 {
-        return HEADER + 2;
-    }
-    HEADER + 4
-}
-
-// Who sent a packet, under which class of service.
-pub fn flow_of(packet: &[u8]) -> Flow
-    requires { ⌜ header + 2 ≤ length (now packet) ⌝ }
-    ensures { λ r. ⌜ r ≡ flowOf (now (packet .entry)) ⌝ }
-{
-    Flow {
-        source: lists::word_at(packet, 3),
-        cos: lists::wide(packet[HEADER]),
-    }
-}
-
-// The fields of a type 11 packet. Every caller has found that it has them.
-pub fn message_of(packet: &[u8]) -> MessageSegment
-    requires { ⌜ header + 2 ≤ length (now packet) ⌝ }
-    ensures { λ r. ⌜ r ≡ messageOf (now (packet .entry)) ⌝ }
-{
-    let sizes = lists::wide(packet[HEADER]);
-    let names = lists::wide(packet[HEADER + 1]);
-    MessageSegment {
-        source: lists::word_at(packet, 3),
-        letter: names / 64,
-        mbox: names / 16 % 4,
-        msglen: sizes / 16,
-        ssize: sizes % 16,
-        msgseg: names % 16,
-        raw: packet.len() - (HEADER + 2),
-    }
 }

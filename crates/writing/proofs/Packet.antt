@@ -1,71 +1,62 @@
--- A segment's packet as the code makes it: nine bytes or the first seven of them, the data and the pad; and how long it is.
--- By cases on S and E, since only a continuation has no field.
-use Prim.Native.Nat.{ℕ, min, _+_, _-_, _*_, _%_}
-use mathlib.Core.Path.{_≡_, refl, ap, sym, _∙_}
-use mathlib.Core.List.{List, [], _∷_, _++_}
-use mathlib.Core.Bool.{Bool, true, false, cond}
+-- A segment's packet as the code makes it: what stands before the field, the field, and the data with the pad, each written behind the one before; and how long it is.
+use Prim.Native.Nat.{ℕ, min, _≤_, _+_, _-_, _*_, _%_}
+use mathlib.Core.Path.{_≡_, ap, sym, _∙_}
+use mathlib.Core.List.{List, _++_}
+use native.Mathlib.Omega.{arith}
+use native.Mathlib.Nat.{zero-add}
 use lib.Dec.{eqb}
-use lib.ListN.{length, take, length-append}
-use Rattle.lists.specs.Bytes.{high, low}
+use lib.ListN.{length, length-append}
+use Rattle.lists.specs.Bytes.{written}
+use Rattle.lists.proofs.Written.{written-behind}
 use Rattle.wire.specs.Packet.{header}
-use Rattle.cutting.proofs.Pad.{length-pad}
 use Rattle.cutting.specs.declared.Heading.{Heading}
-use Rattle.cutting.specs.Cutting.{segmentCount, segmentData, isFirst, isFinal, padOf, flagsOf, fieldOf, packetOf}
+use Rattle.cutting.specs.Cutting.{segmentCount, segmentData, isFirst, isFinal, padOf, flagsOf, fieldOf, idsFor, packetOf}
+use Rattle.cutting.proofs.Pad.{length-pad}
+use Rattle.cutting.proofs.Packet.{headOf, length-head, frontLength, length-field, packet-is, length-packet}
 use Rattle.writing.proofs.Sizes.{lent, length-data, data-part}
 
--- bytes 0 to 8, with what stands in bytes 6 and 7-8
-abbrev headOf : Heading → ℕ → ℕ → List ℕ
-headOf h flags field =
-    (h .priority * 64 + 0b01 * 16 + 9)
-    ∷ high (h .destination) ∷ low (h .destination)
-    ∷ high (h .source) ∷ low (h .source)
-    ∷ h .cos
-    ∷ flags
-    ∷ high field ∷ low field
-    ∷ []
-
--- how many of these the packet has
-abbrev frontOf : Bool → Bool → ℕ
-frontOf first final = cond first (header + 4) (cond final (header + 4) (header + 2))
-
-length-front : (h : Heading) (flags field : ℕ) (first final : Bool) → length (take (frontOf first final) (headOf h flags field)) ≡ frontOf first final
-length-front h flags field true final = refl
-length-front h flags field false true = refl
-length-front h flags field false false = refl
-
--- the front is seven bytes and the field
-front-is : (h : Heading) (flags size : ℕ) (first final : Bool)
-    → take (frontOf first final) (headOf h flags (cond first (h .stream) size)) ≡ take (header + 2) (headOf h flags 0) ++ fieldOf first final (h .stream) size
-unfolding fieldOf
-front-is h flags size true final = refl
-front-is h flags size false true = refl
-front-is h flags size false false = refl
-
-module _ (h : Heading) (mtu : ℕ) (pdu : List ℕ) (k : ℕ) where
-  -- the front of the packet as the code makes it
-  abbrev front : List ℕ
-  front = take (frontOf (isFirst k) (isFinal mtu pdu k)) (headOf h (flagsOf (isFirst k) (isFinal mtu pdu k) (length (segmentData mtu pdu k))) (cond (isFirst k) (h .stream) (length pdu)))
-
-  packet-is : packetOf h mtu pdu k ≡ front ++ segmentData mtu pdu k ++ padOf (length (segmentData mtu pdu k))
-  unfolding packetOf
-  packet-is = ap (λ (l : List ℕ). l ++ segmentData mtu pdu k ++ padOf (length (segmentData mtu pdu k))) (sym (front-is h _ (length pdu) (isFirst k) (isFinal mtu pdu k)))
-
-  length-packet : length (packetOf h mtu pdu k) ≡ frontOf (isFirst k) (isFinal mtu pdu k) + length (segmentData mtu pdu k) + length (segmentData mtu pdu k) % 2
-  length-packet = ap length packet-is ∙ simp (length-append, length-front, length-pad)
+-- three runs, each behind the one before, make one
+three-runs : (out a b c out₁ out₂ out₃ : List ℕ) → length a + length b + length c ≤ length out
+    → out₁ ≡ written out 0 a → out₂ ≡ written out₁ (length a) b → out₃ ≡ written out₂ (length a + length b) c
+    → out₃ ≡ written out 0 (a ++ b ++ c)
+three-runs out a b c out₁ out₂ out₃ room e₁ e₂ e₃ =
+    let two : out₂ ≡ written out 0 (a ++ b) = e₂ ∙ rw e₁ (at-end a b (omega arith)) in
+    e₃ ∙ rw (two, ← length-append a b) (at-end (a ++ b) c (simp length-append (omega arith)))
+  where
+    at-end : (x y : List ℕ) → length x + length y ≤ length out → written (written out 0 x) (length x) y ≡ written out 0 (x ++ y)
+    at-end x y h = ap (λ (i : ℕ). written (written out 0 x) i y) (sym (zero-add (length x))) ∙ written-behind out x y 0 (omega arith)
 
 -- From what the code has of segment k: n bytes of data behind a front of so many bytes, where the PDU makes `count` segments.
-module _ (h : Heading) (mtu : ℕ) (pdu : List ℕ) (k count n front : ℕ)
+module _ (h : Heading) (mtu : ℕ) (pdu : List ℕ) (k count n ids front : ℕ)
     (whole : count ≡ segmentCount mtu (length pdu))
     (held : n ≡ min mtu (length pdu - k * mtu))
-    (before : front ≡ frontOf (eqb k 0) (eqb (k + 1) count)) where
+    (wide : ids ≡ idsFor h)
+    (before : front ≡ frontLength ids (eqb k 0) (eqb (k + 1) count)) where
   holds : length (segmentData mtu pdu k) ≡ n
   holds = length-data mtu pdu k ∙ sym held
 
   pub cut-length : length (packetOf h mtu pdu k) ≡ front + n + n % 2
   unfolding isFirst isFinal
-  cut-length = length-packet h mtu pdu k ∙ simp (holds, ← whole, ← before)
+  cut-length = length-packet h mtu pdu k ∙ simp (holds, ← whole, ← wide, ← before)
 
-  pub cut-bytes : (flags field : ℕ) (head : List ℕ) → flags ≡ flagsOf (eqb k 0) (eqb (k + 1) count) n → field ≡ cond (eqb k 0) (h .stream) (length pdu) → head ≡ headOf h flags field
-      → take front head ++ lent mtu pdu k n ++ padOf (length (lent mtu pdu k n)) ≡ packetOf h mtu pdu k
+  abbrev field : List ℕ
+  field = fieldOf (eqb k 0) (eqb (k + 1) count) (h .stream) (length pdu)
+
+  pub cut-bytes : (at flags : ℕ) (out out₁ out₂ out₃ : List ℕ) → front + n + n % 2 ≤ length out → at ≡ header ids + 2 → flags ≡ flagsOf (eqb k 0) (eqb (k + 1) count) n
+      → out₁ ≡ written out 0 (headOf ids h flags)
+      → out₂ ≡ written out₁ at field
+      → out₃ ≡ written out₂ front (lent mtu pdu k n ++ padOf (length (lent mtu pdu k n)))
+      → out₃ ≡ written out 0 (packetOf h mtu pdu k)
   unfolding isFirst isFinal
-  cut-bytes flags field head e₁ e₂ e₃ = sym (packet-is h mtu pdu k ∙ simp (holds, ← whole, ← before, ← e₁, ← e₂, ← e₃, data-part mtu pdu k n held))
+  cut-bytes at flags out out₁ out₂ out₃ room place e e₁ e₂ e₃ =
+      let head : List ℕ = headOf ids h flags in
+      let rest : List ℕ = lent mtu pdu k n ++ padOf (length (lent mtu pdu k n)) in
+      let part : lent mtu pdu k n ≡ segmentData mtu pdu k = data-part mtu pdu k n held in
+      let head-long : length head ≡ header ids + 2 = length-head ids h flags in
+      let field-long : header ids + 2 + length field ≡ front = length-field ids (eqb k 0) (eqb (k + 1) count) (h .stream) (length pdu) ∙ sym before in
+      let rest-long : length rest ≡ n + n % 2 = simp (length-append, length-pad, part, holds) in
+      let at-is : at ≡ length head = omega arith in
+      let front-is : front ≡ length head + length field = omega arith in
+      let parts : packetOf h mtu pdu k ≡ head ++ field ++ rest = packet-is h mtu pdu k ∙ simp (holds, ← whole, ← wide, ← e, part) in
+      three-runs out head field rest out₁ out₂ out₃ (omega arith) e₁ (e₂ ∙ ap (λ (i : ℕ). written out₁ i field) at-is) (e₃ ∙ ap (λ (i : ℕ). written out₂ i rest) front-is)
+      ∙ ap (written out 0) (sym parts)

@@ -3,9 +3,11 @@ use Prim.Native.Nat.{_<_}
 use native.Mathlib.Omega.{arith}
 use lib.ListN.{getD}
 use borrow.Author.Needs.{needs}
-use Rattle.reading.specs.Desk.{Desk, desk}
+use Rattle.wire.specs.Packet.{header}
+use Rattle.contexts.specs.State.{idsIn}
+use Rattle.reading.specs.Desk.{Desk, desk, stateOn}
 use Rattle.c_bursts.specs.Bursts.{Run, run}
-use Rattle.c_bursts.proofs.Packets.{packet-read}
+use Rattle.c_bursts.proofs.Packets.{slot-ready, packet-read}
 use Rattle.c_bursts.proofs.read_packet.Statement.{statement}
 use Rattle.c_bursts.proofs.read_packet.Tie as tie
 
@@ -28,6 +30,11 @@ put-requires c κs =
     let s = start-of (c .before .before .before .before .before .before .before .before .before .before) in
     omega (arith, s .pre .space .answers)
 
+step-requires : tie.Need-step-requires
+step-requires c κs =
+    let s = c .before .before .before .before .before .before .before .before .before .before in
+    slot-ready (begun s) (s .pre)
+
 reported-requires : tie.Need-reported-requires
 reported-requires c κs = c .before .before .before .before .before .before .before .before .step .ensures .numbers
 
@@ -39,7 +46,8 @@ returns c =
     let s = start-of at-step in
     let t = at-step .step in
     let known = at-step .before .before .before .before .before .shared-slice-known .given in
-    let small : getD (s .args .packet .now) 5 0 < 256 = omega (arith, known 5) in
+    let at = header (idsIn (stateOn (begun s .desk))) in
+    let small : getD (s .args .packet .now) at 0 < 256 = omega (arith, known at) in
     let after : Desk = desk (t .last .0) (t .last .1 .0) (t .last .1 .1 .0) (t .last .1 .1 .1 .0) in
     packet-read (begun s) (s .pre) _ small (t .result) after (t .ensures) (t .kept .1 .0) (t .kept .1 .1 .0) (t .kept .1 .1 .1 .0)
     (at-reported .reported .result) _ (at-reported .reported .ensures) (at-put .put .ensures)
@@ -48,7 +56,7 @@ pub read-packet-spec : {M : Type 1} → statement M
 read-packet-spec =
     tie.close
     (tie.spec
-    (λ c. search needs) (λ c. search needs) (λ c. search needs) (λ c. search needs) (λ c. search needs) (λ c κs. search needs)
+    (λ c. search needs) (λ c. search needs) (λ c. search needs) (λ c. search needs) (λ c. search needs) step-requires
     reported-requires
     mul-put put-requires
     (λ c. search needs) (λ c. search needs) (λ c. search needs) (λ c. search needs) (λ c. search needs) returns)

@@ -34,6 +34,11 @@ ready c = one-of _ _ (asked (c .before .before) .pre) (c .if1 .left)
 
 -- ---- the packet's bytes
 
+adds : tie.Need-add-read-packet
+adds c =
+    let i = inside _ _ _ _ _ (found (c .before .before .before .before .before .before .before)) in
+    omega (arith, i .behind, i .within)
+
 behind : tie.Need-sub-read-packet
 behind c = omega (arith, inside _ _ _ _ _ (found (c .before .before .before .before .before .before .before)) .behind)
 
@@ -41,7 +46,9 @@ begins : tie.Need-part-read-packet-start
 begins c = omega (arith, inside _ _ _ _ _ (found (c .before .before .before .before .before .before .before)) .behind)
 
 ends : tie.Need-part-read-packet-end
-ends c = inside _ _ _ _ _ (found (c .before .before .before .before .before .before .before)) .within
+ends c =
+    let i = inside _ _ _ _ _ (found (c .before .before .before .before .before .before .before)) in
+    omega (arith, i .behind, i .within)
 
 -- ---- the ways out
 
@@ -71,7 +78,7 @@ read-packet-requires c κs =
     let r = ready (c .before .before .before .before .before .before) in
     record { fit = r .fit; space = record { replies = r .space .replies; answers = r .space .answers } }
 
-add-count : tie.Need-add-t31
+add-count : tie.Need-add-t30
 add-count c =
     let at-read = c .before .before .before .before .before .before .before .before .before .before .before in
     let at-else = at-read .before .before .before .before .before .before .before in
@@ -96,7 +103,7 @@ step-at-spec =
     (tie.spec
     (λ c κs. search needs) (λ c. search needs) (λ c. search needs) (λ c. search needs)
     returns
-    behind begins ends read-packet-requires (λ c κs. search needs) add-count
+    adds behind begins ends read-packet-requires (λ c κs. search needs) add-count
     returns-2
     returns-3
     (λ c. search needs) (λ c. search needs) (λ c. search needs) (λ c. search needs) (λ c. search needs) returns-4)

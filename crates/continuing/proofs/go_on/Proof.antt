@@ -2,8 +2,8 @@
 use native.Mathlib.Omega.{arith}
 use borrow.Author.Needs.{needs}
 use Rattle.answers.specs.Answers.{refused}
-use Rattle.wire.specs.Type9.{segmentOf}
 use Rattle.contexts.proofs.Words.{sixteen}
+use Rattle.stream_rooms.specs.Inside.{streamFor}
 use Rattle.stream_rooms.proofs.Laws.{joined-told, ends-by}
 use Rattle.streams.proofs.Laws.{total-le, own-flow, no-length, go-closed, go-passes, go-placed}
 use Rattle.continuing.proofs.go_on.Statement.{statement}
@@ -73,7 +73,7 @@ end-requires c κs =
           here = opened .if1 .left;
           so-far = own at-room .held-of .ensures;
           behind = rw (← at-room .room .ensures) (within .if2 .left);
-          kind = ends-by _ (fields .flag-bits) (test .before .bit .ensures) (test .if3 .taken);
+          kind = ends-by _ _ (fields .flag-bits) (test .before .bit .ensures) (test .if3 .taken);
         },
       ),
     )
@@ -96,8 +96,8 @@ hold-room-requires c κs =
         fields .data-from,
         record {
           fits = record { context = opened .if1 .left; size = q .size; within = q .within; behind = rw (← at-room .room .ensures) (within .if2 .left) };
-          own = own-flow _ (segmentOf (s .args .packet .now)) (q .flow) (sixteen (s .args .state .now)) (opened .if1 .left);
-          kind = ends-by _ (fields .flag-bits) (test .before .bit .ensures) (test .if3 .left);
+          own = own-flow _ (streamFor (s .args .state .now) (s .args .packet .now)) (q .flow) (sixteen (s .args .state .now)) (opened .if1 .left);
+          kind = ends-by _ _ (fields .flag-bits) (test .before .bit .ensures) (test .if3 .left);
         },
       ),
     )
@@ -113,7 +113,7 @@ returns-4 c =
     let on = s .pre .1 .1 in
     let t = at-hold .hold-room .ensures in (
       go-placed _ _ _ _ (on .start) (on .passed) (opened .if1 .left) (own at-room .held-of .ensures) (at-room .room .ensures) (within .if2 .left)
-          (no-length (segmentOf (s .args .packet .now)) _ (ends-by _ (s .pre .1 .0 .flag-bits) (test .before .bit .ensures) (test .if3 .left))) (t .0),
+          (no-length (streamFor (s .args .state .now) (s .args .packet .now)) _ (ends-by _ _ (s .pre .1 .0 .flag-bits) (test .before .bit .ensures) (test .if3 .left))) (t .0),
       t .1,
     )
 

@@ -1,4 +1,4 @@
--- `cutting::put` meets its contract: each store stands behind the one before, so the three make one run, and one byte 0 or none of it is the pad.
+-- `cutting::put` meets its contract: the second store stands behind the first, so the two make one run, and one byte 0 or none of it is the pad.
 use native.Mathlib.Omega.{arith}
 use lib.ListN.{length-take}
 use Rattle.cutting.proofs.Pad.{put-is}
@@ -15,14 +15,10 @@ store-requires-2 c κs = simp length-take (omega arith)
 returns : tie.Need-returns
 returns c =
     let stored = c .before .before .before .before .before .before .before in
-    let copied = stored .before .before .before .before in
-    let s = copied .before .before .before .before .before in
-    put-is _ (s .args .head .now) (s .args .bytes .now) _ _ _ (s .pre) (copied .copy .ensures) (stored .store .ensures) (c .before .before .store2 .ensures)
+    let s = stored .before .before .before .before in
+    put-is _ (s .args .bytes .now) _ _ (s .args .at) (s .pre) (stored .store .ensures) (c .before .before .store2 .ensures)
 
 pub put-spec : {M : Type 1} → statement M
 put-spec =
     tie.close
-    (tie.spec
-    (λ c κs. search needs) (λ c κs. search needs) (λ c. search needs) (λ c. search needs) slice-aggregate-store
-    store-requires-2
-    (λ c. search needs) returns)
+    (tie.spec (λ c κs. search needs) (λ c. search needs) (λ c. search needs) slice-aggregate-store store-requires-2 (λ c. search needs) returns)

@@ -3,6 +3,7 @@ use Prim.Native.Nat.{ℕ, _+_, _-_, _*_, _≤_}
 use mathlib.Core.Path.{_≡_, refl, _∙_}
 use mathlib.Core.List.{List}
 use lib.ListN.{length, length-take}
+use Rattle.contexts.specs.Words.{stateWords}
 use Rattle.reading.specs.Desk.{Desk, desk}
 use Rattle.log_pieces.specs.Output.{output}
 use Rattle.log_run.proofs.Runs.{still, adds-last, adds-more, few-behind}
@@ -15,7 +16,7 @@ use Rattle.log_print.proofs.print_runs.Tie as tie
 -- the arrays keep their lengths; the bytes put and those still to come are the output's; no more records than bytes were read, and each run
 -- puts at most a buffer and comes on by a byte
 record Sums (log : List ℕ) (b : Desk) (out : List ℕ) (at count total : ℕ) : Type 0 where
-  pub words : length (b .words) ≡ 147
+  pub words : length (b .words) ≡ stateWords
   pub streams : length (b .streamMemory) ≡ 32768
   pub messages : length (b .messageMemory) ≡ 32768
   pub reply : length (b .response) ≡ 7

@@ -18,13 +18,13 @@ abbrev entry : tie.After-all-marked → tie.Start
 entry c = c .before .before .before
 
 -- the length is small
-length-le : tie.Need-mul-t14
+length-le : tie.Need-mul-t15
 length-le c =
     let size = c .before .bytes-of in
     let z : size .result ≤ 256 = rw (size .ensures) (bytes-le _) in
     omega (arith, product-le _ _ (entry (at-test (c .before) .before) .pre .1 .2) z)
 
-length-fits : tie.Need-add-t15
+length-fits : tie.Need-add-t16
 length-fits c =
     let s = entry (at-test (c .before) .before) in
     let size = c .before .bytes-of in

@@ -8,7 +8,7 @@ use Rattle.sizes.proofs.Laws.{bytes-le}
 use Rattle.marks.proofs.Marks.{room-for-mark}
 use Rattle.contexts.specs.Words.{stateOf}
 use Rattle.rules.proofs.Laws.{last-with-le}
-use Rattle.message_rooms.proofs.Laws.{placing, product-le, segment-ends, marks-le}
+use Rattle.message_rooms.proofs.Laws.{placing, can-reply, product-le, segment-ends, marks-le}
 use Rattle.message_rooms.proofs.place.Statement.{statement}
 use Rattle.message_rooms.proofs.place.Tie as tie
 
@@ -45,15 +45,20 @@ add-store c =
 -- the store ends inside the memory
 store-requires : tie.Need-store-requires
 store-requires c κs =
-    let at-bytes = c .before .before .before .before in
+    let at-bytes = c .before .before .before .before .before in
     let s = entry at-bytes in
     let ends = segment-ends _ _ _ _ (s .pre .1 .1 .context) (s .pre .0 .number) (bytes-le (s .args .m .ssize)) (s .pre .1 .0 .fits) in
     simp (at-bytes .bytes-of .ensures, length-take, length-drop) (omega (arith, ends, s .pre .0 .size, s .pre .0 .inside))
 
+done-requires : tie.Need-done-requires
+done-requires c κs =
+    let at-power = c .before .before .before .before .before .before .before .before .before in
+    can-reply (entry (at-power .before) .pre .0)
+
 keep-requires : tie.Need-keep-requires
 keep-requires c κs =
-    let at-store = c .before .before .before .before .before .before .before .before in
-    let at-power = at-store .before .before .before .before in
+    let at-store = c .before .before .before .before .before .before .before .before .before in
+    let at-power = at-store .before .before .before .before .before in
     let s = entry (at-power .before) in
     let m = s .args .m in
     let fits = s .pre .1 .1 in
@@ -66,8 +71,8 @@ returns c =
     let at-keep = c .before .before in
     let at-last = at-keep .before in
     let at-done = at-last .before .before .before .before in
-    let at-store = at-done .before .before .before .before in
-    let at-power = at-store .before .before .before .before in
+    let at-store = at-done .before .before .before .before .before in
+    let at-power = at-store .before .before .before .before .before in
     let at-bytes = at-power .before in
     let s = entry at-bytes in
     let kept = at-keep .keep .ensures in (
@@ -76,9 +81,10 @@ returns c =
           (ap (λ (x : ℕ). s .args .marks + x) (at-power .power .ensures .0))
           (at-last .last-with .ensures)
           (kept .0)
+          (s .pre .0 .inside)
           (at-store .store .ensures)
-          (at-done .done .ensures),
-      kept .1,
+          (at-done .done .ensures .1),
+      rw (← at-done .done .ensures .0) (kept .1),
     )
 
 pub place-spec : {M : Type 1} → statement M
@@ -87,5 +93,5 @@ place-spec =
     (tie.spec
     (λ c κs. search needs) (λ c κs. search needs) add-with-this
     (λ c. search needs) mul-store-2 add-store (λ c. search needs) (λ c. search needs) (λ c. search needs) (λ c. search needs) store-requires
-    (λ c κs. search needs) (λ c κs. search needs) keep-requires
+    done-requires (λ c κs. search needs) keep-requires
     (λ c. search needs) (λ c. search needs) (λ c. search needs) returns)

@@ -5,6 +5,7 @@ use borrow.Author.Tests.{eq-eqb, ne-eqb}
 use borrow.Author.Needs.{needs}
 use Rattle.rules.specs.Messages.{judged}
 use Rattle.rules.proofs.Laws.{sound}
+use Rattle.message_rooms.proofs.Laws.{can-reply}
 use Rattle.messages.proofs.Laws.{step-refused, chosen-refused, chosen-placed, status-small}
 use Rattle.message_step.proofs.take.Statement.{statement}
 use Rattle.message_step.proofs.take.Tie as tie
@@ -33,9 +34,12 @@ judged-fine c = sym (c .before .judge .ensures) ∙ c .if1 .left
 returns : tie.Need-returns
 returns c =
     let at-refuse = c .before .before in
-    let test = at-refuse .before .before in
+    let test = at-refuse .before .before .before in
     let t = at-refuse .refuse .ensures in
     (step-refused _ _ _ _ _ _ (test .before .judge .ensures) (test .if1 .taken) (t .0), t .1)
+
+refuse-requires : tie.Need-refuse-requires
+refuse-requires c κs = (can-reply (entry (c .before .before .before) .pre), search needs)
 
 -- a single-segment message
 take-alone-requires : tie.Need-take-alone-requires
@@ -56,15 +60,15 @@ choose-requires c κs =
 
 refuse-requires-2 : tie.Need-refuse-requires-2
 refuse-requires-2 c κs =
-    let ready = start (c .before .before .before .before) .pre in
-    (ready .reply, omega (arith, ready .inside), rw (c .status-of .ensures) (status-small _))
+    let at-status = c .before .before in
+    (can-reply (start (at-status .before .before .before) .pre), rw (at-status .status-of .ensures) (status-small _))
 
 -- rows 23 to 25
 returns-3 : tie.Need-returns-3
 returns-3 c =
     let at-refuse = c .before .before in
-    let at-status = at-refuse .before in
-    let test = at-status .before .before in
+    let at-status = at-refuse .before .before .before in
+    let test = at-status .before in
     let at-choose = test .before .before in
     let fine = judged-fine (past-form (past-kind at-choose)) in
     let t = at-refuse .refuse2 .ensures in
@@ -91,7 +95,7 @@ pub take-spec : {M : Type 1} → statement M
 take-spec =
     tie.close
     (tie.spec
-    (λ c κs. search needs) (λ c κs. search needs) (λ c. search needs) returns
+    (λ c κs. search needs) refuse-requires (λ c. search needs) (λ c. search needs) returns
     take-alone-requires (λ c. search needs) (λ c. search needs) (λ c. search needs) returns-2
     choose-requires
     (λ c κs. search needs) refuse-requires-2 (λ c. search needs) (λ c. search needs) returns-3

@@ -1,22 +1,21 @@
 -- `packets::read` meets its contract: rows 19 and 12, then, by the number that the packet's head answers, the step of its type.
 use Prim.Native.Nat.{ℕ, _+_, _<_}
-use mathlib.Core.Path.{_≡_, ap, sym, _∙_}
+use mathlib.Core.Path.{_≡_, ap₂, sym, _∙_}
 use lib.ListN.{getD}
 use native.Mathlib.Omega.{arith}
 use borrow.Author.Needs.{needs}
-use Rattle.wire.specs.Packet.{header}
-use Rattle.wire.specs.Type9.{segmentOf}
-use Rattle.wire.specs.Type11.{messageOf}
+use Rattle.wire.specs.Packet.{header, idBytes}
 use Rattle.wire.specs.Parsed.{Stream, Message}
 use Rattle.wire.specs.Inside.{headed}
 use Rattle.reading.specs.Desk.{desk}
-use Rattle.reading.specs.Table.{Lent, lent}
+use Rattle.contexts.specs.State.{idsIn}
+use Rattle.reading.specs.Table.{Lent, lent, stateIn, segmentIn, messageSegmentIn}
 use Rattle.reading.specs.Inside.{ReadyToRead}
 use Rattle.reading.proofs.Lent.{lent-ready}
 use Rattle.reading.proofs.Laws.{refusal-promised, stream-promised, message-promised}
 use Rattle.reading.proofs.Rows.{refused-lent}
 use Rattle.packets.proofs.Parting as parting
-use Rattle.packets.proofs.Parting.{deviceIn, Is}
+use Rattle.packets.proofs.Parting.{headIn, Is}
 use Rattle.packets.proofs.read.Statement.{statement}
 use Rattle.packets.proofs.read.Tie as tie
 
@@ -41,10 +40,13 @@ ready-behind c = lent-ready (lent-to (c .before) .desk) (sym (c .before .lent-re
 device-requires : tie.Need-device-requires
 device-requires c κs = ready-behind (c .before) .fit .whole
 
+narrow-requires : tie.Need-narrow-requires
+narrow-requires c κs = ready-behind (c .before .before .before) .fit .whole
+
 -- ---- where the head has been read: what was lent, that it is ready, and the head's number
 
 abbrev passed : tie.After-head → tie.Else1
-passed c = c .before .before .before
+passed c = c .before .before .before .before .before
 
 abbrev lent-at : tie.After-head → Lent
 lent-at c = lent-to (passed c .before)
@@ -52,8 +54,8 @@ lent-at c = lent-to (passed c .before)
 ready : (c : tie.After-head) → ReadyToRead (lent-at c .desk)
 ready c = ready-behind (passed c)
 
-number : (c : tie.After-head) → c .head .result ≡ headed (deviceIn (lent-at c)) (lent-at c .packet)
-number c = c .head .ensures ∙ ap (λ (d : ℕ). headed d (lent-at c .packet)) (c .before .device .ensures)
+number : (c : tie.After-head) → c .head .result ≡ headIn (lent-at c)
+number c = c .head .ensures ∙ ap₂ (λ (d n : ℕ). headed d (idBytes n) (lent-at c .packet)) (c .before .before .before .device .ensures) (c .before .narrow .ensures)
 
 -- ---- a packet that is refused
 
@@ -65,7 +67,7 @@ returns-2 c =
 
 -- ---- type 9
 
-is-9 : (c : tie.Then3) → let x = lent-at (c .before .before) in Is x (Stream (segmentOf (x .packet)))
+is-9 : (c : tie.Then3) → let x = lent-at (c .before .before) in Is x (Stream (segmentIn x))
 is-9 c = parting.is-9 (lent-at (c .before .before)) _ (number (c .before .before)) (c .before .if2 .left) (c .if3 .taken)
 
 step-requires : tie.Need-step-requires
@@ -84,7 +86,7 @@ returns-3 c =
 
 -- ---- type 11
 
-is-11 : (c : tie.Else3) → let x = lent-at (c .before .before) in Is x (Message (messageOf (x .packet)))
+is-11 : (c : tie.Else3) → let x = lent-at (c .before .before) in Is x (Message (messageSegmentIn x))
 is-11 c = parting.is-11 (lent-at (c .before .before)) _ (number (c .before .before)) (c .before .if2 .left) (c .if3 .left)
 
 step-requires-2 : tie.Need-step-requires-2
@@ -93,8 +95,9 @@ step-requires-2 c κs =
     let at-head = test .before .before in
     let x = lent-at at-head in
     let known = passed at-head .before .before .before .before .before .before .shared-slice-known .given in
-    let a : getD (x .packet) header 0 < 256 = omega (arith, known header) in
-    let b : getD (x .packet) (header + 1) 0 < 256 = omega (arith, known (header + 1)) in
+    let at = header (idsIn (stateIn x)) in
+    let a : getD (x .packet) at 0 < 256 = omega (arith, known at) in
+    let b : getD (x .packet) (at + 1) 0 < 256 = omega (arith, known (at + 1)) in
     parting.ready-11 x (ready at-head) (is-11 test) a b
 
 returns-4 : tie.Need-returns-4
@@ -111,6 +114,6 @@ read-spec =
     tie.close
     (tie.spec
     (λ c κs. search needs) (λ c κs. search needs) (λ c. search needs) (λ c. search needs) (λ c. search needs) (λ c. search needs) returns
-    device-requires (λ c κs. search needs) (λ c κs. search needs) (λ c. search needs) (λ c. search needs) (λ c. search needs) (λ c. search needs) returns-2
+    device-requires narrow-requires (λ c κs. search needs) (λ c κs. search needs) (λ c. search needs) (λ c. search needs) (λ c. search needs) (λ c. search needs) returns-2
     step-requires (λ c. search needs) (λ c. search needs) (λ c. search needs) (λ c. search needs) returns-3
     step-requires-2 (λ c. search needs) (λ c. search needs) (λ c. search needs) (λ c. search needs) returns-4)

@@ -18,11 +18,16 @@ store-data-requires c κs =
     let s = c .before .before .before .before .before in
     (s .pre .0, (s .pre .1 .0 .data-from, s .pre .1 .2))
 
--- a start or single has its streamID
+-- a start or single has its streamID, before its data
+behind-head : tie.Need-sub-word-at
+behind-head c =
+    let s = entry (c .before .before) in
+    omega (arith, start-from _ _ (s .pre .1 .1), s .pre .1 .0 .data-from)
+
 word-at-requires : tie.Need-word-at-requires
 word-at-requires c κs =
     let s = entry (c .before .before) in
-    omega (arith, start-from _ (s .pre .1 .1), s .pre .0 .inside)
+    omega (arith, start-from _ _ (s .pre .1 .1), s .pre .1 .0 .data-from, s .pre .0 .inside)
 
 -- a single
 returns : tie.Need-returns
@@ -33,8 +38,8 @@ returns c =
     let s = entry at-store in
     let fields = s .pre .1 .0 in
     let t = at-deliver .deliver .ensures in (
-      single _ _ _ _ _ _ _ (s .pre .1 .2) (at-store .store-data .ensures) _ (start-field _ (s .pre .1 .1) (test .before .before .word-at .ensures .0))
-          (ends-by _ (fields .flag-bits) (test .before .bit .ensures) (test .if1 .taken)) (fields .sender) (t .0),
+      single _ _ _ _ _ _ _ (s .pre .1 .2) (at-store .store-data .ensures) _ (start-field _ _ (s .pre .1 .1) (fields .data-from) (test .before .before .word-at .ensures .0))
+          (ends-by _ _ (fields .flag-bits) (test .before .bit .ensures) (test .if1 .taken)) (fields .sender) (t .0),
       t .1,
     )
 
@@ -46,13 +51,13 @@ returns-2 c =
     let at-store = store (test .before) in
     let s = entry at-store in
     let fields = s .pre .1 .0 in
-    joined-told held (c .holding .ensures) (start _ _ _ _ _ _ _ (s .pre .1 .2) (at-store .store-data .ensures) _ (start-field _ (s .pre .1 .1) (test .before .before .word-at .ensures .0))
-    (ends-by _ (fields .flag-bits) (test .before .bit .ensures) (test .if1 .left)) (fields .sender) (at-keep .keep-stream .ensures))
+    joined-told held (c .holding .ensures) (start _ _ _ _ _ _ _ (s .pre .1 .2) (at-store .store-data .ensures) _ (start-field _ _ (s .pre .1 .1) (fields .data-from) (test .before .before .word-at .ensures .0))
+    (ends-by _ _ (fields .flag-bits) (test .before .bit .ensures) (test .if1 .left)) (fields .sender) (at-keep .keep-stream .ensures))
 
 pub begin-room-spec : {M : Type 1} → statement M
 begin-room-spec =
     tie.close
     (tie.spec
-    store-data-requires (λ c. search needs) word-at-requires (λ c κs. search needs)
+    store-data-requires behind-head word-at-requires (λ c κs. search needs)
     (λ c κs. search needs) (λ c. search needs) (λ c. search needs) returns
     (λ c κs. search needs) (λ c κs. search needs) (λ c. search needs) (λ c. search needs) returns-2)

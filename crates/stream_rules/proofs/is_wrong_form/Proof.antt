@@ -1,5 +1,6 @@
--- `stream_rules::is_wrong_form` meets its contract: each return follows from the tests on the way.
-use Rattle.rules.proofs.Segments.{no-data, odd-bytes, by-O}
+-- `stream_rules::is_wrong_form` meets its contract: each return follows from the test on the way.
+use borrow.Author.Needs.{needs}
+use Rattle.rules.proofs.Segments.{no-data, by-four}
 use Rattle.stream_rules.proofs.is_wrong_form.Statement.{statement}
 use Rattle.stream_rules.proofs.is_wrong_form.Tie as tie
 
@@ -7,13 +8,9 @@ use Rattle.stream_rules.proofs.is_wrong_form.Tie as tie
 returns : tie.Need-returns
 returns c = no-data _ (c .before .args .flags) (c .if1 .taken)
 
--- odd bytes of data
+-- odd bytes of data, or O
 returns-2 : tie.Need-returns-2
-returns-2 c = odd-bytes _ (c .before .before .args .flags) (c .before .if1 .left) (c .if2 .taken)
-
--- O
-returns-3 : tie.Need-returns-3
-returns-3 c = by-O _ (c .before .before .args .flags) (c .before .if1 .left) (c .if2 .left)
+returns-2 c = by-four _ (c .before .args .flags) (c .if1 .left)
 
 pub is-wrong-form-spec : {M : Type 1} → statement M
-is-wrong-form-spec = tie.close (tie.spec returns returns-2 returns-3)
+is-wrong-form-spec = tie.close (tie.spec returns (λ c. search needs) returns-2)
