@@ -11,7 +11,7 @@ respond-requires : tie.Need-respond-requires
 respond-requires c κs =
     let s = c .before .before .before .before .before in
     let able = reply-requires _ (c .narrow .ensures) (s .pre .0) in
-    (able .0, able .1, s .pre .1)
+    (able .0, able .1, search needs)
 
 returns : tie.Need-returns
 returns c =
