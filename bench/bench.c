@@ -11,7 +11,13 @@
 #include <string.h>
 #include <time.h>
 
-enum { PACKETS = 2048, LONGEST = 300, STATE = KAIVEROHM_STATE_WORDS, ROOM = 4096 };
+enum {
+    PACKETS = 2048,
+    LONGEST = 300,
+    STATE = KAIVEROHM_STATE_WORDS,
+    REPORT = KAIVEROHM_REPORT_WORDS,
+    ROOM = 4096
+};
 
 static uint8_t packets[PACKETS][LONGEST];
 static size_t lengths[PACKETS];
@@ -23,7 +29,7 @@ static uint8_t burst[PACKETS * (LONGEST + 2)];
 static size_t burst_length;
 
 static uint8_t streams[16 * ROOM], messages[32768];
-static uint64_t state[STATE], reports[PACKETS * 9];
+static uint64_t state[STATE], reports[PACKETS * REPORT];
 static uint8_t responses[PACKETS * 8], response[7];
 static struct twin twin;
 
@@ -44,6 +50,8 @@ static void add(const uint8_t *packet, size_t length)
     lengths[count++] = length;
 }
 
+static unsigned priorities = 1; /* at which each board sends */
+
 /* segment k of a PDU of so many segments, once from each of so many flows */
 static void add_segments(unsigned flows, uint16_t stream, uint64_t segments, uint64_t k)
 {
@@ -52,9 +60,11 @@ static void add_segments(unsigned flows, uint16_t stream, uint64_t segments, uin
     for (size_t i = 0; i < sizeof pdu; i++)
         pdu[i] = (uint8_t)(7 * i + i / 256);
     for (unsigned flow = 0; flow < flows; flow++) {
-        struct kaiverohm_heading h = {
-            .destination = 1, .source = (uint16_t)(flow + 2), .stream = stream, .cos = 5
-        };
+        struct kaiverohm_heading h = { .destination = 1,
+                                       .source = (uint16_t)(flow / priorities + 2),
+                                       .stream = stream,
+                                       .cos = 5,
+                                       .priority = (uint8_t)(flow % priorities) };
         struct kaiverohm_answer a =
             kaiverohm_write_segment(out, sizeof out, h, mtu, pdu, segments * mtu, k);
         payload += mtu;
@@ -82,6 +92,13 @@ static void make_streams(void)
     for (uint16_t stream = 0; count < PACKETS; stream++)
         for (uint64_t k = 0; k < 8; k++)
             add_segments(16, stream, 8, k);
+}
+
+/* the same sixteen from four boards, each at four priorities */
+static void make_priorities(void)
+{
+    priorities = 4;
+    make_streams();
 }
 
 static void make_messages(void)
@@ -165,7 +182,7 @@ static void round_burst(void)
 {
     struct kaiverohm_burst b =
         kaiverohm_read_burst(state, STATE, streams, 16 * ROOM, messages, 32768, responses,
-                             sizeof responses, reports, PACKETS * 9, burst, burst_length, 0);
+                             sizeof responses, reports, PACKETS * REPORT, burst, burst_length, 0);
     sum += b.count;
 }
 
@@ -201,9 +218,10 @@ static const struct {
     const char *name;
     size_t mtu;
     void (*make)(void);
-} traffics[] = { { "streams32", 32, make_streams }, { "streams256", 256, make_streams },
-                 { "messages", 32, make_messages }, { "refused", 32, make_refused },
-                 { "idle", 256, make_idle },        { "half", 256, make_half } };
+} traffics[] = { { "streams32", 32, make_streams },    { "streams256", 256, make_streams },
+                 { "messages", 32, make_messages },    { "refused", 32, make_refused },
+                 { "idle", 256, make_idle },           { "half", 256, make_half },
+                 { "priorities", 32, make_priorities } };
 
 static void make(const char *name)
 {
@@ -250,7 +268,7 @@ static void agree(void)
         same(a.kind == b.kind && a.number == b.number && a.dropped == b.dropped
                  && a.context == b.context && a.source == b.source
                  && a.cos_or_letter == b.cos_or_letter && a.stream_or_mailbox == b.stream_or_mailbox
-                 && a.length == b.length,
+                 && a.length == b.length && a.priority == b.priority,
              "answers", i);
         same(memcmp(state, &twin, sizeof twin) == 0, "states", i);
         same(memcmp(response, twin_response, sizeof response) == 0, "responses", i);
@@ -269,7 +287,7 @@ static void agree(void)
 
     struct kaiverohm_burst b =
         kaiverohm_read_burst(state, STATE, streams, 16 * ROOM, messages, 32768, responses,
-                             sizeof responses, reports, PACKETS * 9, burst, burst_length, 0);
+                             sizeof responses, reports, PACKETS * REPORT, burst, burst_length, 0);
     same(b.stop == KAIVEROHM_BURST_END && b.count == count, "bursts", b.count);
     same(memcmp(reports, answers, count * sizeof answers[0]) == 0, "reports of a burst", count);
     same(memcmp(state, &twin, sizeof twin) == 0, "states behind a burst", count);

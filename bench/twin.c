@@ -61,10 +61,12 @@ static inline struct twin_report refused_closing(struct twin *t, int found, unsi
     return refused(number, true);
 }
 
-static inline int find_stream(const struct twin *t, uint64_t source, uint64_t cos)
+static inline int find_stream(const struct twin *t, uint64_t source, uint64_t priority,
+                              uint64_t cos)
 {
     for (int i = 0; i < 16; i++)
-        if (t->streams[i].source == source && t->streams[i].cos == cos && t->streams[i].live)
+        if (t->streams[i].source == source && t->streams[i].priority == priority
+            && t->streams[i].cos == cos && t->streams[i].live)
             return i;
     return 16;
 }
@@ -99,10 +101,10 @@ static INLINE struct twin_report read_stream(struct twin *t, uint8_t *memory, co
     size_t from = start || end ? h + 4 : h + 2;
     if (length < from)
         return refused(1, false);
-    uint64_t source = id_at(p + 1 + ids, ids), cos = p[h];
+    uint64_t source = id_at(p + 1 + ids, ids), priority = p[0] >> 6, cos = p[h];
     size_t raw = length - from;
     unsigned field = start || end ? p[h + 2] << 8 | p[h + 3] : 0;
-    int found = find_stream(t, source, cos);
+    int found = find_stream(t, source, priority, cos);
     if (raw == 0 || raw % 2 == 1 || (raw / 2 % 2 == 1) != !!(flags & 2))
         return refused_closing(t, found, 6);
     size_t size = raw - (flags & 1);
@@ -127,11 +129,12 @@ static INLINE struct twin_report read_stream(struct twin *t, uint8_t *memory, co
     }
     memcpy(memory + n * t->room + base, p + from, size);
     if (!end) {
-        t->streams[n] = (struct twin_stream){ 1, source, cos, stream, base + size };
+        t->streams[n] = (struct twin_stream){ 1, source, priority, cos, stream, base + size };
         return (struct twin_report){ .kind = TWIN_HELD, .dropped = dropped };
     }
     close_stream(t, n);
-    return (struct twin_report){ TWIN_DELIVERED, 0, dropped, n, source, cos, stream, base + size };
+    return (struct twin_report){ TWIN_DELIVERED, 0,           dropped, n, source, cos,
+                                 stream,         base + size, priority };
 }
 
 static INLINE void respond(uint8_t *r, const uint8_t *p, unsigned ids, unsigned status)
@@ -155,7 +158,7 @@ static inline struct twin_report whole_message(struct twin *t, int n, uint64_t s
                                                uint64_t letter, uint64_t mailbox, uint64_t length)
 {
     t->messages[n] = (struct twin_message){ 0 };
-    return (struct twin_report){ TWIN_MESSAGE, 0, 0, n, source, letter, mailbox, length };
+    return (struct twin_report){ TWIN_MESSAGE, 0, 0, n, source, letter, mailbox, length, 0 };
 }
 
 static INLINE struct twin_report read_message(struct twin *t, uint8_t *memory, uint8_t *response,

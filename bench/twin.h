@@ -8,7 +8,7 @@
 #include <stdint.h>
 
 struct twin_stream {
-    uint64_t live, source, cos, stream, held;
+    uint64_t live, source, priority, cos, stream, held;
 };
 
 struct twin_message {
@@ -24,7 +24,8 @@ struct twin {
 enum twin_kind { TWIN_REFUSED, TWIN_HELD, TWIN_DELIVERED, TWIN_MESSAGE };
 
 struct twin_report {
-    uint64_t kind, number, dropped, context, source, cos_or_letter, stream_or_mailbox, length;
+    uint64_t kind, number, dropped, context, source, cos_or_letter, stream_or_mailbox, length,
+        priority;
 };
 
 void twin_setup(struct twin *t, unsigned device, size_t mtu, size_t room, unsigned narrow);

@@ -38,8 +38,9 @@ static int packet_came(const uint8_t *packet, size_t length)
     switch (report.kind) {
     case KAIVEROHM_HELD: printf("held\n"); break;
     case KAIVEROHM_DELIVERED:
-        printf("delivered, source %" PRIu64 ", cos %" PRIu64 ", stream %" PRIu64 "\n",
-               report.source, report.cos_or_letter, report.stream_or_mailbox);
+        printf("delivered, source %" PRIu64 ", priority %" PRIu64 ", cos %" PRIu64
+               ", stream %" PRIu64 "\n",
+               report.source, report.priority, report.cos_or_letter, report.stream_or_mailbox);
         print_bytes(&report);
         break;
     case KAIVEROHM_MESSAGE:
@@ -49,7 +50,8 @@ static int packet_came(const uint8_t *packet, size_t length)
         break;
     default: printf("refused: %s\n", kaiverohm_refusal_words(report.number)); break;
     }
-    /* A packet, refused or not, may have given an unfinished PDU of its flow up. */
+    /* A packet, refused or not, may have given an unfinished PDU of its flow up: of the
+       same source, priority and cos. */
     if (report.dropped)
         printf("an unfinished PDU was dropped\n");
     /* A message segment has a response, which goes back to its sender. */
@@ -62,7 +64,7 @@ int main(void)
 {
     static const char text[] = "Wheel 7, left: 412 echoes, no crack found, tread worn by 2 mm.";
     const struct kaiverohm_heading heading = {
-        .destination = DEVICE, .source = 2, .stream = 7, .cos = 5, .priority = 0
+        .destination = DEVICE, .source = 2, .stream = 7, .cos = 5, .priority = 1
     };
     const size_t length = sizeof text - 1;
 

@@ -1,7 +1,8 @@
 /* A board that keeps to condition 8 of docs/THREATS.md: a PDU that is open for
-   longer than a scan takes is abandoned. After each packet it asks what is open; a real board asks by its clock
-   too.
-   Here one board's scan never ends, and another's does. */
+   longer than a scan takes is abandoned. After each packet it asks what is open; a
+   real board asks by its clock too.
+   Here one board's scan never ends, and another's does. A scan at another priority
+   is of another flow, so it leaves the one that is open alone. */
 
 #include <inttypes.h>
 #include <stdio.h>
@@ -32,8 +33,8 @@ static unsigned since[KAIVEROHM_STREAM_CONTEXTS];
    apart by the packet that began the second: its report says `dropped`. */
 static int same_pdu(struct kaiverohm_open_stream a, struct kaiverohm_open_stream b)
 {
-    return a.kind == b.kind && a.source == b.source && a.cos == b.cos && a.stream == b.stream
-           && a.held <= b.held;
+    return a.kind == b.kind && a.source == b.source && a.priority == b.priority && a.cos == b.cos
+           && a.stream == b.stream && a.held <= b.held;
 }
 
 static void look(uint64_t n, unsigned now)
@@ -44,28 +45,29 @@ static void look(uint64_t n, unsigned now)
     seen[n] = s;
     if (s.kind != KAIVEROHM_OPEN || now - since[n] < LONGEST)
         return;
-    printf("  context %" PRIu64 " is open too long: source %" PRIu64 ", cos %" PRIu64
-           ", stream %" PRIu64 ", %" PRIu64 " bytes held. Abandoned: this scan is missing\n",
-           n, s.source, s.cos, s.stream, s.held);
+    printf("  context %" PRIu64 " is open too long: source %" PRIu64 ", priority %" PRIu64
+           ", cos %" PRIu64 ", stream %" PRIu64 ", %" PRIu64
+           " bytes held. Abandoned: this scan is missing\n",
+           n, s.source, s.priority, s.cos, s.stream, s.held);
     kaiverohm_desk_abandon_stream(&desk, n);
     seen[n].kind = KAIVEROHM_WAS_FREE;
 }
 
 /* The packet gave an unfinished PDU of its flow up: what is open there now is another. */
-static void forget(uint64_t source, uint64_t cos)
+static void forget(struct kaiverohm_heading h)
 {
     for (uint64_t n = 0; n < KAIVEROHM_STREAM_CONTEXTS; n++)
-        if (seen[n].source == source && seen[n].cos == cos)
+        if (seen[n].source == h.source && seen[n].priority == h.priority && seen[n].cos == h.cos)
             seen[n].kind = KAIVEROHM_WAS_FREE;
 }
 
 /* One segment of a PDU of three, as its board sends it. */
-static int came(unsigned now, uint16_t source, uint16_t stream, uint64_t segment)
+static int came(unsigned now, uint16_t source, uint8_t priority, uint16_t stream, uint64_t segment)
 {
     static const uint8_t pdu[3 * MTU] = "echoes of a wheel";
     static const char *const words[] = { "refused", "held", "delivered", "message" };
     const struct kaiverohm_heading heading = {
-        .destination = DEVICE, .source = source, .stream = stream, .cos = 5, .priority = 0
+        .destination = DEVICE, .source = source, .stream = stream, .cos = 5, .priority = priority
     };
     uint8_t packet[KAIVEROHM_LARGEST_PACKET];
     struct kaiverohm_answer written =
@@ -73,10 +75,10 @@ static int came(unsigned now, uint16_t source, uint16_t stream, uint64_t segment
     if (written.kind != KAIVEROHM_WRITTEN)
         return 0;
     struct kaiverohm_report r = kaiverohm_desk_read(&desk, packet, written.number);
-    printf("%u: board %d, stream %d, segment %" PRIu64 ": %s\n", now, source, stream, segment,
-           words[r.kind]);
+    printf("%u: board %d, priority %d, stream %d, segment %" PRIu64 ": %s\n", now, source, priority,
+           stream, segment, words[r.kind]);
     if (r.dropped)
-        forget(source, heading.cos);
+        forget(heading);
     for (uint64_t n = 0; n < KAIVEROHM_STREAM_CONTEXTS; n++)
         look(n, now);
     return 1;
@@ -84,19 +86,21 @@ static int came(unsigned now, uint16_t source, uint16_t stream, uint64_t segment
 
 int main(void)
 {
-    /* when, board, stream, segment */
-    static const uint16_t packets[][4] = {
-        { 0, 2, 7, 0 },   { 1, 3, 40, 0 },  { 2, 3, 40, 1 },
-        { 3, 3, 40, 2 }, /* board 2 has said nothing since 0 */
-        { 4, 2, 7, 1 },  /* what still comes of the abandoned PDU is refused 8 */
-        { 5, 2, 8, 0 },   { 6, 2, 8, 1 },   { 7, 2, 8, 2 },
-        { 8, 3, 41, 0 },  { 10, 3, 41, 0 }, /* begun again: its time begins again too */
-        { 12, 3, 41, 1 }, { 12, 3, 41, 2 },
+    /* when, board, priority, stream, segment */
+    static const uint8_t packets[][5] = {
+        { 0, 2, 0, 7, 0 },   { 1, 3, 0, 40, 0 },
+        { 2, 3, 0, 40, 1 },  { 3, 3, 0, 40, 2 }, /* board 2 has said nothing since 0 */
+        { 4, 2, 0, 7, 1 }, /* what still comes of the abandoned PDU is refused 8 */
+        { 5, 2, 0, 8, 0 },   { 6, 2, 1, 9, 0 }, /* an urgent scan overtakes, and drops nothing */
+        { 6, 2, 1, 9, 1 },   { 6, 2, 1, 9, 2 },
+        { 6, 2, 0, 8, 1 },   { 7, 2, 0, 8, 2 },
+        { 8, 3, 0, 41, 0 },  { 10, 3, 0, 41, 0 }, /* begun again: its time begins again too */
+        { 12, 3, 0, 41, 1 }, { 12, 3, 0, 41, 2 },
     };
     if (!begin())
         return 1;
     for (size_t i = 0; i < sizeof packets / sizeof packets[0]; i++)
-        if (!came(packets[i][0], packets[i][1], packets[i][2], packets[i][3]))
+        if (!came(packets[i][0], packets[i][1], packets[i][2], packets[i][3], packets[i][4]))
             return 1;
     return 0;
 }

@@ -46,6 +46,13 @@
    out of range, or an open context has numbers that cannot be. It was never set
    up, or somebody wrote over it.
 
+   A flow is a source ID, a priority and a class of service, cos. A stream context
+   holds the PDU of one flow, so all packets of a PDU have one priority. A packet
+   that differs in the priority alone is of another flow: it is not joined to that
+   PDU and does not give it up. A board that sends under one cos at two priorities
+   has two flows, and may need two of the 16 contexts. A message is known by source,
+   letter and mbox; its segments may come at different priorities.
+
    A caller who keeps one endpoint writes its buffers down once, in a struct
    kaiverohm_desk, and uses the calls at the end of this file.
 
@@ -67,22 +74,23 @@
 extern "C" {
 #endif
 
-#define KAIVEROHM_VERSION "0.2"
+#define KAIVEROHM_VERSION "0.3"
 #define KAIVEROHM_VERSION_MAJOR 0
-#define KAIVEROHM_VERSION_MINOR 2
+#define KAIVEROHM_VERSION_MINOR 3
 
 /* It rises whenever a function, a struct or a constant of this file changes.
    What is only added leaves it. kaiverohm_interface says the archive's: compare
    the two once, before the first call.
 
-   Interface 2 has IDs of 8 bits. Who comes from 1 compiles anew, hands setup its
-   numbers in a struct kaiverohm_settings and gives a struct kaiverohm_heading its
-   field narrow (left out of an initializer, it is 0: IDs of 16 bits, as before).
-   A state has one word more, so each is set up anew: one of 147 words is refused
-   by 12. */
-#define KAIVEROHM_INTERFACE 2
+   In interface 3 the priority belongs to the flow. Who comes from 2 compiles anew,
+   sets each state up anew (one of 148 words is refused by 12, never misread), and
+   lends one word more for each report of a burst (KAIVEROHM_REPORT_WORDS is 10).
+   Who comes from 1 also hands setup its numbers in a struct kaiverohm_settings and
+   gives a struct kaiverohm_heading its field narrow (left out of an initializer, it
+   is 0: IDs of 16 bits, as before). */
+#define KAIVEROHM_INTERFACE 3
 
-#define KAIVEROHM_STATE_WORDS 148      /* a state: 148 words of 8 bytes */
+#define KAIVEROHM_STATE_WORDS 164      /* a state: 164 words of 8 bytes */
 #define KAIVEROHM_STREAM_CONTEXTS 16   /* stream memory: 16 rooms of R bytes */
 #define KAIVEROHM_MESSAGE_CONTEXTS 8   /* message memory: 8 rooms of 4,096 */
 #define KAIVEROHM_MESSAGE_ROOM 4096    /* one room */
@@ -90,7 +98,7 @@ extern "C" {
 #define KAIVEROHM_RESPONSE_BYTES 7     /* always enough for a type 13 response */
 #define KAIVEROHM_LARGEST_PDU 65536    /* the bytes of a PDU: 1 to 65,536 */
 #define KAIVEROHM_LARGEST_PACKET 265   /* of what the segment writer writes */
-#define KAIVEROHM_REPORT_WORDS 9       /* a report in a burst: 9 words */
+#define KAIVEROHM_REPORT_WORDS 10      /* a report in a burst: 10 words */
 #define KAIVEROHM_SLOT_BYTES 8         /* for a response in a burst: 8 bytes */
 
 /* The bytes of a packet in a record: 0 to 16,383. */
@@ -202,8 +210,9 @@ struct kaiverohm_report {
     uint64_t kind;              /* refused, held, delivered or message */
     uint64_t number;            /* refused: the refusal */
     uint64_t dropped;           /* any kind: 1 where this packet gave an unfinished
-                                   PDU up: refused 6, 7, 9 or 11, or a start or
-                                   single on a flow that had one. Else 0 */
+                                   PDU up, of its own source, priority and cos:
+                                   refused 6, 7, 9 or 11, or a start or single on
+                                   a flow that had one. Else 0 */
     uint64_t response;          /* any kind: bytes of response written. 0 for none; else
                                    7, or 5 where IDs have 8 bits */
     uint64_t context;           /* delivered, message: the context, so the room */
@@ -211,6 +220,7 @@ struct kaiverohm_report {
     uint64_t cos_or_letter;     /* delivered: cos. message: letter */
     uint64_t stream_or_mailbox; /* delivered: streamID. message: mailbox */
     uint64_t length;            /* delivered, message: its bytes in the room */
+    uint64_t priority;          /* delivered: the priority of its flow */
 };
 
 /* The answer to a burst. */
@@ -229,12 +239,13 @@ struct kaiverohm_place {
 
 /* What a stream context holds. Fields that a kind does not name are 0. */
 struct kaiverohm_open_stream {
-    uint64_t kind;   /* open, was free or refused */
-    uint64_t number; /* refused: the refusal */
-    uint64_t source; /* open: who sends the PDU */
-    uint64_t cos;    /* open: under which class of service */
-    uint64_t stream; /* open: its streamID */
-    uint64_t held;   /* open: how many of its bytes are in the room */
+    uint64_t kind;     /* open, was free or refused */
+    uint64_t number;   /* refused: the refusal */
+    uint64_t source;   /* open: who sends the PDU */
+    uint64_t cos;      /* open: under which class of service */
+    uint64_t stream;   /* open: its streamID */
+    uint64_t held;     /* open: how many of its bytes are in the room */
+    uint64_t priority; /* open: at which priority it is sent */
 };
 
 /* What a message context holds. Fields that a kind does not name are 0. */
@@ -257,7 +268,7 @@ struct kaiverohm_heading {
     uint16_t source;      /* likewise */
     uint16_t stream;
     uint8_t cos;
-    uint8_t priority; /* 0 to 3 */
+    uint8_t priority; /* 0 to 3, one for all segments of a PDU */
     uint64_t narrow;  /* 0: IDs of 16 bits; any other number: of 8 */
 };
 
@@ -274,15 +285,15 @@ struct kaiverohm_settings {
    Promise: crates/kaiverohm/specs/Exports.antt, InterfacePromise. */
 uint64_t kaiverohm_interface(void);
 
-/* The words of a state: 148.
+/* The words of a state: 164.
    Promise: crates/endpoint/specs/Calls.antt, LengthPromise. */
 uint64_t kaiverohm_state_length(void);
 
 /* Makes a state for a device ID, an MTU, rooms of R bytes and a width of the IDs.
 
-   state: 148 words, written. What stood there is not looked at.
+   state: 164 words, written. What stood there is not looked at.
    Answers READY; or REFUSED, in this order:
-     12  the state has another length than 148. All stays.
+     12  the state has another length than 164. All stays.
      47  IDs have 8 bits and the device is over 255. The state is zeros.
      18  the MTU is no multiple of 4 from 32 to 256. The state is zeros.
      19  R is under the MTU or over 65,536. The state is zeros.
@@ -295,13 +306,13 @@ struct kaiverohm_answer kaiverohm_setup(uint64_t *state, size_t state_words,
 /* clang-format off */
 /* Reads one packet: the wire packet without its first link byte, CRC and fill.
 
-   state:          148 words, read and written.
+   state:          164 words, read and written.
    stream_memory:  exactly 16 R bytes, written. Room n begins at n R.
    message_memory: exactly 32,768 bytes, written. Room n begins at 4,096 n.
    response:       7 bytes or more. The first 7 may be written.
    packet:         any number of bytes, read.
    Answers HELD, DELIVERED, MESSAGE or REFUSED, by the first that holds: 12 (the
-   state has another length than 148); 19; 12 (another buffer has the wrong one);
+   state has another length than 164); 19; 12 (another buffer has the wrong one);
    1 (under 5 bytes), 2, 3, 4; 1 (under 7 bytes); then for type 9: 5; 1 (a start,
    an end or a single, under 9 bytes); 6 to 11; for type 11: 20 to 25.
    The lengths of a response and of a packet are those with IDs of 16 bits. With
@@ -313,10 +324,12 @@ struct kaiverohm_answer kaiverohm_setup(uint64_t *state, size_t state_words,
      type 11 accepted  its data go into a message room, the context's words are
                        written, all 0 where the message is whole, and the
                        response, DONE.
-     refused           19, 12, 1 to 5, 8, 10: all stays. 6, 7, 9, 11: the flow's
-                       context is closed if it was open, all else stays.
+     refused           19, 12, 1 to 5, 8, 10: all stays. 6, 7, 9, 11: the context
+                       of its flow is closed if it was open, all else stays.
                        20 to 25: the response is written, ERROR, or RETRY for
                        25; all else stays.
+   The flow of a type 9 packet is its source, its priority (byte 0, the upper two
+   bits) and its cos, and these are what a delivery says.
    A response is a whole type 13 packet, with IDs of our width. It is the caller
    who sends it. report.response says whether it was written, and how many bytes
    it has (crates/c_promises/specs/OfCalls.antt, ReportsReply). A delivered room
@@ -337,8 +350,8 @@ struct kaiverohm_report kaiverohm_read(uint64_t *state, size_t state_words,
                refused by 12, with IDs of 8 bits under 5. Packet k may write the
                first 7 of the 8 bytes from 8 k on, with IDs of 8 bits the first
                5; report k says whether it did.
-   reports:    9 words for each packet: a struct kaiverohm_report, from 9 k on.
-               An array of them may be lent, as (uint64_t *)array and 9 words
+   reports:    10 words for each packet: a struct kaiverohm_report, from 10 k on.
+               An array of them may be lent, as (uint64_t *)array and 10 words
                for each. Any length is allowed, 0 too: it only bounds how many
                packets are read.
    burst:      records, each a length and that many packet bytes, read. A
@@ -347,7 +360,7 @@ struct kaiverohm_report kaiverohm_read(uint64_t *state, size_t state_words,
                kaiverohm_write_record writes one.
    pause:      0, or another number to stop behind each delivery.
    It reads packets until the end of the burst, a record that is none, the last
-   packet that has 9 words of report and 8 bytes of response, or, with pause, a
+   packet that has 10 words of report and 8 bytes of response, or, with pause, a
    packet that delivers a PDU or a message.
    Answers
      END       all were read.
@@ -355,7 +368,7 @@ struct kaiverohm_report kaiverohm_read(uint64_t *state, size_t state_words,
                were read. It is BAD also where there is no room: BAD comes
                before FULL.
      FULL      a whole record stands at next and has no room. Call again from
-               there; but where count is 0, with more room: under 9 words of
+               there; but where count is 0, with more room: under 10 words of
                reports or 8 bytes of responses no packet is ever read.
      DELIVERY  the last report delivers. Take its bytes out of the room, then
                call again from next, also where no record is left: that call
@@ -376,13 +389,13 @@ struct kaiverohm_burst kaiverohm_read_burst(uint64_t *state, size_t state_words,
                                             uint64_t pause);
 
 /* What stream context n holds, or message context n. A held segment's answer
-   does not say which context it went to: ask after all 16 and look for its flow,
-   or after all 8 and look for its source, letter and mbox; of two the lower number
-   counts. Nothing changes.
+   does not say which context it went to: ask after all 16 and look for its source,
+   priority and cos, or after all 8 and look for its source, letter and mbox; of two
+   the lower number counts. Nothing changes.
 
-   state: 148 words, read.
+   state: 164 words, read.
    Answers OPEN, and what is open there; WAS_FREE; or REFUSED, in this order:
-     12  the state has another length than 148.
+     12  the state has another length than 164.
      19  it is a state that 19 names.
      13  n is over 15, or for messages over 7.
    The words of the state themselves are no interface: docs/LAYOUTS.md has them
@@ -397,10 +410,10 @@ struct kaiverohm_open_message kaiverohm_message_context(const uint64_t *state, s
 
 /* Gives the PDU in stream context n up, or the message in message context n.
 
-   state: 148 words, read and written.
+   state: 164 words, read and written.
    Answers CLOSED, and the context's words are 0; WAS_FREE, and all stays; or
    REFUSED, in this order, and all stays:
-     12  the state has another length than 148.
+     12  the state has another length than 164.
      19  it is a state that 19 names.
      13  n is over 15, or for messages over 7.
    Promises: crates/kaiverohm/specs/Exports.antt, AbandonStreamFromCPromise and
@@ -413,7 +426,7 @@ struct kaiverohm_answer kaiverohm_abandon_message(uint64_t *state, size_t state_
    report, kaiverohm_stream_room(state, words, stream_length, report.context,
    report.length).
 
-   state: 148 words, read.
+   state: 164 words, read.
    size:  the length of your stream memory, or your message memory.
    Answers the offset and l. Where n is past the last context, l is over the
    room, size is not what kaiverohm_read needs, or the state is one that is

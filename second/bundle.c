@@ -3,7 +3,7 @@
 #include <stdlib.h>
 #include <string.h>
 
-enum { MOST_SECTIONS = 40 };
+enum { MOST_SECTIONS = 60 };
 
 static struct buffer all_in;
 static struct buffer all_out;
@@ -154,47 +154,68 @@ void wants(const char *lines)
     release(&wanted);
 }
 
+void wants_after_held(int count, const char *lines)
+{
+    char all[1000];
+    size_t place = 0;
+    for (int i = 0; i < count; i++)
+        place += (size_t)snprintf(all + place, sizeof all - place, "held, ");
+    snprintf(all + place, sizeof all - place, "%s", lines);
+    wants(all);
+}
+
+void responds(const char *lines_of_16_bits, const char *lines_of_8_bits)
+{
+    struct buffer wanted = lines_text(eight_bits ? lines_of_8_bits : lines_of_16_bits);
+    struct buffer output = { 0 };
+    run_responses(&output, eight_bits, log_bytes.bytes, log_bytes.length);
+    must_be_same(log_name, &output, &wanted);
+    release(&output);
+    release(&wanted);
+}
+
 void append_pdu(struct buffer *pdus, struct pdu pdu)
 {
     char line[100];
-    snprintf(line, sizeof line, "pdu %u %u %u %zu\n", pdu.flow.source, pdu.flow.cos, pdu.stream,
-             pdu.length);
+    snprintf(line, sizeof line, "pdu %u %u %u %zu at %u\n", pdu.flow.source, pdu.flow.cos,
+             pdu.stream, pdu.length, pdu.flow.priority);
     append_text(pdus, line);
 }
 
-/* A line without its newline, and without " dropped". */
-static size_t plain_length(const char *line, size_t length)
+static struct pdu pdu_of(struct second_answer answer)
 {
-    const size_t word = strlen(" dropped");
-    if (length > word && memcmp(line + length - word, " dropped", word) == 0)
-        return length - word;
-    return length;
+    const struct pdu pdu = {
+        .flow = { .priority = (unsigned)answer.priority,
+                  .source = (unsigned)answer.source,
+                  .cos = (unsigned)answer.cos_or_letter },
+        .stream = (unsigned)answer.stream_or_mailbox,
+        .length = answer.length,
+    };
+    return pdu;
 }
 
-static struct buffer pdu_lines(const struct buffer *output)
+/* The PDUs that the log delivers. */
+static struct buffer delivered_pdus(void)
 {
+    static struct log_endpoint endpoint;
     struct buffer pdus = { 0 };
-    const char *line = (const char *)output->bytes;
-    const char *behind = line + output->length;
-    while (line < behind) {
-        size_t length = (size_t)((const char *)memchr(line, '\n', (size_t)(behind - line)) - line);
-        if (memcmp(line, "pdu", 3) == 0) {
-            append(&pdus, line, plain_length(line, length));
-            append_text(&pdus, "\n");
-        }
-        line += length + 1;
+    log_setup(&endpoint, eight_bits);
+    struct record record = next_record(log_bytes.bytes, log_bytes.length, 0);
+    while (record.kind == RECORD) {
+        struct second_answer answer = log_read(&endpoint, record.packet, record.length);
+        if (answer.kind == SECOND_PDU)
+            append_pdu(&pdus, pdu_of(answer));
+        record = next_record(log_bytes.bytes, log_bytes.length, record.next);
     }
     return pdus;
 }
 
 void finish_delivering(const struct buffer *pdus)
 {
-    struct buffer output = printed();
-    struct buffer delivered = pdu_lines(&output);
+    struct buffer delivered = delivered_pdus();
     must_be_same(log_name, &delivered, pdus);
-    keep(&output);
     release(&delivered);
-    release(&output);
+    finish();
 }
 
 /* ---- The whole ---------------------------------------------------------- */

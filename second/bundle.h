@@ -25,14 +25,22 @@ void put_pdu_without(struct pdu pdu, unsigned lost);
    paper: ", " stands between two lines. */
 void wants(const char *lines);
 
+/* The same: so many lines of packets that are held, and then these. */
+void wants_after_held(int count, const char *lines);
+
+/* Of the log that has not ended yet: the line of each answer with the response
+   behind it has to be these, said by hand too, at either width. */
+void responds(const char *lines_of_16_bits, const char *lines_of_8_bits);
+
 /* The log ends. Its output is what our endpoint says. */
 void finish(void);
 
-/* The same, and its lines that begin with pdu have to be these, where
-   " dropped" is not looked at. */
+/* The same, and what it delivers of streams has to be these PDUs, each with its
+   flow. */
 void finish_delivering(const struct buffer *pdus);
 
-/* The line of a delivered PDU, for the list above. */
+/* A delivered PDU, for the list above: its line, and its priority, which no line
+   has. */
 void append_pdu(struct buffer *pdus, struct pdu pdu);
 
 /* Of the log that has not ended yet. */
@@ -60,6 +68,10 @@ void bundle_sizes(void);
 void bundle_messages(void);
 void bundle_mixes(void);
 void bundle_broken(void);
+
+/* Flows that differ in their priority alone. */
+void bundle_priorities(void);
+void bundle_priority_mixes(void);
 
 /* With IDs of 8 bits alone. */
 void bundle_widths(void);

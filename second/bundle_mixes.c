@@ -114,11 +114,29 @@ static struct packet random_segment(struct random *random)
 
 /* ---- Losses as demand 3 allows them -------------------------------------- */
 
-static void start_senders(struct sender *senders, unsigned flows, unsigned pdus)
+/* Which flows there are: the i-th of them. */
+typedef struct flow flow_by_number(unsigned i);
+
+/* No two have one source and cos. */
+static struct flow by_source_and_cos(unsigned i)
+{
+    const struct flow of = { .priority = i % 4, .source = i / 3, .cos = i % 3 };
+    return of;
+}
+
+/* Each four have one source and cos, and differ in their priority alone. */
+static struct flow by_priority(unsigned i)
+{
+    const struct flow of = { .priority = i % 4, .source = i / 8, .cos = i / 4 % 2 };
+    return of;
+}
+
+static void start_senders(struct sender *senders, flow_by_number *flow_of, unsigned flows,
+                          unsigned pdus)
 {
     for (unsigned i = 0; i < flows; i++) {
         senders[i] = (struct sender){ .left = pdus };
-        senders[i].pdu.flow = (struct flow){ .priority = i % 4, .source = i / 3, .cos = i % 3 };
+        senders[i].pdu.flow = flow_of(i);
     }
 }
 
@@ -143,11 +161,12 @@ static void put_other_width(struct random *random, const struct sender *sender)
         put(widened(packet_of(sender->pdu, sender->next)));
 }
 
-static void allowed_losses(struct random *random, unsigned flows, unsigned each)
+static void allowed_losses(struct random *random, flow_by_number *flow_of, unsigned flows,
+                           unsigned each)
 {
     struct sender senders[16];
     struct buffer pdus = { 0 };
-    start_senders(senders, flows, each);
+    start_senders(senders, flow_of, flows, each);
     begin("losses as demand 3 allows them");
     while (remaining(senders, flows) > 0) {
         struct sender *sender = &senders[below(random, flows)];
@@ -191,10 +210,11 @@ static void put_damaged(struct random *random, struct packet packet, unsigned ch
 }
 
 /* Lost, damaged and doubled packets, on more flows than contexts. */
-static void damage(struct random *random, unsigned flows, unsigned packets, unsigned chance)
+static void damage(struct random *random, flow_by_number *flow_of, unsigned flows, unsigned packets,
+                   unsigned chance)
 {
     struct sender senders[24];
-    start_senders(senders, flows, packets);
+    start_senders(senders, flow_of, flows, packets);
     begin("damage");
     for (unsigned i = 0; i < packets; i++) {
         struct sender *sender = &senders[below(random, flows)];
@@ -234,16 +254,119 @@ void bundle_mixes(void)
 
     section("random losses as demand 3 allows them");
     for (unsigned flows = 1; flows <= 16; flows += 3)
-        allowed_losses(&random, flows, 24 / flows + 1);
+        allowed_losses(&random, by_source_and_cos, flows, 24 / flows + 1);
 
     section("random losses and damage");
     for (unsigned i = 0; i < 2; i++) {
-        damage(&random, 3, 60, 6);
-        damage(&random, 16, 70, 10);
-        damage(&random, 24, 70, 12);
+        damage(&random, by_source_and_cos, 3, 60, 6);
+        damage(&random, by_source_and_cos, 16, 70, 10);
+        damage(&random, by_source_and_cos, 24, 70, 12);
     }
 
     section("random bytes");
     for (unsigned i = 0; i < 4; i++)
         noise(&random, 60);
+}
+
+/* ---- Flows that differ in their priority alone ---------------------------- */
+
+static struct pdu pdu_at(unsigned priority, unsigned stream, size_t length)
+{
+    struct pdu made = { .flow = flow, .stream = stream, .length = length };
+    made.flow.priority = priority;
+    return made;
+}
+
+/* Each of two PDUs loses a packet, and they are at two priorities, so on two
+   flows: they are no neighbours, and there is no joint. */
+static void no_neighbours(unsigned packets, unsigned lost, unsigned other_packets,
+                          unsigned other_lost)
+{
+    const unsigned one = (packets + lost) % 4;
+    const unsigned other = (one + 1 + (other_packets + other_lost) % 3) % 4;
+    const struct pdu third = pdu_at(one, 3, 40);
+    const struct pdu fourth = pdu_at(other, 4, 40);
+    struct buffer pdus = { 0 };
+    append_pdu(&pdus, third);
+    append_pdu(&pdus, fourth);
+    begin("two PDUs at two priorities both lose a packet");
+    put_pdu_without(pdu_at(one, 1, 32 * packets - 24), lost);
+    put_pdu_without(pdu_at(other, 2, 32 * other_packets - 23), other_lost);
+    put_pdu(third);
+    put_pdu(fourth);
+    finish_delivering(&pdus);
+    release(&pdus);
+}
+
+/* Two neighbours on one flow both lose a packet, and a PDU at another priority has
+   its packets before, between and behind them. It changes nothing for them. */
+static void neighbours_and_another(unsigned packets, unsigned lost, unsigned next_lost)
+{
+    const unsigned priority = (packets + lost + 2 * next_lost) % 4;
+    const struct pdu first = pdu_at(priority, 1, 32 * packets - 24);
+    const struct pdu second = pdu_at(priority, 2, 41);
+    const struct pdu third = pdu_at(priority, 3, 40);
+    const struct pdu another = pdu_at((priority + 1 + lost) % 4, 4, 70);
+    struct buffer pdus = { 0 };
+    if (is_joint(packets, lost, 2, next_lost))
+        append_pdu(&pdus, pdu_at(priority, 1, 41));
+    append_pdu(&pdus, another);
+    append_pdu(&pdus, third);
+    begin("two neighbours both lose a packet, a PDU at another priority between");
+    put(packet_of(another, 0));
+    put_pdu_without(first, lost);
+    put(packet_of(another, 1));
+    put_pdu_without(second, next_lost);
+    put(packet_of(another, 2));
+    put_pdu(third);
+    finish_delivering(&pdus);
+    release(&pdus);
+}
+
+/* Packets are lost, and some come at another priority, where another flow may be
+   under way. */
+static void wrong_priorities(struct random *random, unsigned flows, unsigned packets)
+{
+    struct sender senders[8];
+    start_senders(senders, by_priority, flows, packets);
+    begin("wrong priorities");
+    for (unsigned i = 0; i < packets; i++) {
+        struct sender *sender = &senders[below(random, flows)];
+        if (sender->next == packets_of(sender->pdu))
+            next_pdu(random, sender, false);
+        struct packet packet = packet_of(sender->pdu, sender->next++);
+        if (one_in(random, 5))
+            packet = with_flipped(packet, 0, 0x40u << below(random, 2));
+        if (!one_in(random, 8))
+            put(packet);
+    }
+    finish();
+}
+
+void bundle_priority_mixes(void)
+{
+    struct random random = seeded(8);
+
+    section("two priorities both lose a packet, every way");
+    for (unsigned first = 1; first <= 3; first++)
+        for (unsigned second = 1; second <= 2; second++)
+            for (unsigned i = 0; i < first; i++)
+                for (unsigned k = 0; k < second; k++)
+                    no_neighbours(first, i, second, k);
+
+    section("two neighbours, another priority between");
+    for (unsigned first = 1; first <= 3; first++)
+        for (unsigned i = 0; i < first; i++)
+            for (unsigned k = 0; k < 2; k++)
+                neighbours_and_another(first, i, k);
+
+    section("random losses, by priority");
+    allowed_losses(&random, by_priority, 2, 5);
+    allowed_losses(&random, by_priority, 4, 3);
+    allowed_losses(&random, by_priority, 16, 2);
+
+    section("random losses and damage, by priority");
+    damage(&random, by_priority, 24, 40, 12);
+    wrong_priorities(&random, 2, 30);
+    wrong_priorities(&random, 8, 40);
 }

@@ -235,17 +235,6 @@ static void row_8(void)
     wants("held, refused 11 dropped, refused 8, end 3");
 }
 
-/* So many lines of packets that are held, and then these. */
-static void wants_after_held(int count, const char *lines)
-{
-    char all[1000];
-    size_t place = 0;
-    for (int i = 0; i < count; i++)
-        place += (size_t)snprintf(all + place, sizeof all - place, "held, ");
-    snprintf(all + place, sizeof all - place, "%s", lines);
-    wants(all);
-}
-
 /* A start and 63 continuations fill the room of 2,048. */
 static void begin_full_room(const char *name)
 {

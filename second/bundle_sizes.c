@@ -94,22 +94,22 @@ static void priorities(void)
     static const unsigned narrow[] = { 0, 1, 2, 127, 128, 255 };
     section("priorities and extreme fields");
 
-    begin("the packets of one PDU at four priorities");
+    begin("the packets of one PDU at four priorities: four flows, of which one has a start");
     for (unsigned i = 0; i < 4; i++) {
         struct pdu pdu = { .flow = flow, .stream = 7, .length = 100 };
         pdu.flow.priority = 3 - i;
         put(packet_of(pdu, i));
     }
-    wants("held, held, held, pdu 2 5 7 100, end 4");
+    wants("held, refused 8, refused 8, refused 8, end 4");
 
-    begin("a start at another priority gives up the older PDU");
+    begin("a start at another priority leaves the older PDU");
     for (unsigned i = 0; i < 4; i++) {
         struct pdu pdu = { .flow = flow, .stream = i, .length = 40 };
         pdu.flow.priority = i;
         put(packet_of(pdu, 0));
     }
     put(stream_packet(flow, END, 40, 8));
-    wants("held, held dropped, held dropped, held dropped, pdu 2 5 3 40, end 5");
+    wants("held, held, held, held, pdu 2 5 0 40, end 5");
 
     begin("the segments of a message at four priorities");
     for (unsigned i = 0; i < 4; i++) {

@@ -65,8 +65,9 @@ static void give_back(struct second_lent lent)
 
 /* The state's words, in their order. */
 _Static_assert(offsetof(struct second_endpoint, eight_bits) == 3 * 8, "the fourth word");
-_Static_assert(offsetof(struct second_endpoint, stream) == 4 * 8, "then 16 of 5 words");
-_Static_assert(offsetof(struct second_endpoint, message) == 84 * 8, "then 8 of 8 words");
+_Static_assert(offsetof(struct second_endpoint, stream) == 4 * 8, "then 16 of 6 words");
+_Static_assert(offsetof(struct second_endpoint, message) == 100 * 8, "then 8 of 8 words");
+_Static_assert(sizeof(struct second_endpoint) == 164 * 8, "and no more");
 
 /* Words that mean IDs of 8 bits: any but 0. */
 static const uint64_t widths[] = { 1, 2, 8, 16, UINT64_MAX };
@@ -289,6 +290,7 @@ static void read_back(uint64_t mtu, size_t length, uint64_t room)
         free(packet);
     }
     must(answer.kind == SECOND_PDU && answer.context == 0 && answer.source == 2, "delivered");
+    must(answer.priority == 0, "its priority");
     must(answer.cos_or_letter == 5 && answer.stream_or_mailbox == 7, "its cos and stream");
     must(answer.length == length && !answer.dropped, "its length");
     must(same(lent.stream_memory, pdu, length), "its bytes");
@@ -366,7 +368,7 @@ static struct second_endpoint good_state(void)
 {
     struct second_endpoint state;
     second_setup(&state, 1, 32, 100, eight_bits);
-    state.stream[3] = (struct second_stream){ 1, 2, 5, 7, 64 };
+    state.stream[3] = (struct second_stream){ 1, 2, 0, 5, 7, 64 };
     state.message[2] = (struct second_message){ 1, 2, 1, 2, 3, 10, 0x8 | 0x1, 8 };
     return state;
 }
@@ -392,6 +394,9 @@ static void row_19(void)
     must(!NAMED(state.stream[3].held = 100), "R itself is good");
     must(!NAMED(state.stream[3].held = 33), "no multiple of the MTU is good");
     must(!NAMED(state.stream[4].held = 500), "a free context is not looked at");
+    must(!NAMED(state.stream[3].priority = 3), "any priority is good");
+    must(!NAMED(state.stream[3].priority = 4), "over 3 too");
+    must(!NAMED(state.stream[3].priority = UINT64_MAX), "and any other word");
     must(NAMED(state.message[2].ssize = 8), "19: ssize 8");
     must(NAMED(state.message[2].ssize = 15), "19: ssize 15");
     must(NAMED(state.message[2].msglen = 0), "19: msglen 0");
@@ -503,7 +508,7 @@ static void lower_number(void)
     const struct box box = { .priority = 0, .source = 2, .letter = 1, .mbox = 2 };
     struct second_endpoint state = good_state();
     struct second_lent lent = lend(100);
-    state.stream[9] = (struct second_stream){ 1, 2, 5, 8, 32 };
+    state.stream[9] = (struct second_stream){ 1, 2, 0, 5, 8, 32 };
     struct second_answer answer = read_one(&state, lent, stream_packet(flow, END, 72, 8));
     must(answer.kind == SECOND_PDU && answer.context == 3, "stream 3 before stream 9");
     answer = read_one(&state, lent, stream_packet(flow, END, 40, 8));
@@ -528,11 +533,11 @@ static void taken(void)
     const unsigned source = either(513, 253);
     const struct flow flow = { .priority = 3, .source = source, .cos = 255 };
     const struct box box = { .priority = 3, .source = source, .letter = 3, .mbox = 1 };
-    const struct second_stream stream = { 1, source, 255, 65535, 32 };
+    const struct second_stream stream = { 1, source, 3, 255, 65535, 32 };
     const struct second_message message = { 1, source, 3, 1, 15, 10, 0x8000, 8 };
     struct second_endpoint state;
     second_setup(&state, 1, 32, 64, eight_bits);
-    state.stream[0] = (struct second_stream){ 0, source, 255, 9, 9 };
+    state.stream[0] = (struct second_stream){ 0, source, 9, 255, 9, 9 };
     state.message[0] = (struct second_message){ 0, source, 3, 1, 99, 99, 99, 99 };
     struct second_lent lent = lend(64);
     read_one(&state, lent, stream_packet(flow, START, 65535, 32));
@@ -544,6 +549,218 @@ static void taken(void)
     must(answer.context == 1 && answer.stream_or_mailbox == 61, "a single message takes the next");
     must(state.message[1].open == 0 && state.message[1].last == 0, "and leaves zeros");
     must(lent.message_memory[4096] != 0xEE, "in its own room");
+    give_back(lent);
+}
+
+/* ---- The priority, which belongs to the flow (M-103) ------------------------ */
+
+/* Another number of words is no state: 12, an empty part, and every word stays.
+   148 is what a state had before the priority, 147 before the width. */
+static void no_state(void)
+{
+    static const size_t counts[] = { 0, 1, 4, 147, 148, 149, 163, 165, 328 };
+    const struct flow flow = { .priority = 0, .source = 2, .cos = 5 };
+    const struct packet single = stream_packet(flow, SINGLE, 7, 32);
+    struct second_lent lent = lend(100);
+    must(SECOND_STATE_WORDS == 164, "the words of a state");
+    for (size_t i = 0; i < sizeof counts / sizeof counts[0]; i++) {
+        const size_t bytes = 8 * counts[i];
+        uint64_t *words = (uint64_t *)(void *)block(bytes, 0x77);
+        uint8_t *before = block(bytes, 0x77);
+        struct second_endpoint *none = second_state(words, counts[i]);
+        must(none == NULL, "no state");
+        must(refused_by(second_setup(none, 1, 32, 100, eight_bits), 12), "12: setup");
+        must(refused_by(second_setup(none, 65535, 33, 5, eight_bits), 12), "12 before 47 and 18");
+        must(refused_by(read_one(none, lent, single), 12), "12: reading");
+        must(refused_by(second_abandon_stream(none, 16), 12), "12: abandoning, before 13");
+        must(refused_by(second_abandon_message(none, 8), 12), "12: abandoning");
+        struct second_part part = second_stream_room(none, lent.stream_memory, 1600, 1, 1);
+        must(part.bytes == lent.stream_memory && part.length == 0, "no stream room");
+        part = second_message_room(none, lent.message_memory, SECOND_MESSAGE_MEMORY, 1, 1);
+        must(part.bytes == lent.message_memory && part.length == 0, "no message room");
+        must(same(words, before, bytes), "every word stays");
+        free(words);
+        free(before);
+    }
+    must(lent.stream_memory[0] == 0xEE && lent.response[0] == 0xEE, "every byte stays");
+    give_back(lent);
+}
+
+/* The six words of stream context n are these. */
+static bool words_are(const uint64_t *state, int n, const uint64_t *words)
+{
+    return same(state + 4 + 6 * n, words, 6 * 8);
+}
+
+/* Where the priority stands; that closing, of every kind, sets it to 0; and that
+   the words beside it stay. */
+static void priority_word(void)
+{
+    static const uint64_t zeros[6];
+    const unsigned source = either(513, 253);
+    const struct flow urgent = { .priority = 3, .source = source, .cos = 255 };
+    const struct flow other = { .priority = 2, .source = source, .cos = 255 };
+    const struct box box = { .priority = 1, .source = source, .letter = 3, .mbox = 1 };
+    const uint64_t first[6] = { 1, source, 3, 255, 65535, 32 };
+    const uint64_t second[6] = { 1, source, 2, 255, 9, 32 };
+    const uint64_t message[8] = { 1, source, 3, 1, 15, 10, 0x8000, 8 };
+    struct second_lent lent = lend(64);
+    uint64_t *words = (uint64_t *)(void *)block(164 * 8, 0x77);
+    struct second_endpoint *state = second_state(words, 164);
+    second_setup(state, 1, 32, 64, eight_bits);
+    must(words[0] == 1 && words[1] == 32 && words[2] == 64 && words[3] == eight_bits, "setup");
+    for (int i = 4; i < 164; i++)
+        must(words[i] == 0, "a fresh state");
+
+    read_one(state, lent, stream_packet(urgent, START, 65535, 32));
+    read_one(state, lent, stream_packet(other, START, 9, 32));
+    read_one(state, lent, message_packet(box, 15, 10, 15, 8));
+    must(words_are(words, 0, first), "live, source, priority, cos, streamID, held");
+    must(words_are(words, 1, second), "another priority has the next context");
+    must(same(words + 100, message, 8 * 8), "messages begin at word 100");
+    for (int i = 16; i < 100; i++)
+        must(words[i] == 0, "no other stream context");
+
+    struct second_answer answer = read_one(state, lent, stream_packet(urgent, END, 40, 8));
+    must(answer.kind == SECOND_PDU && answer.context == 0 && answer.priority == 3, "delivered");
+    must(words_are(words, 0, zeros) && words_are(words, 1, second), "delivery sets it to 0");
+    read_one(state, lent, stream_packet(urgent, START, 65535, 32));
+    must(words_are(words, 0, first), "taken again");
+    answer = read_one(state, lent, stream_packet(urgent, CONTINUATION, 0, 0));
+    must(answer.refusal == 6 && answer.dropped, "closed by 6");
+    must(words_are(words, 0, zeros) && words_are(words, 1, second), "6 sets it to 0");
+    read_one(state, lent, stream_packet(urgent, START, 65535, 32));
+    must(second_abandon_stream(state, 0).kind == SECOND_ABANDONED, "abandoned");
+    must(words_are(words, 0, zeros) && words_are(words, 1, second), "that sets it to 0");
+    must(same(words + 100, message, 8 * 8), "the message is as it was");
+    free(words);
+    give_back(lent);
+}
+
+/* A priority over 3 is in no packet, so such a context is never found. It is open
+   for all that: it may be abandoned, and it is not free. */
+static void priority_over_3(void)
+{
+    static const uint64_t over[] = { 4, 5, 7, 64, 192, 256, (uint64_t)1 << 32, UINT64_MAX - 3 };
+    for (size_t i = 0; i < sizeof over / sizeof over[0]; i++) {
+        struct second_endpoint state = good_state();
+        struct second_lent lent = lend(100);
+        state.stream[3].priority = over[i];
+        const struct second_stream strange = state.stream[3];
+        must(!second_refusal19(&state), "19 does not name it");
+        for (unsigned priority = 0; priority < 4; priority++) {
+            const struct flow flow = { .priority = priority, .source = 2, .cos = 5 };
+            struct second_answer answer = read_one(&state, lent, stream_packet(flow, END, 72, 8));
+            must(refused_by(answer, 8), "no end finds it");
+            answer = read_one(&state, lent, stream_packet(flow, START, 8, 32));
+            must(answer.kind == SECOND_HELD && !answer.dropped, "no start gives it up");
+            answer = read_one(&state, lent, stream_packet(flow, SINGLE, 8, 31));
+            must(answer.kind == SECOND_PDU && answer.dropped && answer.context == 0, "context 0");
+        }
+        must(same(&state.stream[3], &strange, sizeof strange), "it stays as it is");
+        for (int k = 0; k < 16; k++)
+            state.stream[k] = strange;
+        const struct flow flow = { .priority = 0, .source = 2, .cos = 5 };
+        must(refused_by(read_one(&state, lent, stream_packet(flow, START, 8, 32)), 10), "not free");
+        must(second_abandon_stream(&state, 3).kind == SECOND_ABANDONED, "abandoned");
+        must(state.stream[3].priority == 0 && state.stream[2].priority == over[i], "by number");
+        give_back(lent);
+    }
+}
+
+/* A delivery carries the flow's priority, a single's too; a message's is 0. */
+static void delivered_priority(void)
+{
+    struct second_endpoint state;
+    struct second_lent lent = lend(64);
+    second_setup(&state, 1, 32, 64, eight_bits);
+    for (unsigned priority = 0; priority < 4; priority++) {
+        const struct flow flow = { .priority = priority, .source = 2, .cos = 5 };
+        const struct box box = { .priority = priority, .source = 2, .letter = 1, .mbox = 2 };
+        struct second_answer answer = read_one(&state, lent, stream_packet(flow, START, 7, 32));
+        must(answer.kind == SECOND_HELD && answer.priority == 0, "held says no priority");
+        answer = read_one(&state, lent, stream_packet(flow, END, 40, 8));
+        must(answer.kind == SECOND_PDU && answer.priority == priority, "an end");
+        must(answer.source == 2 && answer.cos_or_letter == 5, "beside source and cos");
+        must(answer.stream_or_mailbox == 7 && answer.length == 40, "and stream and length");
+        answer = read_one(&state, lent, stream_packet(flow, SINGLE, 8, 9));
+        must(answer.kind == SECOND_PDU && answer.priority == priority, "a single");
+        answer = read_one(&state, lent, stream_packet(flow, END, 40, 8));
+        must(refused_by(answer, 8) && answer.priority == 0, "a refusal says none");
+        answer = read_one(&state, lent, message_packet(box, 0, 9, 0, 8));
+        must(answer.kind == SECOND_MESSAGE && answer.priority == 0, "a message's is 0");
+    }
+    give_back(lent);
+}
+
+/* Example 8 with the second PDU at another priority: it opens a second context
+   and drops nothing. */
+static void example_8_at(unsigned one, unsigned other)
+{
+    const struct flow first = { .priority = one, .source = 2, .cos = 5 };
+    const struct flow second = { .priority = other, .source = 2, .cos = 5 };
+    const struct packet start = stream_packet(first, START, 7, 32);
+    struct second_endpoint state;
+    struct second_lent lent = lend(64);
+    second_setup(&state, 1, 32, 64, eight_bits);
+    must(read_one(&state, lent, start).kind == SECOND_HELD, "held");
+    struct second_answer answer = read_one(&state, lent, stream_packet(second, START, 8, 32));
+    must(answer.kind == SECOND_HELD && !answer.dropped, "held, not dropped");
+    must(state.stream[1].open && state.stream[1].priority == other, "in context 1");
+    answer = read_one(&state, lent, stream_packet(second, END, 40, 8));
+    must(answer.kind == SECOND_PDU && answer.context == 1, "delivered from context 1");
+    must(answer.priority == other && answer.stream_or_mailbox == 8, "the second PDU");
+    must(state.stream[0].open && state.stream[0].priority == one, "context 0 holds");
+    must(state.stream[0].stream_id == 7 && state.stream[0].held == 32, "the first");
+    must(same(lent.stream_memory, start.bytes + at(9), 32), "with its bytes");
+    answer = read_one(&state, lent, stream_packet(first, END, 40, 8));
+    must(answer.kind == SECOND_PDU && answer.context == 0, "its own end delivers it");
+    must(answer.priority == one && answer.stream_or_mailbox == 7, "the first PDU");
+    give_back(lent);
+}
+
+static void example_8(void)
+{
+    for (unsigned one = 0; one < 4; one++)
+        for (unsigned other = 0; other < 4; other++)
+            if (one != other)
+                example_8_at(one, other);
+}
+
+/* A message's segments may come at different priorities; 23 and 24 do not look at
+   them; each response has its own packet's, one higher and at most 3. */
+static void mixed_message(void)
+{
+    static const struct {
+        unsigned priority, msglen, msgseg;
+        enum second_kind kind;
+        unsigned refusal;
+        uint8_t wide[7], narrow[5];
+    } steps[] = {
+        /* clang-format off */
+        { 3, 3, 2, SECOND_HELD, 0, { 0xDD, 0, 77, 0, 1, 0x10, 0x62 }, { 0xCD, 77, 1, 0x10, 0x62 } },
+        { 0, 3, 0, SECOND_HELD, 0, { 0x5D, 0, 77, 0, 1, 0x10, 0x60 }, { 0x4D, 77, 1, 0x10, 0x60 } },
+        { 1, 3, 0, SECOND_REFUSED, 24, { 0x9D, 0, 77, 0, 1, 0x17, 0x60 }, { 0x8D, 77, 1, 0x17, 0x60 } },
+        { 2, 2, 1, SECOND_REFUSED, 23, { 0xDD, 0, 77, 0, 1, 0x17, 0x61 }, { 0xCD, 77, 1, 0x17, 0x61 } },
+        { 1, 3, 3, SECOND_HELD, 0, { 0x9D, 0, 77, 0, 1, 0x10, 0x63 }, { 0x8D, 77, 1, 0x10, 0x63 } },
+        { 2, 3, 1, SECOND_MESSAGE, 0, { 0xDD, 0, 77, 0, 1, 0x10, 0x61 }, { 0xCD, 77, 1, 0x10, 0x61 } },
+        /* clang-format on */
+    };
+    struct second_endpoint state;
+    struct second_lent lent = lend(64);
+    second_setup(&state, 1, 32, 64, eight_bits);
+    for (size_t i = 0; i < sizeof steps / sizeof steps[0]; i++) {
+        const struct box box = {
+            .priority = steps[i].priority, .source = 77, .letter = 1, .mbox = 2
+        };
+        struct second_answer answer =
+            read_one(&state, lent, message_packet(box, steps[i].msglen, 9, steps[i].msgseg, 8));
+        must(answer.kind == steps[i].kind && answer.refusal == steps[i].refusal, "one message");
+        must(same(lent.response, eight_bits ? steps[i].narrow : steps[i].wide, at(7)),
+             "a response follows its own packet");
+        must(i < 5 || (answer.context == 0 && answer.length == 32), "all in context 0");
+    }
+    must(state.message[1].open == 0, "no second message");
     give_back(lent);
 }
 
@@ -734,6 +951,19 @@ static void message_places(void)
 
 /* ---- Any state, any packet ----------------------------------------------- */
 
+/* Few flows, so that packets often find theirs, or one that differs in its
+   priority alone. */
+static struct second_stream random_stream(struct random *random, uint32_t room)
+{
+    struct second_stream c = { .open = 1 };
+    c.source = below(random, 2);
+    c.priority = below(random, one_in(random, 10) ? 6 : 4);
+    c.cos = below(random, 2);
+    c.stream_id = below(random, 65536);
+    c.held = between(random, 1, room);
+    return c;
+}
+
 static struct second_message random_message(struct random *random)
 {
     struct second_message c = {
@@ -760,9 +990,7 @@ static struct second_endpoint random_state(struct random *random)
     uint32_t full = between(random, 1, 8);
     for (int i = 0; i < SECOND_STREAM_CONTEXTS; i++)
         if (!one_in(random, full))
-            state.stream[i] = (struct second_stream){
-                1, below(random, 5), below(random, 5), i, between(random, 1, (uint32_t)state.room),
-            };
+            state.stream[i] = random_stream(random, (uint32_t)room);
     for (int i = 0; i < SECOND_MESSAGE_CONTEXTS; i++)
         if (!one_in(random, full))
             state.message[i] = random_message(random);
@@ -774,7 +1002,7 @@ static struct second_endpoint random_state(struct random *random)
 static struct packet random_packet(struct random *random, uint64_t mtu)
 {
     static const enum segment_kind kinds[4] = { CONTINUATION, END, START, SINGLE };
-    const struct flow flow = { below(random, 4), below(random, 5), below(random, 5) };
+    const struct flow flow = { below(random, 4), below(random, 2), below(random, 2) };
     const struct box box = {
         below(random, 4),
         below(random, 2),
@@ -819,6 +1047,19 @@ static void check_refused(const struct outcome *o)
         must(o->answer.dropped == !state_same, "dropped exactly if a context was closed");
     else
         must(state_same && !o->answer.dropped, "the others leave all");
+}
+
+/* What a packet does is done to a flow of its own priority: no other open context
+   changes, and a delivery has that priority. */
+static void check_priority(const struct outcome *o)
+{
+    const unsigned priority = o->packet->bytes[0] >> 6;
+    for (int i = 0; i < SECOND_STREAM_CONTEXTS; i++) {
+        const struct second_stream *before = &o->before->stream[i];
+        if (before->open && before->priority != priority)
+            must(same(before, &o->after->stream[i], sizeof *before), "of another priority");
+    }
+    must(o->answer.priority == (o->answer.kind == SECOND_PDU ? priority : 0), "its priority");
 }
 
 /* The status that has to be in the response; -1 for no response. */
@@ -885,6 +1126,7 @@ static void one_random(struct random *random)
     must(second_refusal19(&before) || !second_refusal19(&state), "a good state stays good");
     if (answer.kind == SECOND_REFUSED)
         check_refused(&outcome);
+    check_priority(&outcome);
     check_response(&outcome);
     give_back(lent);
     give_back(copy);
@@ -908,6 +1150,12 @@ static void both_widths(void)
     taken();
     odd_room();
     message_places();
+    no_state();
+    priority_word();
+    priority_over_3();
+    delivered_priority();
+    example_8();
+    mixed_message();
 }
 
 int main(void)

@@ -1,6 +1,6 @@
 #include "endpoint.h"
 
-_Static_assert(sizeof(struct second_endpoint) == 148 * 8, "a state is 148 words");
+_Static_assert(sizeof(struct second_endpoint) == SECOND_STATE_WORDS * 8, "a state is 164 words");
 
 /* ---- Small helpers ---------------------------------------------------- */
 
@@ -345,12 +345,18 @@ static size_t data_bytes(const struct reading *r)
 
 /* ---- Finding contexts: the lower number counts ------------------------- */
 
+/* A flow is source ID, priority and cos. */
+static bool is_of_flow(const struct second_stream *c, const struct reading *r)
+{
+    return c->source == source(r) && c->priority == priority(r) && c->cos == class_of_service(r);
+}
+
 /* The flow's open context; 16 if the flow is not open. */
 static int flow_context(const struct reading *r)
 {
     for (int i = 0; i < SECOND_STREAM_CONTEXTS; i++) {
         const struct second_stream *c = &r->state->stream[i];
-        if (c->open && c->source == source(r) && c->cos == class_of_service(r))
+        if (c->open && is_of_flow(c, r))
             return i;
     }
     return SECOND_STREAM_CONTEXTS;
@@ -369,7 +375,8 @@ static int free_stream(const struct reading *r)
     return SECOND_STREAM_CONTEXTS;
 }
 
-/* The open message of this source, letter and mbox; 8 if there is none. */
+/* The open message of this source, letter and mbox, at whatever priority its
+   segments come; 8 if there is none. */
 static int message_context(const struct reading *r)
 {
     for (int i = 0; i < SECOND_MESSAGE_CONTEXTS; i++) {
@@ -632,6 +639,7 @@ static struct second_answer deliver_pdu(struct second_endpoint *state, int conte
         .kind = SECOND_PDU,
         .context = (uint64_t)context,
         .source = c->source,
+        .priority = c->priority,
         .cos_or_letter = c->cos,
         .stream_or_mailbox = c->stream_id,
         .length = c->held,
@@ -658,6 +666,7 @@ static struct second_answer accept_start_or_single(struct second_endpoint *state
     state->stream[context] = (struct second_stream){
         .open = 1,
         .source = source(r),
+        .priority = priority(r),
         .cos = class_of_service(r),
         .stream_id = stream_id(r),
     };
@@ -749,11 +758,20 @@ static struct second_answer accept_message(struct second_endpoint *state, const 
     return answer;
 }
 
-/* ---- The calls --------------------------------------------------------- */
+/* ---- The calls ---------------------------------------------------------
+   A buffer that is no state is a lent memory of the wrong size: 12, before
+   anything else. */
+
+struct second_endpoint *second_state(uint64_t *words, size_t count)
+{
+    return count == SECOND_STATE_WORDS ? (struct second_endpoint *)words : NULL;
+}
 
 struct second_answer second_read(struct second_endpoint *state, struct second_lent lent,
                                  const uint8_t *packet, size_t length)
 {
+    if (state == NULL)
+        return refused(12);
     const struct reading reading = {
         .state = state, .lent = &lent, .packet = packet, .length = length
     };
@@ -768,10 +786,12 @@ struct second_answer second_read(struct second_endpoint *state, struct second_le
     return accept_message(state, r);
 }
 
-/* 47 first, then 18 before 19. Refused, it hands back a state of zeros. */
+/* 47 first, then 18 before 19. Refused by them, it hands back a state of zeros. */
 struct second_answer second_setup(struct second_endpoint *state, uint16_t device, uint64_t mtu,
                                   uint64_t room, uint64_t eight_bits)
 {
+    if (state == NULL)
+        return refused(12);
     *state = (struct second_endpoint){ 0 };
     if (!id_allowed(eight_bits, device))
         return refused(47);
@@ -788,6 +808,8 @@ struct second_answer second_setup(struct second_endpoint *state, uint16_t device
 
 struct second_answer second_abandon_stream(struct second_endpoint *state, uint64_t context)
 {
+    if (state == NULL)
+        return refused(12);
     if (second_refusal19(state))
         return refused(19);
     if (context >= SECOND_STREAM_CONTEXTS)
@@ -800,6 +822,8 @@ struct second_answer second_abandon_stream(struct second_endpoint *state, uint64
 
 struct second_answer second_abandon_message(struct second_endpoint *state, uint64_t context)
 {
+    if (state == NULL)
+        return refused(12);
     if (second_refusal19(state))
         return refused(19);
     if (context >= SECOND_MESSAGE_CONTEXTS)
@@ -821,7 +845,7 @@ static struct second_part empty_part(const uint8_t *memory)
 struct second_part second_stream_room(const struct second_endpoint *state, const uint8_t *memory,
                                       size_t memory_length, uint64_t context, uint64_t length)
 {
-    if (second_refusal19(state))
+    if (state == NULL || second_refusal19(state))
         return empty_part(memory);
     if (memory_length != SECOND_STREAM_CONTEXTS * state->room)
         return empty_part(memory);
@@ -834,7 +858,7 @@ struct second_part second_stream_room(const struct second_endpoint *state, const
 struct second_part second_message_room(const struct second_endpoint *state, const uint8_t *memory,
                                        size_t memory_length, uint64_t context, uint64_t length)
 {
-    if (second_refusal19(state))
+    if (state == NULL || second_refusal19(state))
         return empty_part(memory);
     if (memory_length != SECOND_MESSAGE_MEMORY)
         return empty_part(memory);

@@ -1,6 +1,6 @@
 /* The endpoint of document 01, written a second time: in C, from the paper,
-   request M-112 of document 02 and docs/DECISIONS.md. It shares nothing with
-   the proved code or its definitions.
+   requests M-103 and M-112 of document 02 and docs/DECISIONS.md. It shares
+   nothing with the proved code or its definitions.
 
    Every memory is lent and comes with its length. Nothing is kept between
    calls but the state. Any bytes, any lengths and any numbers in the state
@@ -15,6 +15,7 @@
 #include <stdint.h>
 
 enum {
+    SECOND_STATE_WORDS = 164,
     SECOND_STREAM_CONTEXTS = 16,
     SECOND_MESSAGE_CONTEXTS = 8,
     SECOND_MESSAGE_ROOM = 4096,
@@ -24,11 +25,12 @@ enum {
 };
 
 /* Fields are wider than they need be, so that a test can set up any state.
-   The state is 148 words of 64 bits, in the order in which they stand here. */
+   The state is 164 words of 64 bits, in the order in which they stand here. */
 
 struct second_stream {
     uint64_t open; /* 0 is free, anything else is open; we write 1 */
     uint64_t source;
+    uint64_t priority;
     uint64_t cos;
     uint64_t stream_id;
     uint64_t held; /* the bytes its room holds */
@@ -82,6 +84,7 @@ struct second_answer {
     bool dropped;
     uint64_t context;
     uint64_t source;
+    uint64_t priority; /* a PDU's; a message has none of its own */
     uint64_t cos_or_letter;
     uint64_t stream_or_mailbox;
     uint64_t length;
@@ -104,7 +107,12 @@ struct second_heading {
     uint64_t eight_bits; /* as above */
 };
 
-/* Row 19: a state that every call refuses. */
+/* A lent buffer of words as a state: NULL where it has not as many as a state.
+   Every call below takes NULL for such a buffer: it answers 12, a room is an
+   empty part, and nothing changes. */
+struct second_endpoint *second_state(uint64_t *words, size_t count);
+
+/* Row 19: a state that every call refuses. Not for NULL. */
 bool second_refusal19(const struct second_endpoint *state);
 
 struct second_answer second_setup(struct second_endpoint *state, uint16_t device, uint64_t mtu,

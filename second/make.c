@@ -42,8 +42,13 @@ static void bundle_both(void)
     bundle_mixes();
 }
 
-static void save_bundle(const char *in_name, const char *out_name)
+/* The program that runs the bundle reads at most so many bytes. */
+static void save_bundle(const char *in_name, const char *out_name, size_t most)
 {
+    if (bundle_in()->length > most) {
+        fprintf(stderr, "%s: over %zu bytes\n", in_name, most);
+        exit(1);
+    }
     printf("logs with IDs of %u bits\n", either(16, 8));
     print_sections(stdout);
     save(in_name, bundle_in());
@@ -55,7 +60,9 @@ static void save_logs(void)
 {
     bundle_both();
     bundle_broken();
-    save_bundle("crates/outside_logs/stdin", "crates/outside_logs/stdout");
+    bundle_priorities();
+    bundle_priority_mixes();
+    save_bundle("crates/outside_logs/stdin", "crates/outside_logs/stdout", 524288);
 }
 
 static void save_logs_of_8_bits(void)
@@ -63,7 +70,9 @@ static void save_logs_of_8_bits(void)
     eight_bits = true;
     bundle_both();
     bundle_widths();
-    save_bundle("crates/outside_narrow/stdin", "crates/outside_narrow/stdout");
+    bundle_priorities();
+    bundle_priority_mixes();
+    save_bundle("crates/outside_narrow/stdin", "crates/outside_narrow/stdout", 262144);
     eight_bits = false;
 }
 

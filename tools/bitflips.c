@@ -4,8 +4,8 @@
 
    Every PDU and message carries what docs/THREATS.md asks of members: a scan
    number in its first and in its last byte, and behind the first a CRC-32 over
-   who sent it, its streamID or mailbox, its length and its bytes. So the tables
-   can also say what those checks leave. */
+   its flow (a message: source and letter), its streamID or mailbox, its length
+   and its bytes. So the tables can also say what those checks leave. */
 
 #include "../second/endpoint.h"
 
@@ -30,6 +30,7 @@ static void claim(bool holds, const char *words)
 
 struct sent {
     bool message;
+    unsigned priority; /* of a message 0, as in its report */
     unsigned source, cos_or_letter, stream_or_mailbox;
     unsigned number; /* the scan number, 0 to 255 */
     size_t length;
@@ -63,45 +64,81 @@ static uint32_t crc_byte(uint32_t crc, unsigned byte)
     return crc >> 8 ^ crc_table[(crc ^ byte) & 255];
 }
 
+/* Whether the CRC covers the priority. */
+static bool sums_priority = true;
+
 /* Over the address, the length and every byte but the four that hold it. */
-static uint32_t checksum(unsigned a, unsigned b, unsigned c, const uint8_t *bytes, size_t length)
+static uint32_t checksum(const struct sent *s)
 {
-    const unsigned head[] = { a >> 8, a, b, c >> 8, c, (unsigned)length >> 8, (unsigned)length };
+    const unsigned head[] = {
+        s->source >> 8,
+        s->source,
+        sums_priority ? s->priority : 0,
+        s->cos_or_letter,
+        s->stream_or_mailbox >> 8,
+        s->stream_or_mailbox,
+        (unsigned)s->length >> 8,
+        (unsigned)s->length,
+    };
     uint32_t crc = 0xFFFFFFFFu;
     for (size_t i = 0; i < sizeof head / sizeof head[0]; i++)
         crc = crc_byte(crc, head[i]);
-    for (size_t i = 0; i < length; i++)
+    for (size_t i = 0; i < s->length; i++)
         if (i < 1 || i > 4)
-            crc = crc_byte(crc, bytes[i]);
+            crc = crc_byte(crc, s->bytes[i]);
     return ~crc;
 }
 
-static unsigned add_sent(bool message, unsigned a, unsigned b, unsigned c, unsigned number,
-                         size_t length)
+/* The next one that is sent: its bytes, for the head that it has. */
+static unsigned add_sent(void)
 {
     struct sent *s = &sents[sent_count];
-    *s = (struct sent){ .message = message,
-                        .source = a,
-                        .cos_or_letter = b,
-                        .stream_or_mailbox = c,
-                        .number = number,
-                        .length = length };
-    for (size_t i = 0; i < length; i++)
+    for (size_t i = 0; i < s->length; i++)
         s->bytes[i] = (uint8_t)(17 * (i + 1) + 61 * sent_count + 5 * (i / 8));
-    s->bytes[0] = (uint8_t)number;
-    s->bytes[length - 1] = (uint8_t)number;
-    uint32_t crc = checksum(a, b, c, s->bytes, length);
+    s->bytes[0] = (uint8_t)s->number;
+    s->bytes[s->length - 1] = (uint8_t)s->number;
+    uint32_t crc = checksum(s);
     for (int i = 0; i < 4; i++)
         s->bytes[1 + i] = (uint8_t)(crc >> (24 - 8 * i));
     return sent_count++;
 }
+
+struct flow {
+    unsigned source, priority, cos;
+};
+
+static unsigned add_pdu(struct flow flow, unsigned stream, unsigned number, size_t length)
+{
+    sents[sent_count] = (struct sent){ .source = flow.source,
+                                       .priority = flow.priority,
+                                       .cos_or_letter = flow.cos,
+                                       .stream_or_mailbox = stream,
+                                       .number = number,
+                                       .length = length };
+    return add_sent();
+}
+
+static unsigned add_message(unsigned source, unsigned letter, unsigned mailbox, unsigned number,
+                            size_t length)
+{
+    sents[sent_count] = (struct sent){ .message = true,
+                                       .source = source,
+                                       .cos_or_letter = letter,
+                                       .stream_or_mailbox = mailbox,
+                                       .number = number,
+                                       .length = length };
+    return add_sent();
+}
+
+/* The flow of most PDUs here. */
+static const struct flow own = { 2, 1, 5 };
 
 /* The packets of a PDU, cut by the writer; answers how many. */
 static unsigned cut_pdu(struct packet *out, unsigned flow, unsigned which)
 {
     const struct sent *s = &sents[which];
     const struct second_heading heading = {
-        .priority = 1,
+        .priority = s->priority,
         .destination = DEVICE,
         .source = (uint16_t)s->source,
         .cos = (uint8_t)s->cos_or_letter,
@@ -196,7 +233,8 @@ struct board {
 
 static bool same_flow(const struct sent *a, const struct sent *b)
 {
-    if (a->message != b->message || a->source != b->source || a->cos_or_letter != b->cos_or_letter)
+    if (a->message != b->message || a->source != b->source || a->priority != b->priority
+        || a->cos_or_letter != b->cos_or_letter)
         return false;
     return !a->message || a->stream_or_mailbox == b->stream_or_mailbox;
 }
@@ -219,8 +257,7 @@ static bool checksum_agrees(const struct sent *got)
 {
     if (got->length < 6)
         return false;
-    uint32_t crc =
-        checksum(got->source, got->cos_or_letter, got->stream_or_mailbox, got->bytes, got->length);
+    uint32_t crc = checksum(got);
     for (int i = 0; i < 4; i++)
         if (got->bytes[1 + i] != (uint8_t)(crc >> (24 - 8 * i)))
             return false;
@@ -253,6 +290,7 @@ static struct sent taken(struct second_answer answer)
     struct sent got = {
         .message = answer.kind == SECOND_MESSAGE,
         .source = (unsigned)answer.source,
+        .priority = (unsigned)answer.priority,
         .cos_or_letter = (unsigned)answer.cos_or_letter,
         .stream_or_mailbox = (unsigned)answer.stream_or_mailbox,
         .length = answer.length,
@@ -518,25 +556,33 @@ static size_t size_of(unsigned packets, unsigned which)
     return (packets - 1) * mtu + (which ? 8 : 7);
 }
 
-/* The other flow differs from the first in the flipped bit, where that is a
-   bit of source or cos; else in the last bit of the source. */
+/* The flow that differs from ours in the flipped bit, where that is a bit of
+   source, priority or cos; else in the last bit of the source. */
+static struct flow flipped(size_t byte, unsigned bit)
+{
+    struct flow other = own;
+    unsigned weight = 0x80u >> bit;
+    if (byte == 0 && bit < 2)
+        other.priority ^= weight >> 6;
+    else if (byte == 3)
+        other.source ^= weight << 8;
+    else if (byte == 4)
+        other.source ^= weight;
+    else if (byte == 5)
+        other.cos ^= weight;
+    else
+        other.source ^= 1;
+    return other;
+}
+
 static void stream_mixtures(const unsigned *shape, size_t byte, unsigned bit, unsigned at)
 {
-    unsigned source = 2, cos = 5, other_source = 2, other_cos = 5;
-    unsigned weight = 0x80u >> bit;
-    if (byte == 3)
-        other_source ^= weight << 8;
-    else if (byte == 4)
-        other_source ^= weight;
-    else if (byte == 5)
-        other_cos ^= weight;
-    else
-        other_source ^= 1;
+    struct flow other = flipped(byte, bit);
     sent_count = 0;
-    add_sent(false, source, cos, 7, 1, size_of(shape[0], 0));
-    add_sent(false, source, cos, 8, 2, size_of(shape[1], 1));
-    add_sent(false, other_source, other_cos, 70, 101, size_of(shape[2], 0));
-    add_sent(false, other_source, other_cos, 71, 102, size_of(shape[3], 1));
+    add_pdu(own, 7, 1, size_of(shape[0], 0));
+    add_pdu(own, 8, 2, size_of(shape[1], 1));
+    add_pdu(other, 70, 101, size_of(shape[2], 0));
+    add_pdu(other, 71, 102, size_of(shape[3], 1));
     struct packet first[8], second[8];
     unsigned a = cut_two(first, 0, 0), b = cut_two(second, 1, 2);
     if (at >= a || byte >= first[at].length)
@@ -677,10 +723,10 @@ static void message_mixtures(const unsigned *shape, size_t byte, unsigned bit, u
     else
         other_source ^= 1;
     sent_count = 0;
-    add_sent(true, source, letter, mbox, 1, 16 * shape[0] - 8);
-    add_sent(true, source, letter, mbox, 2, 16 * shape[1]);
-    add_sent(true, other_source, other_letter, other_mbox, 101, 16 * shape[2] - 8);
-    add_sent(true, other_source, other_letter, other_mbox, 102, 16 * shape[3]);
+    add_message(source, letter, mbox, 1, 16 * shape[0] - 8);
+    add_message(source, letter, mbox, 2, 16 * shape[1]);
+    add_message(other_source, other_letter, other_mbox, 101, 16 * shape[2] - 8);
+    add_message(other_source, other_letter, other_mbox, 102, 16 * shape[3]);
     struct packet first[8], second[8];
     unsigned a = cut_two(first, 0, 0), b = cut_two(second, 1, 2);
     if (at >= a || byte >= first[at].length)
@@ -714,9 +760,9 @@ static void three(bool messages, unsigned n)
     for (unsigned i = 0; i < 3; i++, n /= 4) {
         unsigned packets = 1 + n % 4;
         if (messages)
-            add_sent(true, 2, 1, 2, i + 1, 16 * packets - (packets > 1 || i != 1 ? 8 : 0));
+            add_message(2, 1, 2, i + 1, 16 * packets - (packets > 1 || i != 1 ? 8 : 0));
         else
-            add_sent(false, 2, 5, 7 + i, i + 1, (packets - 1) * mtu + 18 + 2 * i);
+            add_pdu(own, 7 + i, i + 1, (packets - 1) * mtu + 18 + 2 * i);
         flow_count += cut(flow_packets + flow_count, 0, i);
     }
 }
@@ -921,14 +967,14 @@ static void put_in_at(bool messages, const struct packet *forged, unsigned packe
         claim_joined(forged, packets, at - 1, wrong);
 }
 
-/* Somebody puts in a packet under the flow's source and cos: of a PDU of his
-   own, of 1 to 4 packets. */
+/* Somebody puts in a packet under the flow's source, priority and cos: of a PDU
+   of his own, of 1 to 4 packets. */
 static void put_in(bool messages)
 {
     for (unsigned packets = 1; packets <= 4; packets++) {
         struct packet forged[4];
-        unsigned which = messages ? add_sent(true, 2, 1, 2, 77, 16 * packets - 8)
-                                  : add_sent(false, 2, 5, 99, 77, (packets - 1) * mtu + 12);
+        unsigned which = messages ? add_message(2, 1, 2, 77, 16 * packets - 8)
+                                  : add_pdu(own, 99, 77, (packets - 1) * mtu + 12);
         unsigned count_forged = cut(forged, 0, which);
         sent_count--; /* nobody of ours sent it */
         for (unsigned f = 0; f < count_forged; f++) {
@@ -937,6 +983,64 @@ static void put_in(bool messages)
                 put_in_at(messages, &forged[f], packets, at);
         }
     }
+}
+
+/* Another flow of the same source and cos, at a higher priority: its PDU of 1 to
+   4 packets, in every mixture with ours. */
+static void overtake(void)
+{
+    const struct packet *order[MOST_PACKETS];
+    struct packet other[4];
+    const struct flow urgent = { own.source, own.priority + 1, own.cos };
+    for (unsigned packets = 1; packets <= 4; packets++) {
+        unsigned count_other = cut(other, 1, add_pdu(urgent, 7, 77, (packets - 1) * mtu + 12));
+        for (unsigned long mask = 0; mask < 1ul << (flow_count + count_other); mask++) {
+            if (ones(mask) != flow_count)
+                continue;
+            interleave(order, flow_packets, flow_count, other, count_other, mask);
+            fault("overtaken | any | by another priority", order, flow_count + count_other, 0);
+        }
+        sent_count--;
+    }
+}
+
+/* The packets of our flow, some at another priority: those of PDU `which` by the
+   bits of a mask. */
+static void reprioritize(unsigned which, unsigned long mask)
+{
+    for (unsigned i = 0; i < flow_count; i++) {
+        if (flow_packets[i].sent != which)
+            continue;
+        if (mask & 1)
+            flow_packets[i].bytes[0] ^= 0x40;
+        mask >>= 1;
+    }
+}
+
+/* How many ways there are to give a PDU's packets two priorities. */
+static unsigned long ways(unsigned which)
+{
+    return (1ul << packets_in(which)) - 2;
+}
+
+/* One PDU whose packets have two priorities, and two of them one behind the
+   other. */
+static void two_priorities(void)
+{
+    const struct packet *order[MOST_PACKETS];
+    for (unsigned i = 0; i < flow_count; i++)
+        order[i] = &flow_packets[i];
+    for (unsigned which = 0; which < 3; which++)
+        for (unsigned long one = 1; one <= ways(which); one++) {
+            reprioritize(which, one);
+            fault("at two priorities | the packets of one PDU | ", order, flow_count, 0);
+            for (unsigned long two = 1; which < 2 && two <= ways(which + 1); two++) {
+                reprioritize(which + 1, two);
+                fault("at two priorities | those of two neighbours | ", order, flow_count, 0);
+                reprioritize(which + 1, two);
+            }
+            reprioritize(which, one);
+        }
 }
 
 static void print_fault_rows(const char *what, const char *kind)
@@ -979,6 +1083,10 @@ static void faults(bool messages)
             swap_continuations();
         swap_neighbours(messages);
         put_in(messages);
+        if (!messages) {
+            overtake();
+            two_priorities();
+        }
     }
     static const char *moved[] = { "repeated", "delayed", "swapped", "forged" };
     static const char *kinds[] = {
@@ -990,6 +1098,8 @@ static void faults(bool messages)
     for (size_t i = 0; i < sizeof moved / sizeof moved[0]; i++)
         for (size_t k = 0; k < sizeof kinds / sizeof kinds[0]; k++)
             print_fault_rows(moved[i], kinds[k]);
+    print_fault_rows("overtaken", "");
+    print_fault_rows("at two priorities", "");
 }
 
 /* ---- What the page says of two faults, and of messages ------------------------ */
@@ -1011,8 +1121,8 @@ static void two_faults(void)
 {
     struct packet a[4], b[4], sent[MOST_PACKETS];
     sent_count = 0;
-    cut(a, 0, add_sent(false, 2, 5, 7, 1, 3 * mtu + 8));
-    cut(b, 0, add_sent(false, 2, 5, 8, 2, 3 * mtu + 8));
+    cut(a, 0, add_pdu(own, 7, 1, 3 * mtu + 8));
+    cut(b, 0, add_pdu(own, 8, 2, 3 * mtu + 8));
     unsigned n = 0;
     send_one(sent, &n, &a[0]);
     send_one(sent, &n, &a[1]);
@@ -1029,13 +1139,34 @@ static void two_faults(void)
           "a start that comes again is joined to a PDU that lost its start");
 }
 
+/* A single whose priority is flipped, where the judging board expects flows of
+   both priorities: what its checks say, with the priority in the CRC or not. */
+static bool passes_as_other(bool summed)
+{
+    struct packet p[1];
+    sums_priority = summed;
+    sent_count = 0;
+    cut(p, 0, add_pdu(own, 7, 1, mtu));
+    add_pdu((struct flow){ own.source, own.priority ^ 1, own.cos }, 70, 101, mtu);
+    p[0].bytes[0] ^= 0x40;
+    struct run r = run_these(p, 1, 0);
+    sums_priority = true;
+    return r.passes_all;
+}
+
+static void flipped_priority(void)
+{
+    claim(!passes_as_other(true), "a flipped priority passes no CRC that covers it");
+    claim(passes_as_other(false), "a flipped priority passes all checks if the CRC leaves it out");
+}
+
 /* The page's example, and the fault that does not heal. */
 static void message_examples(void)
 {
     struct packet m[TEN][2], sent[MOST_PACKETS];
     sent_count = 0;
     for (unsigned i = 0; i < TEN; i++)
-        cut(m[i], 0, add_sent(true, 2, 1, 2, i + 1, 32));
+        cut(m[i], 0, add_message(2, 1, 2, i + 1, 32));
     unsigned n = 0;
     send_one(sent, &n, &m[0][0]);
     send_one(sent, &n, &m[1][0]);
@@ -1132,8 +1263,8 @@ static void ten(bool messages, unsigned packets)
     sent_count = 0;
     flow_count = 0;
     for (unsigned i = 0; i < TEN; i++) {
-        unsigned which = messages ? add_sent(true, 2, 1, 2, i + 1, 16 * packets - 8)
-                                  : add_sent(false, 2, 5, 7 + i, i + 1, (packets - 1) * mtu + 18);
+        unsigned which = messages ? add_message(2, 1, 2, i + 1, 16 * packets - 8)
+                                  : add_pdu(own, 7 + i, i + 1, (packets - 1) * mtu + 18);
         flow_count += cut(flow_packets + flow_count, 0, which);
     }
 }
@@ -1242,7 +1373,7 @@ static void type_11_as_9(void)
                 kinds[kind_of(alone(packet, 7 + bytes))]++;
             }
         }
-    print_kinds("11 read as 9, its flow (source and byte 5) not open", kinds);
+    print_kinds("11 read as 9, its flow (source, priority and byte 5) not open", kinds);
 }
 
 static void type_bit(void)
@@ -1260,6 +1391,7 @@ int main(void)
     faults(false);
     faults(true);
     two_faults();
+    flipped_priority();
     message_examples();
     sizes(false);
     sizes(true);

@@ -248,6 +248,22 @@ static void stream_bytes(void)
     WANT(kaiverohm_desk_bytes(&desk, &r) == NULL);
 }
 
+/* A source and a cos at two priorities are two flows: the second's bytes stand in the second room. */
+static void priorities(void)
+{
+    fresh();
+    WANT(start_came(9).dropped == 0);
+    WANT(came(0x59, 9, 5, 0x80, "\x08\x08", MTU).dropped == 0);
+    WANT(kaiverohm_desk_stream_context(&desk, 0).priority == 0);
+    WANT(kaiverohm_desk_stream_context(&desk, 1).priority == 1);
+    memcpy(packet, "\x59\x01\x02\x00\x09\x05\x42\x00\x22\x21\x22", 11);
+    struct kaiverohm_report r = kaiverohm_desk_read(&desk, packet, 11);
+    WANT(r.kind == KAIVEROHM_DELIVERED && r.context == 1 && r.priority == 1);
+    WANT(r.stream_or_mailbox == 0x0808 && kaiverohm_desk_bytes(&desk, &r) == streams + ROOM);
+    WANT(kaiverohm_desk_stream_context(&desk, 0).stream == 0x0707);
+    WANT(kaiverohm_desk_stream_context(&desk, 1).kind == KAIVEROHM_WAS_FREE);
+}
+
 static void message_bytes(void)
 {
     fresh();
@@ -341,6 +357,7 @@ int main(void)
     words();
     limits();
     stream_bytes();
+    priorities();
     message_bytes();
     rooms();
     abandons();

@@ -5,7 +5,8 @@
 
    Random, from a seed that is printed: differ [SEED [PACKETS]]. The width of the
    IDs is random too, anew at each setup; each of the two reads at least that many
-   packets. Now and then a packet has the other one.
+   packets. Now and then a packet has the other one. Most flows have beside them
+   one that differs in its priority alone, and one that differs in its cos alone.
 
    One difference is expected. A context's open word may hold any number but 0.
    On an accepted segment the library writes 1 there, the second program leaves
@@ -22,11 +23,22 @@
 
 enum { GUARD = 64, WORDS = KAIVEROHM_STATE_WORDS, PACKET = 700, BURST = 40 };
 
-/* The words of a state where the contexts begin. */
-enum { STREAMS = 4, MESSAGES = STREAMS + 16 * 5 };
+/* The words of a state before the priority came into it. */
+enum { BEFORE = 148 };
+
+/* The words of a context, and the words of a state where the contexts begin. */
+enum { STREAM_WORDS = 6, MESSAGE_WORDS = 8 };
+enum { STREAMS = 4, MESSAGES = STREAMS + 16 * STREAM_WORDS };
+
+/* The bytes of a report. */
+enum { REPORT = 8 * KAIVEROHM_REPORT_WORDS };
+
+_Static_assert(8 * WORDS == sizeof(struct second_endpoint), "both states have as many words");
+_Static_assert(REPORT == sizeof(struct kaiverohm_report), "a report");
 
 static uint64_t seed;
 static unsigned long long packets, bursts, calls, states19, twins;
+static unsigned long long beside_priority, beside_cos; /* packets: see count_beside */
 static unsigned long long refusals[48], kinds[8], stops[5];
 static unsigned long long read_at[2]; /* packets, by the width: 16 bits, 8 bits */
 
@@ -161,6 +173,19 @@ static void no_board(struct board *b)
     free(b->second_response);
 }
 
+/* What is no state: one word less or more, none, or as many as it had before. */
+static size_t some_no_state(void)
+{
+    static const size_t some[] = { WORDS - 1, WORDS + 1, 0, BEFORE };
+    return some[below(4)];
+}
+
+/* The second program's state is a struct; NULL stands for what is no state. */
+static struct second_endpoint *second_lent_as(struct board *b, size_t count)
+{
+    return count == WORDS ? &b->second : NULL;
+}
+
 /* A word of the second program's state by its place in the library's. */
 static uint64_t *second_word(struct second_endpoint *s, size_t i)
 {
@@ -173,19 +198,23 @@ static uint64_t *second_word(struct second_endpoint *s, size_t i)
     if (i == 3)
         return &s->eight_bits;
     if (i < MESSAGES) {
-        struct second_stream *c = &s->stream[(i - STREAMS) / 5];
-        uint64_t *field[] = { &c->open, &c->source, &c->cos, &c->stream_id, &c->held };
-        return field[(i - STREAMS) % 5];
+        struct second_stream *c = &s->stream[(i - STREAMS) / STREAM_WORDS];
+        uint64_t *field[] = {
+            &c->open, &c->source, &c->priority, &c->cos, &c->stream_id, &c->held
+        };
+        return field[(i - STREAMS) % STREAM_WORDS];
     }
-    struct second_message *c = &s->message[(i - MESSAGES) / 8];
+    struct second_message *c = &s->message[(i - MESSAGES) / MESSAGE_WORDS];
     uint64_t *field[] = { &c->open,   &c->source, &c->letter, &c->mbox,
                           &c->msglen, &c->ssize,  &c->marks,  &c->last };
-    return field[(i - MESSAGES) % 8];
+    return field[(i - MESSAGES) % MESSAGE_WORDS];
 }
 
 static int is_open_word(size_t i)
 {
-    return i >= MESSAGES ? (i - MESSAGES) % 8 == 0 : i >= STREAMS && (i - STREAMS) % 5 == 0;
+    if (i < STREAMS)
+        return 0;
+    return i < MESSAGES ? (i - STREAMS) % STREAM_WORDS == 0 : (i - MESSAGES) % MESSAGE_WORDS == 0;
 }
 
 /* Any number but 0 says that a context is open. The library writes 1 into a
@@ -260,16 +289,18 @@ static void same_report(const struct kaiverohm_report *a, struct second_answer b
         refusals[b.refusal % 48]++;
     if (a->kind != kind_of(b.kind) || a->number != b.refusal || a->dropped != b.dropped
         || a->context != b.context || a->source != b.source || a->cos_or_letter != b.cos_or_letter
-        || a->stream_or_mailbox != b.stream_or_mailbox || a->length != b.length)
-        fail("report %llu %llu %llu, %llu %llu %llu %llu %llu "
-             "and answer %d %u %d, %llu %llu %llu %llu %llu",
+        || a->stream_or_mailbox != b.stream_or_mailbox || a->length != b.length
+        || a->priority != b.priority)
+        fail("report %llu %llu %llu, %llu %llu %llu %llu %llu at %llu "
+             "and answer %d %u %d, %llu %llu %llu %llu %llu at %llu",
              (unsigned long long)a->kind, (unsigned long long)a->number,
              (unsigned long long)a->dropped, (unsigned long long)a->context,
              (unsigned long long)a->source, (unsigned long long)a->cos_or_letter,
-             (unsigned long long)a->stream_or_mailbox, (unsigned long long)a->length, b.kind,
-             b.refusal, b.dropped, (unsigned long long)b.context, (unsigned long long)b.source,
+             (unsigned long long)a->stream_or_mailbox, (unsigned long long)a->length,
+             (unsigned long long)a->priority, b.kind, b.refusal, b.dropped,
+             (unsigned long long)b.context, (unsigned long long)b.source,
              (unsigned long long)b.cos_or_letter, (unsigned long long)b.stream_or_mailbox,
-             (unsigned long long)b.length);
+             (unsigned long long)b.length, (unsigned long long)b.priority);
     if (a->response != b.response)
         fail("report says %llu bytes of response, answer %llu", (unsigned long long)a->response,
              (unsigned long long)b.response);
@@ -290,7 +321,7 @@ struct posting {
     unsigned source, letter, mbox, msglen, ssize, last, sent;
 };
 
-static struct sending sendings[20];
+static struct sending sendings[24];
 static struct posting postings[11];
 
 /* A number that says 8 bits: any but 0. */
@@ -376,24 +407,32 @@ static void any_segment(void)
     same_segment(packet, room, h, mtu, pdu, one_in(20) ? 0 : below(sizeof pdu), below(20));
 }
 
+/* Another PDU. Of eight sendings of one source, two by two differ in their priority
+   alone and two by two in their cos alone; the first four are the busiest. Now and
+   then a PDU is sent on the flow of another sending. */
+static void next_pdu(struct sending *s, uint64_t mtu, uint64_t room)
+{
+    const unsigned i = (unsigned)(s - sendings);
+    s->heading.source = (uint16_t)(1 + i / 8);
+    s->heading.cos = (uint8_t)(i / 2 % 2);
+    s->heading.priority = (uint8_t)(i % 2 + i / 4 % 2 * 2);
+    if (one_in(8))
+        s->heading.priority = (uint8_t)below(4);
+    s->heading.stream = (uint16_t)draw();
+    s->length = one_in(8) ? 1 + below(sizeof s->pdu) : 1 + below(room < 4 * mtu ? room : 4 * mtu);
+    if (s->length > sizeof s->pdu)
+        s->length = sizeof s->pdu;
+    scatter(s->pdu, s->length);
+    s->next = 0;
+}
+
 static size_t stream_packet(uint8_t *packet, const struct board *b)
 {
-    const uint64_t mtu = b->mtu, room = b->room;
-    struct sending *s = &sendings[one_in(4) ? below(20) : below(4)];
-    uint64_t count = kaiverohm_segment_count(mtu, s->length);
+    const uint64_t mtu = b->mtu;
+    struct sending *s = &sendings[one_in(4) ? below(24) : below(4)];
     size_t length;
-    if (s->next >= count) {
-        s->heading.source = (uint16_t)(1 + (s - sendings) % 5);
-        s->heading.cos = (uint8_t)((s - sendings) / 5);
-        s->heading.stream = (uint16_t)draw();
-        s->heading.priority = (uint8_t)below(4);
-        s->length =
-            one_in(8) ? 1 + below(sizeof s->pdu) : 1 + below(room < 4 * mtu ? room : 4 * mtu);
-        if (s->length > sizeof s->pdu)
-            s->length = sizeof s->pdu;
-        scatter(s->pdu, s->length);
-        s->next = 0;
-    }
+    if (s->next >= kaiverohm_segment_count(mtu, s->length))
+        next_pdu(s, mtu, b->room);
     if (one_in(10))
         s->next++;
     s->heading.destination = b->device;
@@ -435,7 +474,7 @@ static size_t message_packet(uint8_t *packet, const struct board *b)
 
 static size_t damaged(uint8_t *packet, size_t length, const struct board *b)
 {
-    switch (below(7)) {
+    switch (below(8)) {
     case 0:
         /* a bit of the head */
         packet[below(9)] ^= (uint8_t)(1 << below(8));
@@ -460,21 +499,26 @@ static size_t damaged(uint8_t *packet, size_t length, const struct board *b)
         scatter(packet, PACKET);
         return put_head(packet, some_width(b), one_in(2) ? 9 : 11, b->device, (unsigned)draw())
                + below(40);
+    case 6:
+        /* another priority */
+        packet[0] ^= (uint8_t)((1 + below(3)) << 6);
+        return length;
     default:
         /* cut to an even length */
         return length & ~(size_t)1;
     }
 }
 
-/* Now and then seventeen starts on seventeen flows, so that no context is free. */
+/* Now and then seventeen starts on seventeen flows, of five sources and four
+   priorities, so that no context is free. */
 static size_t flood_packet(uint8_t *packet, const struct board *b, unsigned number)
 {
     struct kaiverohm_heading h = {
         .destination = b->device,
-        .source = (uint16_t)(100 + number),
+        .source = (uint16_t)(100 + number / 4),
         .stream = 7,
         .cos = 200,
-        .priority = 0,
+        .priority = (uint8_t)(number % 4),
         .narrow = b->narrow,
     };
     uint8_t pdu[512];
@@ -522,8 +566,17 @@ static void choose_width(struct board *b, int narrow)
     b->device = ids[below(narrow ? 5 : 8)];
 }
 
+/* What is no state stays as it is. */
+static void no_set_up(struct board *b, size_t count, const char *call)
+{
+    const struct kaiverohm_settings s = right_settings(b);
+    same_answer(kaiverohm_setup(words(b), count, s),
+                second_setup(NULL, s.device, s.mtu, s.room, s.narrow), call);
+    same_words(words(b), &b->second, call);
+}
+
 /* A device that is too wide, an MTU and an R that are off, one and then two of
-   them; a state that is too long. Then all is right. */
+   them; a state that is too long or too short. Then all is right. */
 static void setups(struct board *b)
 {
     struct kaiverohm_settings s = right_settings(b);
@@ -537,9 +590,8 @@ static void setups(struct board *b)
     s = right_settings(b);
     s.room = 65537;
     set_up(b, s, "setup, R off");
-    struct kaiverohm_answer a = kaiverohm_setup(words(b), WORDS + 1, right_settings(b));
-    if (a.kind != KAIVEROHM_REFUSED || a.number != 12)
-        fail("setup of a long state");
+    no_set_up(b, WORDS + 1, "setup of a long state");
+    no_set_up(b, BEFORE, "setup of a state of before the priority");
     set_up_well(b);
     same_board(b, "setup");
 }
@@ -559,14 +611,33 @@ static struct lengths right_lengths(const struct board *b, size_t response)
 static void make_one_wrong(struct lengths *l)
 {
     switch (below(4)) {
-    case 0: l->words = one_in(2) ? WORDS - 1 : WORDS + 1; break;
+    case 0: l->words = some_no_state(); break;
     case 1: l->streams = one_in(4) ? 0 : l->streams + 1 - 2 * below(2); break;
     case 2: l->messages = one_in(4) ? 0 : l->messages + 1 - 2 * below(2); break;
     default: l->response = below(7); break;
     }
 }
 
-/* The second program's state is a struct: it has no wrong length. */
+/* Counts the packets of type 9 beside whose flow another is open that differs in its
+   priority alone, or in its cos alone. */
+static void count_beside(const struct board *b, const uint8_t *packet, size_t length)
+{
+    const size_t fields = header(b->second.eight_bits);
+    if (length < fields + 2 || (packet[0] & 63) != (b->second.eight_bits ? 9 : 25))
+        return;
+    const uint64_t source = b->second.eight_bits ? packet[2] : packet[3] * 256u + packet[4];
+    int other_priority = 0, other_cos = 0;
+    for (size_t i = 0; i < 16; i++) {
+        const struct second_stream *c = &b->second.stream[i];
+        if (!c->open || c->source != source)
+            continue;
+        other_priority |= c->cos == packet[fields] && c->priority != packet[0] >> 6;
+        other_cos |= c->cos != packet[fields] && c->priority == packet[0] >> 6;
+    }
+    beside_priority += (unsigned)other_priority;
+    beside_cos += (unsigned)other_cos;
+}
+
 static struct second_answer second_reads(struct board *b, struct lengths l, uint8_t *response,
                                          const uint8_t *packet, size_t length)
 {
@@ -580,9 +651,8 @@ static struct second_answer second_reads(struct board *b, struct lengths l, uint
     };
     packets++;
     read_at[b->second.eight_bits != 0]++;
-    if (l.words != WORDS)
-        return (struct second_answer){ .kind = SECOND_REFUSED, .refusal = 12 };
-    return second_read(&b->second, lent, packet, length);
+    count_beside(b, packet, length);
+    return second_read(second_lent_as(b, l.words), lent, packet, length);
 }
 
 static void read_one(struct board *b, struct lengths l, const uint8_t *packet, size_t length)
@@ -604,10 +674,13 @@ static void read_one(struct board *b, struct lengths l, const uint8_t *packet, s
 
 /* ---- what is open */
 
-/* What a call on context n of so many is refused with, or 0. */
-static uint64_t refused(const struct board *b, uint64_t n, uint64_t count)
+/* What a call on context n of so many is refused with, or 0, where the state is lent
+   with so many words. */
+static uint64_t refused(const struct board *b, size_t count, uint64_t n, uint64_t contexts)
 {
-    return second_refusal19(&b->second) ? 19 : n >= count ? 13 : 0;
+    if (count != WORDS)
+        return 12;
+    return second_refusal19(&b->second) ? 19 : n >= contexts ? 13 : 0;
 }
 
 static uint64_t kind_asked(uint64_t number, uint64_t open)
@@ -615,16 +688,17 @@ static uint64_t kind_asked(uint64_t number, uint64_t open)
     return number ? KAIVEROHM_REFUSED : open ? KAIVEROHM_OPEN : KAIVEROHM_WAS_FREE;
 }
 
-static void same_stream(struct board *b, uint64_t n)
+static void same_stream(struct board *b, size_t count, uint64_t n)
 {
-    struct kaiverohm_open_stream here = kaiverohm_stream_context(words(b), WORDS, n), there = { 0 };
+    struct kaiverohm_open_stream here = kaiverohm_stream_context(words(b), count, n), there = { 0 };
     struct second_stream c = { 0 };
-    there.number = refused(b, n, 16);
+    there.number = refused(b, count, n, 16);
     if (!there.number)
         c = b->second.stream[n];
     there.kind = kind_asked(there.number, c.open);
     if (c.open) {
         there.source = c.source;
+        there.priority = c.priority;
         there.cos = c.cos;
         there.stream = c.stream_id;
         there.held = c.held;
@@ -633,12 +707,12 @@ static void same_stream(struct board *b, uint64_t n)
         fail("stream_context %llu", (unsigned long long)n);
 }
 
-static void same_message(struct board *b, uint64_t n)
+static void same_message(struct board *b, size_t count, uint64_t n)
 {
-    struct kaiverohm_open_message here = kaiverohm_message_context(words(b), WORDS, n),
+    struct kaiverohm_open_message here = kaiverohm_message_context(words(b), count, n),
                                   there = { 0 };
     struct second_message c = { 0 };
-    there.number = refused(b, n, 8);
+    there.number = refused(b, count, n, 8);
     if (!there.number)
         c = b->second.message[n];
     there.kind = kind_asked(there.number, c.open);
@@ -657,8 +731,9 @@ static void same_message(struct board *b, uint64_t n)
 
 static void what_is_open(struct board *b)
 {
-    same_stream(b, one_in(8) ? draw() : below(18));
-    same_message(b, one_in(8) ? draw() : below(10));
+    const size_t count = one_in(8) ? some_no_state() : WORDS;
+    same_stream(b, count, one_in(8) ? draw() : below(18));
+    same_message(b, count, one_in(8) ? draw() : below(10));
     calls += 2;
     same_board(b, "context");
 }
@@ -667,36 +742,31 @@ static void what_is_open(struct board *b)
 
 static void other_calls(struct board *b)
 {
+    const size_t count = one_in(8) ? some_no_state() : WORDS;
+    struct second_endpoint *second = second_lent_as(b, count);
     what_is_open(b);
     uint64_t n = one_in(8) ? draw() : below(18);
     uint64_t l = one_in(8) ? draw() : below(b->room + 2);
     size_t size = 16 * b->room + (one_in(8) ? 1 : 0);
-    struct kaiverohm_place p = kaiverohm_stream_room(words(b), WORDS, size, n, l);
-    struct second_part part = second_stream_room(&b->second, b->second_streams, size, n, l);
+    struct kaiverohm_place p = kaiverohm_stream_room(words(b), count, size, n, l);
+    struct second_part part = second_stream_room(second, b->second_streams, size, n, l);
     if (p.length != part.length || p.offset != (uint64_t)(part.bytes - b->second_streams))
         fail("stream_room");
     l = one_in(8) ? draw() : below(4098);
     size = KAIVEROHM_MESSAGE_MEMORY + (one_in(8) ? 1 : 0);
     n = one_in(8) ? draw() : below(10);
-    p = kaiverohm_message_room(words(b), WORDS, size, n, l);
-    part = second_message_room(&b->second, b->second_messages, size, n, l);
+    p = kaiverohm_message_room(words(b), count, size, n, l);
+    part = second_message_room(second, b->second_messages, size, n, l);
     if (p.length != part.length || p.offset != (uint64_t)(part.bytes - b->second_messages))
         fail("message_room");
-    p = kaiverohm_stream_room(words(b), WORDS - 1, 16 * b->room, 1, 1);
-    if (p.offset != 0 || p.length != 0)
-        fail("stream_room of a short state");
-    calls += 3;
+    calls += 2;
     n = one_in(8) ? draw() : below(18);
     if (one_in(2))
-        same_answer(kaiverohm_abandon_stream(words(b), WORDS, n),
-                    second_abandon_stream(&b->second, n), "abandon_stream");
+        same_answer(kaiverohm_abandon_stream(words(b), count, n), second_abandon_stream(second, n),
+                    "abandon_stream");
     else
-        same_answer(kaiverohm_abandon_message(words(b), WORDS, n % 11),
-                    second_abandon_message(&b->second, n % 11), "abandon_message");
-    same_board(b, "abandon");
-    struct kaiverohm_answer a = kaiverohm_abandon_stream(words(b), WORDS + 1, n);
-    if (a.kind != KAIVEROHM_REFUSED || a.number != 12)
-        fail("abandon_stream of a long state");
+        same_answer(kaiverohm_abandon_message(words(b), count, n % 11),
+                    second_abandon_message(second, n % 11), "abandon_message");
     same_board(b, "abandon");
 }
 
@@ -716,16 +786,20 @@ static uint64_t odd_number(const struct board *b)
     }
 }
 
-/* Two open contexts of one flow or one message: the lower number counts. */
+/* Two open contexts of one flow or one message: the lower number counts. Of streams
+   half the twins have any priority, also one that no packet has. */
 static void twin_contexts(struct board *b)
 {
     int streams = one_in(2);
-    size_t count = streams ? 16 : 8, width = streams ? 5 : 8, first = streams ? STREAMS : MESSAGES;
+    size_t count = streams ? 16 : 8, width = streams ? STREAM_WORDS : MESSAGE_WORDS;
+    size_t first = streams ? STREAMS : MESSAGES;
     size_t from = first + width * below(count), to = first + width * below(count);
     if (from == to || words(b)[from] == 0)
         return;
     for (size_t i = 0; i < width; i++)
         words(b)[to + i] = *second_word(&b->second, to + i) = words(b)[from + i];
+    if (streams && one_in(2))
+        words(b)[to + 2] = *second_word(&b->second, to + 2) = below(6);
     twins++;
 }
 
@@ -741,12 +815,12 @@ static void odd_state(struct board *b)
         words(b)[i] = *second_word(&b->second, i) = odd_number(b);
     }
     if (one_in(4)) /* an open message, nearly right */ {
-        size_t c = MESSAGES + 8 * below(8);
+        size_t c = MESSAGES + MESSAGE_WORDS * below(8);
         uint64_t values[] = {
             1 + below(2),           below(6),     below(4), below(4), below(17), 8 + below(8),
             below(1u << below(17)), 8 * below(34)
         };
-        for (size_t i = 0; i < 8; i++)
+        for (size_t i = 0; i < MESSAGE_WORDS; i++)
             words(b)[c + i] = *second_word(&b->second, c + i) = values[i];
     }
     if (second_refusal19(&b->second))
@@ -837,7 +911,7 @@ struct burst {
     uint8_t bytes[BURST * (PACKET + 20)];
     struct guarded lent, reports, replies;
     uint8_t *their_reports, *their_replies;
-    size_t streams, replies_length;
+    size_t words, streams, replies_length;
 };
 
 static void put_byte(struct burst *u, size_t byte)
@@ -910,11 +984,12 @@ static void lend(struct burst *u, const struct board *b)
     size_t room_reports = one_in(2) ? BURST + 2 : below(u->count + 2);
     size_t room_replies = one_in(2) ? BURST + 2 : 1 + below(u->count + 2);
     u->lent = guarded(u->length);
-    u->reports = guarded(72 * room_reports + 8 * below(9));
+    u->reports = guarded(REPORT * room_reports + 8 * below(KAIVEROHM_REPORT_WORDS));
     u->replies = guarded(8 * room_replies + below(8));
     u->their_reports = malloc(u->reports.length + 1);
     u->their_replies = malloc(u->replies.length);
     u->replies_length = one_in(20) ? below(9) : u->replies.length;
+    u->words = one_in(20) ? some_no_state() : WORDS;
     u->streams = 16 * b->room - (one_in(20) ? 1 : 0);
     memcpy(u->lent.bytes, u->bytes, u->length);
     scatter(u->reports.bytes, u->reports.length);
@@ -936,7 +1011,7 @@ static void give_back(struct burst *u)
 
 static struct kaiverohm_burst read_burst(struct board *b, struct burst *u)
 {
-    return kaiverohm_read_burst(words(b), WORDS, b->streams.bytes, u->streams, b->messages.bytes,
+    return kaiverohm_read_burst(words(b), u->words, b->streams.bytes, u->streams, b->messages.bytes,
                                 KAIVEROHM_MESSAGE_MEMORY, u->replies.bytes, u->replies_length,
                                 (uint64_t *)(void *)u->reports.bytes, u->reports.length / 8,
                                 u->lent.bytes, u->length, u->pause);
@@ -949,9 +1024,9 @@ static int same_packet(struct board *b, struct burst *u, size_t k)
     struct second_answer there =
         second_reads(b, l, u->their_replies + 8 * k, u->packets[k], u->lengths[k]);
     struct kaiverohm_report report;
-    memcpy(&report, u->reports.bytes + 72 * k, 72);
+    memcpy(&report, u->reports.bytes + REPORT * k, REPORT);
     same_report(&report, there, u->clear, u->replies.bytes + 8 * k);
-    memcpy(u->their_reports + 72 * k, &report, 72);
+    memcpy(u->their_reports + REPORT * k, &report, REPORT);
     return there.kind == SECOND_PDU || there.kind == SECOND_MESSAGE;
 }
 
@@ -963,12 +1038,14 @@ static struct kaiverohm_burst stopped(const struct burst *u, unsigned stop, size
 /* What the burst must say: the packets one after another. */
 static struct kaiverohm_burst one_after_another(struct board *b, struct burst *u)
 {
+    if (u->words != WORDS)
+        return (struct kaiverohm_burst){ KAIVEROHM_BURST_REFUSED, 12, 0, 0 };
     if (second_refusal19(&b->second))
         return (struct kaiverohm_burst){ KAIVEROHM_BURST_REFUSED, 19, 0, 0 };
     if (u->streams != 16 * b->second.room || u->replies_length < (b->second.eight_bits ? 5u : 7u))
         return (struct kaiverohm_burst){ KAIVEROHM_BURST_REFUSED, 12, 0, 0 };
     for (size_t k = 0; k < u->count; k++) {
-        if (k == u->reports.length / 72 || k == u->replies_length / 8)
+        if (k == u->reports.length / REPORT || k == u->replies_length / 8)
             return stopped(u, KAIVEROHM_BURST_FULL, k);
         if (same_packet(b, u, k) && u->pause != 0)
             return stopped(u, KAIVEROHM_BURST_DELIVERY, k + 1);
@@ -1057,6 +1134,8 @@ static void print_counts(void)
     printf("packets %llu (%llu with IDs of 16 bits, %llu of 8), bursts %llu, other calls %llu, ",
            packets, read_at[0], read_at[1], bursts, calls);
     printf("states that 19 names %llu, with twins %llu\n", states19, twins);
+    printf("type 9 beside an open flow that differs in priority alone %llu, in cos alone %llu\n",
+           beside_priority, beside_cos);
     printf("held %llu, delivered %llu, messages %llu, refused:", kinds[KAIVEROHM_HELD],
            kinds[KAIVEROHM_DELIVERED], kinds[KAIVEROHM_MESSAGE]);
     for (unsigned n = 0; n < 48; n++)
@@ -1078,6 +1157,8 @@ static void all_occurred(void)
     for (size_t i = 0; i < sizeof stops / sizeof stops[0]; i++)
         if (stops[i] == 0)
             fail("no burst stopped by %zu", i);
+    if (beside_priority < packets / 20 || beside_cos < packets / 20)
+        fail("too few flows that differ in their priority alone, or in their cos alone");
 }
 
 int main(int argc, char **argv)

@@ -20,10 +20,14 @@ enum {
     ROOM = 100,
     MOST = 70000,
     WORDS = KAIVEROHM_STATE_WORDS,
-    HEAD = 4, /* words of a state before its contexts */
+    HEAD = 4,          /* words of a state before its contexts */
+    STREAM_WORDS = 6,  /* of a stream context: open, source, priority, cos, streamID, held */
+    MESSAGE_WORDS = 8, /* of a message context */
+    OLD_WORDS = 148,   /* of a state without priorities, of interface 2 */
     REPLY = KAIVEROHM_RESPONSE_BYTES,
     SLOT = KAIVEROHM_SLOT_BYTES,
     REPORT = KAIVEROHM_REPORT_WORDS,
+    REPORTS = 3 * REPORT,
     STREAM_MEMORY = KAIVEROHM_STREAM_CONTEXTS * ROOM
 };
 
@@ -73,12 +77,12 @@ static uint64_t *state(size_t words)
 
 static uint64_t *stream_context(size_t n)
 {
-    return state(WORDS) + HEAD + 5 * n;
+    return state(WORDS) + HEAD + STREAM_WORDS * n;
 }
 
 static uint64_t *message_context(size_t n)
 {
-    return state(WORDS) + HEAD + 5 * KAIVEROHM_STREAM_CONTEXTS + 8 * n;
+    return stream_context(KAIVEROHM_STREAM_CONTEXTS) + MESSAGE_WORDS * n;
 }
 
 /* The buffers as they stood, with the longest lengths that are lent. */
@@ -164,6 +168,12 @@ static void set_source(unsigned source)
     packet[narrow ? 2 : 4] = (uint8_t)source;
 }
 
+static size_t at_priority(unsigned priority, size_t length)
+{
+    packet[0] = (uint8_t)(priority << 6 | (packet[0] & 0x3f));
+    return length;
+}
+
 #define MADE(head, data) made(head, sizeof head - 1, data)
 #define START(source) MADE("\x19\x01\x02\x00" source "\x05\x80\x00\x07", MTU)
 
@@ -190,7 +200,7 @@ static void refuses(size_t length, unsigned number, unsigned dropped, int change
          line);
     want(r.response == (number >= 20 ? reply() : 0), "response", line);
     want(r.context == 0 && r.source == 0 && r.cos_or_letter == 0 && r.stream_or_mailbox == 0
-             && r.length == 0,
+             && r.length == 0 && r.priority == 0,
          "fields that a refusal does not name are 0", line);
     want(changed() == changes, "what is left", line);
 }
@@ -314,7 +324,7 @@ static void states(void)
     stream_context(0)[0] = 7;
     stream_context(1)[0] = UINT64_MAX;
     REFUSES(MADE("\x19\x01\x02\x00\x09\x05\x00", 31), 6, 1, STATE);
-    WANT(stream_context(0)[0] == 7 && zeros(stream_context(1), 40));
+    WANT(stream_context(0)[0] == 7 && zeros(stream_context(1), 8 * STREAM_WORDS));
 }
 
 /* ---- row 19, in every context: the paper's words once more */
@@ -358,11 +368,11 @@ static void row_19_streams(void)
         for (size_t choice = 0, left = 0; left == 0; choice++) {
             left = choice;
             c[0] = PICK(opens);
-            c[4] = PICK(held);
+            c[5] = PICK(held);
             if (left == 0)
-                WANT(is_state() == !(c[0] != 0 && (c[4] == 0 || c[4] > ROOM)));
+                WANT(is_state() == !(c[0] != 0 && (c[5] == 0 || c[5] > ROOM)));
         }
-        memset(c, 0, 40);
+        memset(c, 0, 8 * STREAM_WORDS);
     }
 }
 
@@ -389,7 +399,7 @@ static void row_19_messages(void)
             if (left == 0)
                 WANT(is_state() == !(c[0] != 0 && bad_message(c[4], c[5], c[6], c[7])));
         }
-        memset(c, 0, 64);
+        memset(c, 0, 8 * MESSAGE_WORDS);
     }
 }
 
@@ -404,12 +414,12 @@ static void row_19_widths(void)
     }
 }
 
-/* A number of a context counts with all its 64 bits: source and cos. */
+/* A number of a context counts with all its 64 bits: source, priority and cos. */
 static void wide_stream_numbers(void)
 {
-    static const uint64_t open_one[] = { 1, 9, 5, 7, MTU };
+    static const uint64_t open_one[STREAM_WORDS] = { 1, 9, 0, 5, 7, MTU };
     for (size_t n = 0; n < KAIVEROHM_STREAM_CONTEXTS; n++)
-        for (size_t word = 1; word < 3; word++) {
+        for (size_t word = 1; word < 4; word++) {
             uint64_t *c = stream_context(n);
             fresh();
             memcpy(c, open_one, sizeof open_one);
@@ -423,7 +433,7 @@ static void wide_stream_numbers(void)
 /* And source, letter and mbox. */
 static void wide_message_numbers(void)
 {
-    static const uint64_t open_one[] = { 1, 9, 1, 2, 1, 9, 1, 0 };
+    static const uint64_t open_one[MESSAGE_WORDS] = { 1, 9, 1, 2, 1, 9, 1, 0 };
     for (size_t n = 0; n < KAIVEROHM_MESSAGE_CONTEXTS; n++)
         for (size_t word = 1; word < 4; word++) {
             uint64_t *c = message_context(n);
@@ -633,23 +643,23 @@ static void says(struct kaiverohm_burst b, unsigned stop, unsigned number, uint6
 
 static const uint64_t *reports(void)
 {
-    return (const uint64_t *)(const void *)(reports_end - 8 * 27);
+    return (const uint64_t *)(const void *)(reports_end - 8 * REPORTS);
 }
 
 static void rooms_for_packets(void)
 {
     fresh();
-    BURST(64, 27, "", 0, KAIVEROHM_BURST_END, 0, 0, 0);
-    BURST(64, 27, EMPTY EMPTY, 0, KAIVEROHM_BURST_END, 0, 2, 2);
+    BURST(64, REPORTS, "", 0, KAIVEROHM_BURST_END, 0, 0, 0);
+    BURST(64, REPORTS, EMPTY EMPTY, 0, KAIVEROHM_BURST_END, 0, 2, 2);
     /* no room for a single packet: full, and calling again with these helps nothing */
-    BURST(SLOT - 1, 27, EMPTY, 0, KAIVEROHM_BURST_FULL, 0, 0, 0);
+    BURST(SLOT - 1, REPORTS, EMPTY, 0, KAIVEROHM_BURST_FULL, 0, 0, 0);
     WANT(changed() == 0);
     BURST(64, REPORT - 1, EMPTY, 0, KAIVEROHM_BURST_FULL, 0, 0, 0);
     BURST(64, 0, EMPTY, 0, KAIVEROHM_BURST_FULL, 0, 0, 0);
     BURST(64, 0, "", 0, KAIVEROHM_BURST_END, 0, 0, 0);
     /* a record that is none is bad before there is no room for it */
     BURST(64, 0, "\x05", 0, KAIVEROHM_BURST_BAD, 0, 0, 0);
-    BURST(REPLY, 27, "\x05", 0, KAIVEROHM_BURST_BAD, 0, 0, 0);
+    BURST(REPLY, REPORTS, "\x05", 0, KAIVEROHM_BURST_BAD, 0, 0, 0);
     BURST(64, REPORT, EMPTY "\x05", 0, KAIVEROHM_BURST_BAD, 0, 1, 1);
     BURST(64, REPORT, EMPTY "\x81\x00", 0, KAIVEROHM_BURST_BAD, 0, 1, 1);
     /* reports of any length */
@@ -659,43 +669,43 @@ static void rooms_for_packets(void)
              words / REPORT, __LINE__);
     /* room for one */
     BURST(64, 2 * REPORT - 1, EMPTY EMPTY, 0, KAIVEROHM_BURST_FULL, 0, 1, 1);
-    BURST(2 * SLOT - 1, 27, EMPTY EMPTY, 0, KAIVEROHM_BURST_FULL, 0, 1, 1);
+    BURST(2 * SLOT - 1, REPORTS, EMPTY EMPTY, 0, KAIVEROHM_BURST_FULL, 0, 1, 1);
     BURST(SLOT, REPORT, EMPTY, 0, KAIVEROHM_BURST_END, 0, 1, 1);
     WANT(changed() == 0);
 }
 
 static void lengths_of_records(void)
 {
-    BURST(64, 27, EMPTY "\x80", 0, KAIVEROHM_BURST_BAD, 0, 1, 1);
-    BURST(64, 27, EMPTY "\x81\x00\x61\x62\x63", 0, KAIVEROHM_BURST_BAD, 0, 1, 1);
-    BURST(64, 27, EMPTY "\x81\x81\x01", 0, KAIVEROHM_BURST_BAD, 0, 1, 1);
-    BURST(64, 27, EMPTY "\x02x", 0, KAIVEROHM_BURST_BAD, 0, 1, 1);
+    BURST(64, REPORTS, EMPTY "\x80", 0, KAIVEROHM_BURST_BAD, 0, 1, 1);
+    BURST(64, REPORTS, EMPTY "\x81\x00\x61\x62\x63", 0, KAIVEROHM_BURST_BAD, 0, 1, 1);
+    BURST(64, REPORTS, EMPTY "\x81\x81\x01", 0, KAIVEROHM_BURST_BAD, 0, 1, 1);
+    BURST(64, REPORTS, EMPTY "\x02x", 0, KAIVEROHM_BURST_BAD, 0, 1, 1);
     static char longest[2 + 16383 + 1];
     memcpy(longest, "\xff\x7f", 2);
-    says(burst(64, 27, longest, 2 + 16383, 0), KAIVEROHM_BURST_END, 0, 1, 2 + 16383, __LINE__);
-    says(burst(64, 27, longest, 2 + 16382, 0), KAIVEROHM_BURST_BAD, 0, 0, 0, __LINE__);
+    says(burst(64, REPORTS, longest, 2 + 16383, 0), KAIVEROHM_BURST_END, 0, 1, 2 + 16383, __LINE__);
+    says(burst(64, REPORTS, longest, 2 + 16382, 0), KAIVEROHM_BURST_BAD, 0, 0, 0, __LINE__);
     memcpy(longest, "\x80\x01", 2);
-    says(burst(64, 27, longest, 2 + 128, 0), KAIVEROHM_BURST_END, 0, 1, 2 + 128, __LINE__);
+    says(burst(64, REPORTS, longest, 2 + 128, 0), KAIVEROHM_BURST_END, 0, 1, 2 + 128, __LINE__);
 }
 
 /* pause is any number but 0; a delivery at the end is a delivery */
 static void pauses(void)
 {
-    BURST(64, 27, MESSAGE MESSAGE EMPTY, 0, KAIVEROHM_BURST_END, 0, 3, 33);
-    BURST(64, 27, MESSAGE MESSAGE, 1, KAIVEROHM_BURST_DELIVERY, 0, 1, 16);
-    BURST(64, 27, MESSAGE MESSAGE, UINT64_C(1) << 63, KAIVEROHM_BURST_DELIVERY, 0, 1, 16);
-    BURST(64, 27, EMPTY MESSAGE, 256, KAIVEROHM_BURST_DELIVERY, 0, 2, 17);
+    BURST(64, REPORTS, MESSAGE MESSAGE EMPTY, 0, KAIVEROHM_BURST_END, 0, 3, 33);
+    BURST(64, REPORTS, MESSAGE MESSAGE, 1, KAIVEROHM_BURST_DELIVERY, 0, 1, 16);
+    BURST(64, REPORTS, MESSAGE MESSAGE, UINT64_C(1) << 63, KAIVEROHM_BURST_DELIVERY, 0, 1, 16);
+    BURST(64, REPORTS, EMPTY MESSAGE, 256, KAIVEROHM_BURST_DELIVERY, 0, 2, 17);
 }
 
 /* What stays: all behind the last report and its response, the eighth byte, a
    slot without a response. */
 static void what_a_burst_leaves(void)
 {
-    BURST(24, 27, EMPTY MESSAGE, 0, KAIVEROHM_BURST_END, 0, 2, 17);
+    BURST(24, REPORTS, EMPTY MESSAGE, 0, KAIVEROHM_BURST_END, 0, 2, 17);
     const uint64_t *r = reports();
-    WANT(r[0] == KAIVEROHM_REFUSED && r[1] == 1 && zeros(r + 2, 56));
-    WANT(r[9] == KAIVEROHM_MESSAGE && r[12] == 7 && r[14] == 9 && r[17] == 8);
-    WANT(all(r + 18, 72, 0xe4) && all(r - 1, 8, 0xe4));
+    WANT(r[0] == KAIVEROHM_REFUSED && r[1] == 1 && zeros(r + 2, 8 * (REPORT - 2)));
+    WANT(r[10] == KAIVEROHM_MESSAGE && r[13] == 7 && r[15] == 9 && r[18] == 8 && r[19] == 0);
+    WANT(all(r + 2 * REPORT, 8 * REPORT, 0xe4) && all(r - 1, 8, 0xe4));
     WANT(memcmp(response_end - 16, "\x5d\x00\x09\x01\x02\x10\x60", 7) == 0);
     WANT(all(response_end - 25, 9, 0xe3) && all(response_end - 9, 9, 0xe3));
 }
@@ -703,12 +713,12 @@ static void what_a_burst_leaves(void)
 /* 12 for the responses, 19 before it */
 static void refused_bursts(void)
 {
-    BURST(REPLY - 1, 27, MESSAGE, 0, KAIVEROHM_BURST_REFUSED, 12, 0, 0);
-    WANT(changed() == 0 && all(reports(), 8 * 27, 0xe4));
+    BURST(REPLY - 1, REPORTS, MESSAGE, 0, KAIVEROHM_BURST_REFUSED, 12, 0, 0);
+    WANT(changed() == 0 && all(reports(), 8 * REPORTS, 0xe4));
     state(WORDS)[2] = 0;
-    BURST(REPLY - 1, 27, MESSAGE, 0, KAIVEROHM_BURST_REFUSED, 19, 0, 0);
+    BURST(REPLY - 1, REPORTS, MESSAGE, 0, KAIVEROHM_BURST_REFUSED, 19, 0, 0);
     WANT(changed() == 0);
-    BURST(64, 27, "\x05", 0, KAIVEROHM_BURST_REFUSED, 19, 0, 0);
+    BURST(64, REPORTS, "\x05", 0, KAIVEROHM_BURST_REFUSED, 19, 0, 0);
 }
 
 /* The other lengths, each one off. */
@@ -737,21 +747,21 @@ static void bursts_of_8_bits(void)
 {
     static const char one[] = "\x0d\x0b\x02\x09\x09\x60\x61\x62\x63\x64\x65\x66\x67\x68";
     fresh();
-    BURST(4, 27, one, 0, KAIVEROHM_BURST_REFUSED, 12, 0, 0);
+    BURST(4, REPORTS, one, 0, KAIVEROHM_BURST_REFUSED, 12, 0, 0);
     WANT(changed() == 0);
-    BURST(0, 27, "", 0, KAIVEROHM_BURST_REFUSED, 12, 0, 0);
-    BURST(5, 27, "", 0, KAIVEROHM_BURST_END, 0, 0, 0);
-    BURST(5, 27, one, 0, KAIVEROHM_BURST_FULL, 0, 0, 0);
-    BURST(SLOT - 1, 27, one, 0, KAIVEROHM_BURST_FULL, 0, 0, 0);
+    BURST(0, REPORTS, "", 0, KAIVEROHM_BURST_REFUSED, 12, 0, 0);
+    BURST(5, REPORTS, "", 0, KAIVEROHM_BURST_END, 0, 0, 0);
+    BURST(5, REPORTS, one, 0, KAIVEROHM_BURST_FULL, 0, 0, 0);
+    BURST(SLOT - 1, REPORTS, one, 0, KAIVEROHM_BURST_FULL, 0, 0, 0);
     WANT(changed() == 0);
-    BURST(SLOT, 27, one, 0, KAIVEROHM_BURST_END, 0, 1, 14);
+    BURST(SLOT, REPORTS, one, 0, KAIVEROHM_BURST_END, 0, 1, 14);
     WANT(memcmp(response_end - SLOT, "\x4d\x09\x02\x10\x60\xe3\xe3\xe3", SLOT) == 0);
     const uint64_t *r = reports();
     WANT(r[0] == KAIVEROHM_MESSAGE && r[3] == 5 && r[5] == 9 && r[8] == 8);
     /* a packet of the other width has a report, and its slot stays */
-    BURST(2 * SLOT, 27, MESSAGE "\x0d\x0b\x02\x09\x09\x60\x61\x62\x63\x64\x65\x66\x67\x68", 0,
+    BURST(2 * SLOT, REPORTS, MESSAGE "\x0d\x0b\x02\x09\x09\x60\x61\x62\x63\x64\x65\x66\x67\x68", 0,
           KAIVEROHM_BURST_END, 0, 2, 30);
-    WANT(r[0] == KAIVEROHM_REFUSED && r[1] == 2 && r[3] == 0 && r[9] == KAIVEROHM_MESSAGE);
+    WANT(r[0] == KAIVEROHM_REFUSED && r[1] == 2 && r[3] == 0 && r[REPORT] == KAIVEROHM_MESSAGE);
     WANT(all(response_end - 2 * SLOT, SLOT, 0xe3) && response_end[-SLOT] == 0x4d);
 }
 
@@ -791,7 +801,7 @@ static void abandons_one(const struct contexts *of, uint64_t n)
     c[1] = 77;
     keep();
     leaves_all(of, WORDS, n, KAIVEROHM_WAS_FREE, 0, __LINE__);
-    read_it(of->messages ? MADE("\x1b\x01\x02\x00\x09\x19\x00", 8) : START("\x09"));
+    read_it(of->messages ? MADE("\x1b\x01\x02\x00\x09\x19\x00", 8) : at_priority(3, START("\x09")));
     if (n > 0) {
         memcpy(c, of->at(0), 8 * of->width);
         c[0] = 7;
@@ -825,8 +835,9 @@ static void abandons_in_no_state(const struct contexts *of)
 static void abandons(void)
 {
     static const struct contexts both[] = {
-        { kaiverohm_abandon_stream, stream_context, KAIVEROHM_STREAM_CONTEXTS, 5, 0 },
-        { kaiverohm_abandon_message, message_context, KAIVEROHM_MESSAGE_CONTEXTS, 8, 1 },
+        { kaiverohm_abandon_stream, stream_context, KAIVEROHM_STREAM_CONTEXTS, STREAM_WORDS, 0 },
+        { kaiverohm_abandon_message, message_context, KAIVEROHM_MESSAGE_CONTEXTS, MESSAGE_WORDS,
+          1 },
     };
     for (size_t i = 0; i < 2; i++) {
         for (uint64_t n = 0; n < both[i].count; n++)
@@ -853,7 +864,7 @@ static void message_open(uint64_t n, struct kaiverohm_open_message wanted, int l
 /* A free context with numbers in it, then an open one: any word but 0 is open. */
 static void asks_one_stream(uint64_t n)
 {
-    static const uint64_t words[5] = { 0, 9, 200, 60000, 32 };
+    static const uint64_t words[STREAM_WORDS] = { 0, 9, 3, 200, 60000, 32 };
     fresh();
     memcpy(stream_context(n), words, sizeof words);
     keep();
@@ -861,14 +872,18 @@ static void asks_one_stream(uint64_t n)
     stream_context(n)[0] = UINT64_MAX;
     keep();
     stream_open(n,
-                (struct kaiverohm_open_stream){
-                    .kind = KAIVEROHM_OPEN, .source = 9, .cos = 200, .stream = 60000, .held = 32 },
+                (struct kaiverohm_open_stream){ .kind = KAIVEROHM_OPEN,
+                                                .source = 9,
+                                                .cos = 200,
+                                                .stream = 60000,
+                                                .held = 32,
+                                                .priority = 3 },
                 __LINE__);
 }
 
 static void asks_one_message(uint64_t n)
 {
-    static const uint64_t words[8] = { 0, 9, 3, 2, 4, 13, 17, 40 };
+    static const uint64_t words[MESSAGE_WORDS] = { 0, 9, 3, 2, 4, 13, 17, 40 };
     fresh();
     memcpy(message_context(n), words, sizeof words);
     keep();
@@ -966,6 +981,280 @@ static void rooms(void)
     state(WORDS)[1] = 0;
     STREAM_ROOM(WORDS, s, 1, 1, 0, 0);
     MESSAGE_ROOM(WORDS, m, 1, 1, 0, 0);
+}
+
+/* ---- the priority belongs to the flow */
+
+enum { PDU = 40 };
+
+/* A PDU of two segments under cos 5, whose bytes count up from its stream's number. */
+struct scan {
+    uint16_t source;
+    uint8_t priority;
+    uint16_t stream;
+};
+
+static size_t segment(struct scan s, uint64_t k)
+{
+    const struct kaiverohm_heading h = { own_id(), s.source, s.stream, 5, s.priority, narrow };
+    uint8_t pdu[PDU];
+    for (size_t i = 0; i < PDU; i++)
+        pdu[i] = (uint8_t)(s.stream + i);
+    struct kaiverohm_answer a = kaiverohm_write_segment(packet, MTU + 9, h, MTU, pdu, PDU, k);
+    WANT(a.kind == KAIVEROHM_WRITTEN);
+    return a.number;
+}
+
+/* Room n begins with that many bytes of it. */
+static int has_bytes(uint64_t n, struct scan s, size_t length)
+{
+    const uint8_t *room = streams_end - STREAM_MEMORY + n * ROOM;
+    for (size_t i = 0; i < length; i++)
+        if (room[i] != (uint8_t)(s.stream + i))
+            return 0;
+    return 1;
+}
+
+static void reports_so(struct kaiverohm_report r, struct kaiverohm_report wanted, int line)
+{
+    want(memcmp(&r, &wanted, sizeof r) == 0, "report", line);
+}
+
+/* Its start is held, and gives another PDU up or not. */
+static void begins(struct scan s, unsigned dropped, int line)
+{
+    reports_so(read_it(segment(s, 0)),
+               (struct kaiverohm_report){ .kind = KAIVEROHM_HELD, .dropped = dropped }, line);
+}
+
+/* Context n holds its start. */
+static void holds_start(uint64_t n, struct scan s, int line)
+{
+    keep();
+    stream_open(n,
+                (struct kaiverohm_open_stream){ .kind = KAIVEROHM_OPEN,
+                                                .source = s.source,
+                                                .cos = 5,
+                                                .stream = s.stream,
+                                                .held = MTU,
+                                                .priority = s.priority },
+                line);
+    want(has_bytes(n, s, MTU), "what the room holds", line);
+}
+
+/* Its end delivers it from context n, whose words are then 0, the priority too. */
+static void delivers(uint64_t n, struct scan s, int line)
+{
+    reports_so(read_it(segment(s, 1)),
+               (struct kaiverohm_report){ .kind = KAIVEROHM_DELIVERED,
+                                          .context = n,
+                                          .source = s.source,
+                                          .cos_or_letter = 5,
+                                          .stream_or_mailbox = s.stream,
+                                          .length = PDU,
+                                          .priority = s.priority },
+               line);
+    want(has_bytes(n, s, PDU), "the delivered bytes", line);
+    want(zeros(stream_context(n), 8 * STREAM_WORDS), "a delivered context", line);
+}
+
+/* Example 8 of the paper: two PDUs on one flow, the first end is lost. */
+static void example_8(uint8_t priority)
+{
+    const struct scan first = { 9, priority, 7 }, second = { 9, priority, 107 };
+    fresh();
+    begins(first, 0, __LINE__);
+    begins(second, 1, __LINE__);
+    holds_start(0, second, __LINE__);
+    delivers(0, second, __LINE__);
+    WANT(zeros(state(WORDS) + HEAD, 8 * (WORDS - HEAD)));
+}
+
+/* The same with the second PDU at another priority: nothing is dropped. */
+static void example_8_apart(uint8_t one, uint8_t other)
+{
+    const struct scan first = { 9, one, 7 }, second = { 9, other, 107 };
+    fresh();
+    begins(first, 0, __LINE__);
+    begins(second, 0, __LINE__);
+    holds_start(1, second, __LINE__);
+    delivers(1, second, __LINE__);
+    holds_start(0, first, __LINE__);
+    /* the first end was only late */
+    delivers(0, first, __LINE__);
+}
+
+/* A start and an end of one PDU at two priorities: 8, and all stays. */
+static void parted(uint8_t one, uint8_t other)
+{
+    const struct scan start = { 9, one, 7 }, end = { 9, other, 7 };
+    fresh();
+    begins(start, 0, __LINE__);
+    REFUSES(segment(end, 1), 8, 0, 0);
+    holds_start(0, start, __LINE__);
+}
+
+/* Four boards at four priorities fill the contexts, each in its own. */
+static void sixteen_flows(void)
+{
+    struct scan s[KAIVEROHM_STREAM_CONTEXTS];
+    fresh();
+    for (uint8_t i = 0; i < KAIVEROHM_STREAM_CONTEXTS; i++) {
+        s[i] = (struct scan){ (uint16_t)(9 + i / 4), i % 4, (uint16_t)(10 * i) };
+        begins(s[i], 0, __LINE__);
+    }
+    for (uint8_t priority = 0; priority < 4; priority++)
+        REFUSES(segment((struct scan){ 8, priority, 7 }, 0), 10, 0, 0);
+    for (uint64_t i = 0; i < KAIVEROHM_STREAM_CONTEXTS; i++)
+        holds_start(i, s[i], __LINE__);
+    for (uint64_t i = KAIVEROHM_STREAM_CONTEXTS; i-- > 0;)
+        delivers(i, s[i], __LINE__);
+}
+
+/* The packet, at a priority, closes the context of its own flow and no other. */
+static void closes_own(uint8_t priority, size_t length, unsigned number, int line)
+{
+    refuses(at_priority(priority, length), number, 1, STATE, line);
+    want(zeros(stream_context(priority), 8 * STREAM_WORDS), "a closed context", line);
+    for (uint8_t other = 0; other < 4; other++)
+        if (other != priority)
+            holds_start(other, (struct scan){ 9, other, 7 }, line);
+}
+
+/* Four priorities of one source and cos are open; 6, 7, 9 and 11 at one of them. */
+static void closings(uint8_t priority)
+{
+    for (int row = 0; row < 4; row++) {
+        fresh();
+        for (uint8_t each = 0; each < 4; each++)
+            begins((struct scan){ 9, each, 7 }, 0, __LINE__);
+        if (row == 0)
+            closes_own(priority, MADE("\x19\x01\x02\x00\x09\x05\x00", 0), 6, __LINE__);
+        if (row == 1)
+            closes_own(priority, MADE("\x19\x01\x02\x00\x09\x05\x02", 34), 7, __LINE__);
+        if (row == 2) {
+            stream_context(priority)[5] = ROOM;
+            closes_own(priority, MADE("\x19\x01\x02\x00\x09\x05\x00", MTU), 9, __LINE__);
+        }
+        if (row == 3)
+            closes_own(priority, MADE("\x19\x01\x02\x00\x09\x05\x42\x00\x07", 6), 11, __LINE__);
+    }
+}
+
+/* A priority word over 3: the state is one, what is open is answered as it stands,
+   no packet is of its flow, and it can be abandoned. */
+static void priority_over_3(size_t n, uint64_t priority)
+{
+    const uint64_t words[STREAM_WORDS] = { 1, 9, priority, 5, 7, MTU };
+    const struct kaiverohm_open_stream open = { KAIVEROHM_OPEN, 0, 9, 5, 7, MTU, priority };
+    fresh();
+    memcpy(stream_context(n), words, sizeof words);
+    WANT(is_state());
+    for (uint8_t each = 0; each < 4; each++) {
+        const struct scan s = { 9, each, 7 };
+        REFUSES(segment(s, 1), 8, 0, 0);
+        begins(s, 0, __LINE__);
+        keep();
+        stream_open(n, open, __LINE__);
+        delivers(n == 0, s, __LINE__);
+    }
+    WANT(memcmp(stream_context(n), words, sizeof words) == 0);
+    WANT(kaiverohm_abandon_stream(state(WORDS), WORDS, n).kind == KAIVEROHM_CLOSED);
+    WANT(zeros(stream_context(n), 8 * STREAM_WORDS));
+}
+
+/* The segments of a message at two priorities are joined, and its report says 0. */
+static void mail_at(unsigned one, unsigned other)
+{
+    fresh();
+    struct kaiverohm_report r = read_it(at_priority(one, MADE("\x1b\x01\x02\x00\x09\x19\x60", 8)));
+    WANT(r.kind == KAIVEROHM_HELD && r.priority == 0);
+    r = read_it(at_priority(other, MADE("\x1b\x01\x02\x00\x09\x19\x61", 8)));
+    WANT(r.kind == KAIVEROHM_MESSAGE && r.context == 0 && r.source == 9 && r.length == 16);
+    WANT(r.priority == 0 && zeros(message_context(0), 8 * MESSAGE_WORDS));
+    WANT(response_end[-(int)reply()] >> 6 == (other < 3 ? other + 1 : 3));
+}
+
+static void priorities(void)
+{
+    static const uint64_t over[] = { 4, 5, 7, 63, 64, 128, 192, 256, FAR, FAR + 3, UINT64_MAX };
+    for (uint8_t one = 0; one < 4; one++) {
+        example_8(one);
+        closings(one);
+        for (uint8_t other = 0; other < 4; other++) {
+            mail_at(one, other);
+            if (one == other)
+                continue;
+            example_8_apart(one, other);
+            parted(one, other);
+        }
+    }
+    sixteen_flows();
+    for (size_t n = 0; n < KAIVEROHM_STREAM_CONTEXTS; n++)
+        for (size_t i = 0; i < sizeof over / sizeof over[0]; i++)
+            priority_over_3(n, over[i]);
+}
+
+/* A start, a message and the end, all at priority 2, as records; the last begins at `third`. */
+static size_t three_records(uint8_t *records, size_t *third)
+{
+    const struct scan s = { 9, 2, 7 };
+    size_t length = 0;
+    for (int k = 0; k < 3; k++) {
+        size_t bytes =
+            k == 1 ? at_priority(2, MADE("\x1b\x01\x02\x00\x09\x09\x60", 8)) : segment(s, k == 2);
+        *third = length;
+        length += kaiverohm_write_record(records + length, 64, packet, bytes).number;
+    }
+    return length;
+}
+
+/* A report of a burst has ten words, the priority last. Without room for all ten
+   the burst is full, and the nine are left. */
+static void priorities_of_a_burst(void)
+{
+    uint8_t records[3 * 64];
+    size_t third, length = three_records(records, &third);
+    const char *bytes = (const char *)records;
+    const uint64_t *r = reports();
+    const struct kaiverohm_report delivered = { KAIVEROHM_DELIVERED, 0, 0, 0, 0, 9, 5, 7, PDU, 2 };
+    fresh();
+    says(burst(64, REPORTS, bytes, length, 0), KAIVEROHM_BURST_END, 0, 3, length, __LINE__);
+    WANT(r[0] == KAIVEROHM_HELD && zeros(r + 1, 8 * (REPORT - 1)));
+    WANT(r[10] == KAIVEROHM_MESSAGE && r[15] == 9 && r[18] == 8 && r[19] == 0);
+    WANT(memcmp(r + 20, &delivered, sizeof delivered) == 0);
+    fresh();
+    says(burst(64, REPORTS - 1, bytes, length, 0), KAIVEROHM_BURST_FULL, 0, 2, third, __LINE__);
+    r++; /* it begins one word later */
+    WANT(r[0] == KAIVEROHM_HELD && r[10] == KAIVEROHM_MESSAGE && r[19] == 0);
+    WANT(all(r + 20, 8 * (REPORT - 1), 0xe4) && r[-1] == UINT64_C(0xe4e4e4e4e4e4e4e4));
+}
+
+/* A state of interface 2 with a PDU open: 12 from every call, no room, all stays. */
+static void old_state(void)
+{
+    const size_t words = OLD_WORDS, m = KAIVEROHM_MESSAGE_MEMORY;
+    const uint64_t old[] = { own_id(), MTU, ROOM, narrow, 1, 9, 5, 7, MTU };
+    const struct kaiverohm_settings settings = { own_id(), MTU, ROOM, narrow };
+    uint64_t *s = state(words);
+    fresh();
+    memset(s, 0, 8 * words);
+    memcpy(s, old, sizeof old);
+    struct kaiverohm_report r = lent(words, STREAM_MEMORY, m, reply(), START("\x09"));
+    WANT(r.kind == KAIVEROHM_REFUSED && r.number == 12);
+    says(kaiverohm_read_burst(s, words, streams_end - STREAM_MEMORY, STREAM_MEMORY,
+                              messages_end - m, m, response_end - SLOT, SLOT,
+                              (uint64_t *)(void *)(reports_end - 8 * REPORT), REPORT, packet_end, 0,
+                              0),
+         KAIVEROHM_BURST_REFUSED, 12, 0, 0, __LINE__);
+    WANT(kaiverohm_setup(s, words, settings).number == 12);
+    WANT(kaiverohm_stream_context(s, words, 0).number == 12);
+    WANT(kaiverohm_message_context(s, words, 0).number == 12);
+    WANT(kaiverohm_abandon_stream(s, words, 0).number == 12);
+    WANT(kaiverohm_abandon_message(s, words, 0).number == 12);
+    STREAM_ROOM(words, STREAM_MEMORY, 0, 1, 0, 0);
+    MESSAGE_ROOM(words, m, 0, 1, 0, 0);
+    WANT(changed() == 0);
 }
 
 /* ---- the segment writer */
@@ -1115,10 +1404,10 @@ static void records_read_back(void)
         struct kaiverohm_answer a =
             kaiverohm_write_record(bytes, sizeof bytes, packet_end - length, length);
         memcpy(bytes + a.number, bytes, a.number);
-        says(burst(64, 27, (const char *)bytes, 2 * a.number, 0), KAIVEROHM_BURST_END, 0, 2,
+        says(burst(64, REPORTS, (const char *)bytes, 2 * a.number, 0), KAIVEROHM_BURST_END, 0, 2,
              2 * a.number, __LINE__);
-        says(burst(64, 27, (const char *)bytes, 2 * a.number - 1, 0), KAIVEROHM_BURST_BAD, 0, 1,
-             a.number, __LINE__);
+        says(burst(64, REPORTS, (const char *)bytes, 2 * a.number - 1, 0), KAIVEROHM_BURST_BAD, 0,
+             1, a.number, __LINE__);
     }
 }
 
@@ -1138,6 +1427,9 @@ static void at_this_width(void)
     whole_pdu();
     messages();
     abandons();
+    priorities();
+    priorities_of_a_burst();
+    old_state();
     writer();
     writer_47();
     if (narrow) {

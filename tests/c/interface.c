@@ -24,6 +24,7 @@ _Static_assert(offsetof(struct kaiverohm_report, source) == 40, "report");
 _Static_assert(offsetof(struct kaiverohm_report, cos_or_letter) == 48, "report");
 _Static_assert(offsetof(struct kaiverohm_report, stream_or_mailbox) == 56, "report");
 _Static_assert(offsetof(struct kaiverohm_report, length) == 64, "report");
+_Static_assert(offsetof(struct kaiverohm_report, priority) == 72, "report");
 
 _Static_assert(sizeof(struct kaiverohm_burst) == 32, "burst");
 _Static_assert(offsetof(struct kaiverohm_burst, stop) == 0, "burst");
@@ -35,13 +36,14 @@ _Static_assert(sizeof(struct kaiverohm_place) == 16, "place");
 _Static_assert(offsetof(struct kaiverohm_place, offset) == 0, "place");
 _Static_assert(offsetof(struct kaiverohm_place, length) == 8, "place");
 
-_Static_assert(sizeof(struct kaiverohm_open_stream) == 48, "open stream");
+_Static_assert(sizeof(struct kaiverohm_open_stream) == 56, "open stream");
 _Static_assert(offsetof(struct kaiverohm_open_stream, kind) == 0, "open stream");
 _Static_assert(offsetof(struct kaiverohm_open_stream, number) == 8, "open stream");
 _Static_assert(offsetof(struct kaiverohm_open_stream, source) == 16, "open stream");
 _Static_assert(offsetof(struct kaiverohm_open_stream, cos) == 24, "open stream");
 _Static_assert(offsetof(struct kaiverohm_open_stream, stream) == 32, "open stream");
 _Static_assert(offsetof(struct kaiverohm_open_stream, held) == 40, "open stream");
+_Static_assert(offsetof(struct kaiverohm_open_stream, priority) == 48, "open stream");
 
 _Static_assert(sizeof(struct kaiverohm_open_message) == 72, "open message");
 _Static_assert(offsetof(struct kaiverohm_open_message, kind) == 0, "open message");
@@ -78,12 +80,12 @@ _Static_assert(offsetof(struct kaiverohm_desk, message_length) == 40, "desk");
 _Static_assert(offsetof(struct kaiverohm_desk, response) == 48, "desk");
 _Static_assert(offsetof(struct kaiverohm_desk, response_length) == 56, "desk");
 
-_Static_assert(KAIVEROHM_STATE_WORDS == 148, "sizes");
+_Static_assert(KAIVEROHM_STATE_WORDS == 164, "sizes");
 _Static_assert(KAIVEROHM_STREAM_CONTEXTS == 16 && KAIVEROHM_MESSAGE_CONTEXTS == 8, "sizes");
 _Static_assert(KAIVEROHM_MESSAGE_ROOM == 4096 && KAIVEROHM_MESSAGE_MEMORY == 32768, "sizes");
 _Static_assert(KAIVEROHM_RESPONSE_BYTES == 7 && KAIVEROHM_SLOT_BYTES == 8, "sizes");
 _Static_assert(KAIVEROHM_LARGEST_PDU == 65536 && KAIVEROHM_LARGEST_PACKET == 265, "sizes");
-_Static_assert(KAIVEROHM_LARGEST_RECORDED == 16383 && KAIVEROHM_REPORT_WORDS == 9, "sizes");
+_Static_assert(KAIVEROHM_LARGEST_RECORDED == 16383 && KAIVEROHM_REPORT_WORDS == 10, "sizes");
 _Static_assert(KAIVEROHM_SMALLEST_MTU == 32 && KAIVEROHM_LARGEST_MTU == 256, "sizes");
 _Static_assert(KAIVEROHM_MTU_STEP == 4 && KAIVEROHM_LARGEST_ROOM == 65536, "sizes");
 
@@ -94,10 +96,10 @@ _Static_assert(KAIVEROHM_BURST_REFUSED == 0 && KAIVEROHM_BURST_END == 1, "stops"
 _Static_assert(KAIVEROHM_BURST_BAD == 2 && KAIVEROHM_BURST_FULL == 3, "stops");
 _Static_assert(KAIVEROHM_BURST_DELIVERY == 4, "stops");
 
-/* All of this is interface 2. Where a line above or below has to change, and not
+/* All of this is interface 3. Where a line above or below has to change, and not
    only one to be added, the number rises, here, in the header and in
    crates/kaiverohm. */
-_Static_assert(KAIVEROHM_INTERFACE == 2, "interface");
+_Static_assert(KAIVEROHM_INTERFACE == 3, "interface");
 
 /* The types once more, as crates/kaiverohm/src/lib.rt has them: a pointer and
    a length for each slice. The compiler refuses a header that has others. */
@@ -161,7 +163,7 @@ static void setups(void)
 {
     struct kaiverohm_settings s = settings;
     WANT(kaiverohm_state_length() == WORDS);
-    WANT(is(kaiverohm_setup(state, 147, s), KAIVEROHM_REFUSED, 12));
+    WANT(is(kaiverohm_setup(state, 148, s), KAIVEROHM_REFUSED, 12));
     s.mtu = 33;
     WANT(is(kaiverohm_setup(state, WORDS, s), KAIVEROHM_REFUSED, 18));
     s.mtu = MTU;
@@ -217,12 +219,13 @@ static void delivery(void)
 {
     struct kaiverohm_report r = read_one(start, 41);
     WANT(r.kind == KAIVEROHM_HELD && r.number == 0 && r.dropped == 0 && r.response == 0);
+    WANT(r.priority == 0);
     r = read_one(start, 41);
     WANT(r.kind == KAIVEROHM_HELD && r.dropped == 1);
     r = read_one(end, 17);
     WANT(r.kind == KAIVEROHM_DELIVERED && r.number == 0 && r.dropped == 0 && r.response == 0);
     WANT(r.context == 0 && r.source == 0x1234 && r.cos_or_letter == 0x5a);
-    WANT(r.stream_or_mailbox == 0xabcd && r.length == sizeof pdu);
+    WANT(r.stream_or_mailbox == 0xabcd && r.length == sizeof pdu && r.priority == 2);
     struct kaiverohm_place p =
         kaiverohm_stream_room(state, WORDS, sizeof streams, r.context, r.length);
     WANT(p.length == sizeof pdu && memcmp(streams + p.offset, pdu, sizeof pdu) == 0);
@@ -243,7 +246,7 @@ static void message_of_one(void)
 {
     struct kaiverohm_report r = read_one(message, 15);
     WANT(r.kind == KAIVEROHM_MESSAGE && r.response == 7 && r.context == 0 && r.source == 0x1234);
-    WANT(r.cos_or_letter == 1 && r.stream_or_mailbox == 62 && r.length == 8);
+    WANT(r.cos_or_letter == 1 && r.stream_or_mailbox == 62 && r.length == 8 && r.priority == 0);
     WANT(memcmp(response, "\x5d\x12\x34\xff\xfe\x10\x6f", 7) == 0);
     r = read_one(message, 14);
     WANT(r.kind == KAIVEROHM_REFUSED && r.number == 21 && r.response == 7);
@@ -258,9 +261,10 @@ static void contexts(void)
     read_one(start, 41);
     struct kaiverohm_open_stream s = kaiverohm_stream_context(state, WORDS, 0);
     WANT(s.kind == KAIVEROHM_OPEN && s.number == 0 && s.source == 0x1234 && s.cos == 0x5a);
-    WANT(s.stream == 0xabcd && s.held == MTU);
+    WANT(s.stream == 0xabcd && s.held == MTU && s.priority == 2);
     s = kaiverohm_stream_context(state, WORDS, 1);
     WANT(s.kind == KAIVEROHM_WAS_FREE && s.number == 0 && s.source == 0 && s.held == 0);
+    WANT(s.priority == 0);
     s = kaiverohm_stream_context(state, WORDS, 16);
     WANT(s.kind == KAIVEROHM_REFUSED && s.number == 13);
     read_one(last, 15);
@@ -315,12 +319,14 @@ static void burst(void)
     struct kaiverohm_burst b = read_records(WORDS, 0);
     WANT(b.stop == KAIVEROHM_BURST_END && b.number == 0 && b.count == 3
          && b.next == records_length);
-    WANT(reports[0].kind == KAIVEROHM_HELD && reports[0].response == 0);
-    WANT(reports[1].kind == KAIVEROHM_MESSAGE && reports[1].stream_or_mailbox == 62);
+    WANT(reports[0].kind == KAIVEROHM_HELD && reports[0].response == 0 && reports[0].priority == 0);
+    WANT(reports[1].kind == KAIVEROHM_MESSAGE && reports[1].stream_or_mailbox == 62
+         && reports[1].priority == 0);
     WANT(reports[1].response == 7
          && memcmp(responses + 8, "\x5d\x12\x34\xff\xfe\x10\x6f\0", 8) == 0);
     WANT(responses[0] == 0 && responses[16] == 0);
-    WANT(reports[2].kind == KAIVEROHM_DELIVERED && reports[2].length == sizeof pdu);
+    WANT(reports[2].kind == KAIVEROHM_DELIVERED && reports[2].length == sizeof pdu
+         && reports[2].priority == 2);
     b = read_records(WORDS, 1);
     WANT(b.stop == KAIVEROHM_BURST_DELIVERY && b.count == 2 && b.next == 42 + 16);
     b = read_records(0, 0);

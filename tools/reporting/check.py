@@ -86,10 +86,10 @@ def check_stored(root):
 # ---- Three lost wheels are three
 
 LOST = [
-    "Board 21, cos 1: a scan between streams 1 and 3 lost its start. 3 packets of it came (records 15 to 20, refused 8). Do not judge this wheel.",
-    "Board 22, cos 1: stream 12 (between streams 11 and 13) lost 1 packet of its middle. 3 packets of it came (records 13 to 21, the last refused 11). "
+    "Board 21, priority 0, cos 1: a scan between streams 1 and 3 lost its start. 3 packets of it came (records 15 to 20, refused 8). Do not judge this wheel.",
+    "Board 22, priority 0, cos 1: stream 12 (between streams 11 and 13) lost 1 packet of its middle. 3 packets of it came (records 13 to 21, the last refused 11). "
     "Do not judge this wheel.",
-    "Board 23, cos 1: stream 22 (between streams 21 and 23) lost its end. 3 packets of it came (records 14 to 19). Do not judge this wheel.",
+    "Board 23, priority 0, cos 1: stream 22 (between streams 21 and 23) lost its end. 3 packets of it came (records 14 to 19). Do not judge this wheel.",
 ]
 
 
@@ -153,16 +153,33 @@ def check_exact(name, losses, hurt, count):
         see(bool(lost.doubt) == (0 in hurt[i] and (i == 1 or i == 2 and len(hurt.get(1, ())) == count[1])), f"{name}: scan {i}: {lost.doubt}")
 
 
+def told(losses, flow):
+    """What is said of a flow's lost scans, without the records."""
+    return [(one.stream, one.before, one.after, one.parts, one.middle, one.cause, one.doubt) for one in losses.lost if one.flow == flow]
+
+
+def check_pair(patterns):
+    """Two flows that differ in priority alone, mixed: of each is said what is said of it alone."""
+    flows = (2, 0, 5), tries.URGENT
+    alone = [tries.sent(pattern, flow) for pattern, flow in zip(patterns, flows)]
+    made = [Losses(followed(str(patterns), tries.log_of([one.packet for one in arrived]), tries.answered(arrived)))
+            for arrived in (*alone, tries.in_turn(*alone))]
+    for single, flow in zip(made, flows):
+        see(told(single, flow) == told(made[2], flow), f"{patterns}: at priority {flow[1]} other losses are told")
+
+
 def check_tries():
     for case in tries.CASES:
         check_case(case)
+    for patterns in tries.pairs():
+        check_pair(patterns)
     tried = 0
     for pattern in tries.patterns():
         arrived = tries.sent(pattern)
         story = followed(str(pattern), tries.log_of([one.packet for one in arrived]), tries.answered(arrived))
         check_true(pattern, Losses(story))
         tried += 1
-    return len(tries.CASES), tried
+    return len(tries.CASES), tried + len(list(tries.pairs()))
 
 
 # ---- Stored pages, and outputs that do not fit

@@ -105,6 +105,11 @@ Lost = collections.namedtuple("Lost", "flow stream before after parts middle cau
 Gap = collections.namedtuple("Gap", "flow before after missing untold suspect shown")
 
 
+# A board that lost the start of a scan at one priority, behind a scan of the same cos that began at another and was not delivered: it may send
+# the packets of a scan at two priorities.
+Split = collections.namedtuple("Split", "source cos begun other shown")
+
+
 def cause_of(piece):
     if piece.damaged():
         return "damaged"
@@ -196,6 +201,21 @@ def gaps_of(flow, pieces, losses):
             yield Gap(flow, old.stream, new.stream, missing, between - nameless, old.delivered and len(old.packets) > 1, new.packets[0].record)
 
 
+def splits_of(lost, waiting):
+    """One for each source and cos, at the first record that shows it."""
+    begun, found = {}, {}
+    for flow, piece in [(one.flow, one.piece) for one in lost] + [(flow, piece) for flow, _, piece in waiting]:
+        if piece.start is not None:
+            begun[flow] = min(piece.start.record, begun.get(flow, piece.start.record))
+    for one in lost:
+        source, priority, cos = one.flow
+        first = one.piece.packets[0].record
+        others = [p for p in range(4) if p != priority and begun.get((source, p, cos), first) < first]
+        if one.piece.headless() and others:
+            found.setdefault((source, cos), Split(source, cos, others[0], priority, first))
+    return sorted(found.values(), key=lambda split: split.shown)
+
+
 class Losses:
     """What a story shows of losses."""
 
@@ -211,6 +231,7 @@ class Losses:
         self.lost.sort(key=lambda lost: lost.shown)
         self.gaps.sort(key=lambda gap: gap.shown)
         self.waiting.sort(key=lambda waiting: waiting[2].packets[0].record)
+        self.splits = splits_of(self.lost, self.waiting)
         self.sure = sum(not lost.doubt for lost in self.lost)
         self.unread = sum(a.word == "refused" and a.numbers[0] <= 5 for a in story.answers)
         self.joinable = sum(len(s.records) > 1 for s in story.pdus("delivered"))

@@ -136,7 +136,7 @@ class Picture:
                   for record in span.records if first <= record <= last]
         if span.fate == "delivered" and span.last <= last:
             parts.append(tick(max(right - 8, (left + right) / 2), top + 9))
-        words = f"{span.key[0]}/{span.key[1]} #{span.stream}" if span.kind == "pdu" else f"{span.key[0]}/{span.key[1]}/{span.key[2]}"
+        words = "/".join(map(str, span.key[:3])) + (f" #{span.stream}" if span.kind == "pdu" else "")
         if right - left > 7 * len(words) + 18:
             parts.append(text(left + 6, top + 14, words))
         parts.append("</g>")
@@ -187,7 +187,7 @@ class Picture:
         return f"The picture stops at record {self.strips * self.per:,}; all else is of the whole log."
 
 
-LEGEND = ("A bar is a context in use: source/cos #stream, or source/letter/mbox. Dots are its packets.", "delivered", "given up (dropped)",
+LEGEND = ("A bar is a context in use: source/priority/cos #stream, or source/letter/mbox. Dots are its packets.", "delivered", "given up (dropped)",
           "dashed: never delivered. Red numbers: refusals, and lost scans by their number in the list.")
 
 

@@ -9,7 +9,7 @@ REFUSALS = {
     5: ("type 9, xh=1", "An extended header (traffic management), which is not read here. Nothing changed."),
     6: ("type 9: no data, odd bytes of data, or O wrong", "The packet was damaged, or its board makes it wrongly. The flow's unfinished PDU is given up."),
     7: ("start or continuation not MTU data bytes (pad not counted); end or single over MTU", "The packet is damaged, or its board uses another MTU. The flow's unfinished PDU is given up."),
-    8: ("continuation or end, flow not open", "Its start was lost, or its PDU had been given up before. Nothing changed."),
+    8: ("continuation or end, flow not open", "Its start was lost or had another priority, or its PDU had been given up before. Nothing changed."),
     9: ("type 9: total would pass R", "The PDU is longer than a room, or an end and a start were lost. The flow's unfinished PDU is given up."),
     10: ("start or single, flow not open, no context free", "Sixteen other flows have unfinished PDUs. This PDU is lost; nothing else changed."),
     11: ("end, total differs from PDU length", "A packet of the PDU was lost, or one came twice. The PDU is given up."),

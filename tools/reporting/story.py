@@ -1,7 +1,8 @@
 """A log and racklog's answers to it, followed record by record.
 
 What a packet is answered comes from racklog. This only reads the packets' heads and follows, by the rules of document 01, which context
-each answer speaks of (a new PDU takes the lowest free one). Where an answer cannot be, it stops and says so.
+each answer speaks of (a new PDU takes the lowest free one). Where an answer cannot be, it stops and says so. A flow is a source, a priority
+and a cos; racklog prints no priority, so it is that of the packets' heads.
 """
 import collections
 
@@ -50,7 +51,7 @@ def head_of(packet):
     s, e, third = flags >> 7, flags >> 6 & 1, packet[7] * 256 + packet[8] if len(packet) >= 9 else None
     kind = ("single" if e else "start") if s else ("end" if e else "continuation")
     data = len(packet) - (9 if kind9 and (s or e) else 7) - (kind9 and flags & 1)
-    return Head(type=packet[0] % 16, priority=packet[0] >> 6, source=source, flow=(source, packet[5]),
+    return Head(type=packet[0] % 16, priority=packet[0] >> 6, source=source, flow=(source, packet[0] >> 6, packet[5]),
                 kind=kind if kind9 else "message", stream=third, length=third or 65536, data=max(data, 0),
                 key=(source, flags >> 6, flags >> 4 & 3), msglen=packet[5] >> 4)
 
@@ -174,8 +175,9 @@ class Story:
             span = older
         span.take(record, head.data)
         if ends:
-            if answer.numbers != (*head.flow, span.stream, span.bytes):
-                raise Unfit(f"the packets give source {head.flow[0]}, cos {head.flow[1]}, stream {span.stream}, {span.bytes} bytes")
+            source, _, cos = head.flow
+            if answer.numbers != (source, cos, span.stream, span.bytes):
+                raise Unfit(f"the packets give source {source}, cos {cos}, stream {span.stream}, {span.bytes} bytes")
             self.finish("pdu", head.flow, record, "delivered")
 
     def message(self, record, head, answer):

@@ -9,11 +9,12 @@ KINDS = {"single": 0xC0, "start": 0x80, "more": 0x00, "end": 0x40}
 
 
 @functools.lru_cache(maxsize=None)
-def packet(kind, number=0, size=MTU, flow=(2, 5), fill=0, flip=0):
-    """A type 9 packet for device 1. The number is the streamID or the length; flip changes bits of byte 6."""
+def packet(kind, number=0, size=MTU, flow=(2, 0, 5), fill=0, flip=0):
+    """A type 9 packet for device 1. The number is the streamID or the length; a flow is source, priority and cos; flip changes bits of byte 6."""
     half_words = (size + 1) // 2
     flags = KINDS[kind] | (half_words % 2) << 1 | size % 2
-    head = bytes([0x19, 0, 1, flow[0] >> 8, flow[0] & 255, flow[1], flags ^ flip])
+    source, priority, cos = flow
+    head = bytes([priority << 6 | 0x19, 0, 1, source >> 8, source & 255, cos, flags ^ flip])
     field = b"" if kind == "more" else bytes([number >> 8 & 255, number & 255])
     return head + field + bytes((fill + 7 * i) % 256 for i in range(size)) + bytes(size % 2)
 
@@ -23,7 +24,7 @@ def log_of(packets):
     return b"".join(bytes([len(p)]) + p for p in packets)
 
 
-def scan(stream, size, flow=(2, 5), first=0, last=None):
+def scan(stream, size, flow=(2, 0, 5), first=0, last=None):
     """The packets of a scan, numbered by their fill so that no two are the same; from one to another."""
     count = -(-size // MTU)
     fills = [stream * 37 + k * 11 for k in range(count)]
@@ -42,14 +43,22 @@ Case = collections.namedtuple("Case", "name packets answers heading lost others 
 NONE = "No lost scan shows"
 GAP = "No lost scan shows, but stream numbers are missing"
 TWO = "Each could be a joint"
-WAITS = [packet("start", 900 + n, MTU, (100 + n, 1)) for n in range(16)]
+WAITS = [packet("start", 900 + n, MTU, (100 + n, 0, 1)) for n in range(16)]
+URGENT = (2, 1, 5)  # the flow of the others, at another priority
+SPLIT = "scans at two priorities"
+
+
+def in_turn(*flows):
+    """One of each, as long as there are any."""
+    return [one for turn in itertools.zip_longest(*flows) for one in turn if one is not None]
+
 
 CASES = [
     Case("nothing", [], "", NONE, [], [], [TWO]),
     Case("the paper's joint", [packet("start", 7), packet("end", 40, 8)], "held, pdu 2 5 7 40", NONE, [], ["1 delivered scan came", TWO]),
     Case("singles", scan(7, 3) + scan(8, 32), "pdu 2 5 7 3, pdu 2 5 8 32", NONE, [], [], [TWO]),
     Case("a start", scan(1, 40) + scan(2, 96, first=1) + scan(3, 40), "held, pdu 2 5 1 40, refused 8, refused 8, held, pdu 2 5 3 40",
-         "At least 1 scan was lost", ["Board 2, cos 5: a scan between streams 1 and 3 lost its start. 2 packets of it came (records 3 and 4, refused 8). "
+         "At least 1 scan was lost", ["Board 2, priority 0, cos 5: a scan between streams 1 and 3 lost its start. 2 packets of it came (records 3 and 4, refused 8). "
                                       "Do not judge this wheel."], [TWO], ["Stream numbers are missing"]),
     Case("a start, and the log begins", scan(2, 96, first=1) + scan(3, 3), "refused 8, refused 8, pdu 2 5 3 3",
          "Perhaps 1 scan was lost", ["a scan before stream 3 lost its start. 2 packets of it came (records 1 and 2, refused 8). Or its start came before "
@@ -100,7 +109,7 @@ CASES = [
     Case("unfinished", scan(1, 3) + scan(2, 96, last=2), "pdu 2 5 1 3, held, held", NONE, [],
          ["1 scan unfinished", "stream 2 (behind stream 1) has no end yet. 2 packets of it came (records 2 and 3)"]),
     Case("a gap behind two packets", scan(1, 40) + scan(2, 40) + scan(4, 40), "held, pdu 2 5 1 40, held, pdu 2 5 2 40, held, pdu 2 5 4 40", GAP, [],
-         ["Board 2, cos 5: behind stream 2 came 4. If this board counts its scans so, 3 is missing (no packet says so). All packets were lost; or its end "
+         ["Board 2, priority 0, cos 5: behind stream 2 came 4. If this board counts its scans so, 3 is missing (no packet says so). All packets were lost; or its end "
           "came and was joined to the start of 2, and what was delivered as 2 is two halves: judge that only if"]),
     Case("a gap and a lost start in it", scan(1, 3) + scan(2, 3) + scan(4, 40, first=1) + scan(5, 3), "pdu 2 5 1 3, pdu 2 5 2 3, refused 8, pdu 2 5 5 3",
          "At least 1 scan was lost", ["a scan between streams 2 and 5 lost its start"],
@@ -108,6 +117,16 @@ CASES = [
     Case("a gap behind a single", scan(1, 3) + scan(2, 3) + scan(4, 3), "pdu 2 5 1 3, pdu 2 5 2 3, pdu 2 5 4 3", GAP, [], ["3 is missing (no packet says so). Do not"], [TWO, "joined"]),
     Case("streams that do not count", scan(9, 3) + scan(4, 3) + scan(6, 3), "pdu 2 5 9 3, pdu 2 5 4 3, pdu 2 5 6 3", NONE, [], [], ["missing scan is", "is missing"]),
     Case("streams that go round", scan(65534, 3) + scan(65535, 3) + scan(0, 3), "pdu 2 5 65534 3, pdu 2 5 65535 3, pdu 2 5 0 3", NONE, [], [], ["is missing"]),
+    Case("the paper's example 8, the second at another priority", scan(1, 40, last=1) + scan(2, 40, URGENT), "held, held, pdu 2 5 2 40", NONE, [],
+         ["Board 2, priority 0, cos 5: stream 1 has no end yet. 1 packet of it came (record 1)", "3 2 1 5 2 40 2 2 1"], ["PDUs dropped", SPLIT]),
+    Case("two priorities, mixed", in_turn(scan(1, 96), scan(2, 96, URGENT)), "held, held, held, held, pdu 2 5 1 96, pdu 2 5 2 96", NONE, [],
+         ["2 0 5 3 2 1 96 0 0 2 1 5 3 2 1 96 0 0"], [SPLIT, "is missing"]),
+    Case("a start lost at one priority", scan(1, 3) + scan(8, 3, URGENT) + scan(9, 40, URGENT, first=1) + scan(2, 3) + scan(10, 3, URGENT),
+         "pdu 2 5 1 3, pdu 2 5 8 3, refused 8, pdu 2 5 2 3, pdu 2 5 10 3", "At least 1 scan was lost",
+         ["Board 2, priority 1, cos 5: a scan between streams 8 and 10 lost its start. 1 packet of it came (record 3, refused 8)."], [], [SPLIT]),
+    Case("a start and its end at two priorities", scan(1, 40, last=1) + scan(1, 40, URGENT, first=1), "held, refused 8", "Perhaps 1 scan was lost",
+         ["Board 2, priority 1, cos 5: a scan lost its start. 1 packet of it came (record 2, refused 8)."],
+         [SPLIT, "Board 2, cos 5: at priority 0 a scan began and was not delivered, at priority 1 one came without its start."]),
 ]
 
 
@@ -128,6 +147,12 @@ def patterns():
                 yield Pattern(chosen, lost)
 
 
+def pairs():
+    """Every way to lose packets of two scans of up to three, and beside it another way."""
+    some = [pattern for pattern in patterns() if len(pattern.sizes) == 2 and max(pattern.sizes) < 100]
+    return zip(some, some[5:] + some[:5])
+
+
 Arrived = collections.namedtuple("Arrived", "packet flow stream number count size")
 
 
@@ -137,16 +162,16 @@ def arriving(flow, stream, size, lost):
     return [Arrived(packets[k], flow, stream, k, len(packets), size) for k in range(len(packets)) if k not in lost]
 
 
-def sent(pattern):
+def sent(pattern, flow=(2, 0, 5)):
     """What arrives of a pattern."""
-    return [one for i, (size, lost) in enumerate(zip(pattern.sizes, pattern.lost)) for one in arriving((2, 5), i + 1, size, lost)]
+    return [one for i, (size, lost) in enumerate(zip(pattern.sizes, pattern.lost)) for one in arriving(flow, i + 1, size, lost)]
 
 
 def answered(arrived):
     """Document 01's answers, rows 8 and 11, for up to sixteen flows; the rooms hold all."""
     waiting, lines = {}, []
     for one in arrived:
-        whole = f"pdu {one.flow[0]} {one.flow[1]} {{}} {one.size}"
+        whole = f"pdu {one.flow[0]} {one.flow[2]} {{}} {one.size}"
         stream, held = waiting.pop(one.flow, (None, 0))
         if one.number == 0:
             dropped = " dropped" if held else ""
@@ -174,7 +199,7 @@ def long_log(scans):
             size = 4 if stream % 10 != 5 else 70 if stream // 50 % 2 else 40
             lost = {(stream // 50 + board) % -(-size // MTU)} if stream % 50 == 25 else set()
             hurt += bool(lost)
-            packets += arriving((board, 1), stream, size, lost)
+            packets += arriving((board, 0, 1), stream, size, lost)
         boards.append(packets)
-    arrived = [one for turn in itertools.zip_longest(*boards) for one in turn if one is not None]
+    arrived = in_turn(*boards)
     return log_of([one.packet for one in arrived]), answered(arrived), hurt

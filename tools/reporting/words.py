@@ -33,7 +33,12 @@ def listed(words):
 
 
 def flow_words(key):
-    return f"source {key[0]}, cos {key[1]}"
+    return f"source {key[0]}, priority {key[1]}, cos {key[2]}"
+
+
+def board_words(flow):
+    """A flow, as those know it who judge wheels."""
+    return f"board {flow[0]}, priority {flow[1]}, cos {flow[2]}"
 
 
 def box_words(key):
@@ -66,7 +71,7 @@ def between_words(before, after):
 
 def scan_words(lost):
     where = between_words(lost.before, lost.after)
-    board = f"Board {lost.flow[0]}, cos {lost.flow[1]}: "
+    board = f"{board_words(lost.flow).capitalize()}: "
     if lost.stream is None:
         return board + f"a scan {where}".strip()
     return board + f"stream {lost.stream}" + (f" ({where})" if where else "")
@@ -125,7 +130,7 @@ def gap_item(gap):
     came = f"{told} of them among the lost above, {gap.untold} without a packet" if told else "no packet says so"
     joined = (f"All packets were lost; or {'its end' if one else 'the end of one'} came and was joined to the start of {gap.before}, and what was "
               f"delivered as {gap.before} is two halves: judge that only if the scan numbers in its first and last byte agree.") if gap.suspect else ""
-    words = [f"Board {gap.flow[0]}, cos {gap.flow[1]}: behind stream {gap.before} came {gap.after}. If this board counts its scans so, {numbers} "
+    words = [f"{board_words(gap.flow).capitalize()}: behind stream {gap.before} came {gap.after}. If this board counts its scans so, {numbers} "
              f"{'is' if one else 'are'} missing ({came}).", joined, f"Do not judge the {'wheel' if one else 'wheels'} of {numbers}."]
     return Item(" ".join(word for word in words if word), gap.shown)
 
@@ -133,8 +138,13 @@ def gap_item(gap):
 def waiting_item(flow, before, piece):
     behind = f" (behind stream {before})" if before is not None else ""
     records = records_words([p.record for p in piece.packets])
-    return Item(f"Board {flow[0]}, cos {flow[1]}: stream {piece.stream}{behind} has no end yet. {plural(len(piece.packets), 'packet')} of it came "
+    return Item(f"{board_words(flow).capitalize()}: stream {piece.stream}{behind} has no end yet. {plural(len(piece.packets), 'packet')} of it came "
                 f"({records}). Do not judge this wheel, unless its rest comes in a later log.", piece.packets[-1].record)
+
+
+def split_item(split):
+    return Item(f"Board {split.source}, cos {split.cos}: at priority {split.begun} a scan began and was not delivered, at priority {split.other} one came "
+                "without its start. If these are one scan, the board sends its packets at two priorities, and none can be delivered so.", split.shown)
 
 
 # ---- What stands on top
@@ -162,7 +172,7 @@ def by_board(lost):
     if len(lost) <= MANY:
         return ""
     flows = collections.Counter(one.flow for one in lost).most_common()
-    words = [f"{count:,} of board {flow[0]}, cos {flow[1]}" for flow, count in flows[:MANY]]
+    words = [f"{count:,} of {board_words(flow)}" for flow, count in flows[:MANY]]
     return f" By board: {'; '.join(words + ['and others'] * (len(flows) > MANY))}."
 
 
@@ -186,6 +196,9 @@ def top(losses):
     if losses.gaps:
         yield Block("missing", "Stream numbers are missing", "Nothing else shows these. A gap is a missing scan (condition 9).",
                     [gap_item(gap) for gap in losses.gaps], True)
+    if losses.splits:
+        yield Block("priorities", "Perhaps scans at two priorities", "All packets of a scan must have one priority (docs/THREATS.md, condition 3).",
+                    [split_item(split) for split in losses.splits], True)
     if losses.joinable:
         yield joint_block(losses)
     if losses.waiting:
@@ -238,20 +251,21 @@ def lost_rows(losses):
 
 def tables(story, losses):
     """In the order of the report; those without rows too."""
-    yield Table("flows", "Flows", "A flow is a source (a board) and a cos. Packets refused 1 to 5 belong to none.",
-                ("source", "cos", "packets", "held", "whole PDUs", "bytes in them", "dropped", "refused"), [(*key, *row) for key, row in story.flows()])
+    yield Table("flows", "Flows", "A flow is a source (a board), a priority and a cos. Packets refused 1 to 5 belong to none.",
+                ("source", "priority", "cos", "packets", "held", "whole PDUs", "bytes in them", "dropped", "refused"),
+                [(*key, *row) for key, row in story.flows()])
     yield Table("lost-scans", "Scans lost", "The numbers are those on top. A dash: not known.",
-                ("no.", "shows at record", "source", "cos", "stream", "behind", "before", "lost", "packets that came", "first record", "refused"),
+                ("no.", "shows at record", "source", "priority", "cos", "stream", "behind", "before", "lost", "packets that came", "first record", "refused"),
                 list(lost_rows(losses)))
     yield Table("refusals", "Refusals", "Those that occurred; docs/REFUSALS.md has all.", ("number", "times", "given exactly if", "what it means"),
                 [(number, times, *REFUSALS[number]) for number, times in sorted(story.refusals().items())])
     yield Table("packets-refused", "Packets refused", "Where the head can be read, what it says.", ("record", "bytes", "packet", "from", "refused", "because"),
                 list(refused_rows(story)))
     yield Table("pdus", "PDUs delivered", "In the order of their last packets.",
-                ("record", "source", "cos", "stream", "bytes", "packets", "first record", "context"),
+                ("record", "source", "priority", "cos", "stream", "bytes", "packets", "first record", "context"),
                 [(s.last, *s.key, s.stream, s.bytes, len(s.records), s.first, s.context) for s in story.pdus("delivered")])
     yield Table("given-up", "PDUs given up or unfinished", "What their contexts held.",
-                ("record", "source", "cos", "stream", "bytes so far", "packets", "first record", "context", "why"), list(given_up_rows(story)))
+                ("record", "source", "priority", "cos", "stream", "bytes so far", "packets", "first record", "context", "why"), list(given_up_rows(story)))
     yield Table("messages", "Messages delivered", "", ("record", "source", "letter", "mailbox", "bytes", "segments", "first record", "context"),
                 [(s.last, s.key[0], s.key[1], s.stream, s.bytes, len(s.records), s.first, s.context) for s in story.messages("delivered")])
     yield Table("boxes", "Message boxes", "A message of several segments is known by source, letter and mbox.",

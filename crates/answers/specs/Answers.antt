@@ -20,7 +20,7 @@ use Rattle.answers.specs.declared.Written.the-variants as writer
 pub data Said : Type 0 where
   -- a segment is held
   held : Said
-  -- a PDU is delivered: context number, flow (source and cos), streamID, length
+  -- a PDU is delivered: context number, flow (source, priority and cos), streamID, length
   delivered : (context : ℕ) (flow : Flow) (streamID size : ℕ) → Said
   -- a message is delivered: context number, source, letter, mailbox, length
   message : (context source letter mailbox size : ℕ) → Said
@@ -61,7 +61,7 @@ saidOfAbandon (abandoned.Refused number) = abandonRefused number
 -- ---- asking after a context
 
 pub data StreamContextSaid : Type 0 where
-  -- a PDU is open there: its flow (source and cos), its streamID, and how many bytes of it are held
+  -- a PDU is open there: its flow (source, priority and cos), its streamID, and how many bytes of it are held
   streamIsOpen : (flow : Flow) (streamID held : ℕ) → StreamContextSaid
   streamIsFree : StreamContextSaid
   streamAskRefused : (number : ℕ) → StreamContextSaid

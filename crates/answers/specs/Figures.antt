@@ -20,11 +20,12 @@ plainFigures kind number dropped response = record {
   «cos_or_letter» = 0;
   «stream_or_mailbox» = 0;
   length = 0;
+  priority = 0;
 }
 
 -- numbers that carry one
-abbrev pub carryingFigures : ℕ → Bool → ℕ → ℕ → ℕ → ℕ → ℕ → ℕ → Figures
-carryingFigures kind dropped response context source cosOrLetter streamOrMailbox size = record {
+abbrev pub carryingFigures : ℕ → Bool → ℕ → ℕ → ℕ → ℕ → ℕ → ℕ → ℕ → Figures
+carryingFigures kind dropped response context source cosOrLetter streamOrMailbox size priority = record {
   kind = kind;
   number = 0;
   dropped = dropped;
@@ -34,21 +35,22 @@ carryingFigures kind dropped response context source cosOrLetter streamOrMailbox
   «cos_or_letter» = cosOrLetter;
   «stream_or_mailbox» = streamOrMailbox;
   length = size;
+  priority = priority;
 }
 
 -- the numbers of what reading says, whether it dropped an open PDU, and how many bytes of response it wrote
 abbrev pub figuresOf : Said → Bool → ℕ → Figures
 figuresOf (refused number) dropped response = plainFigures refusedKind number dropped response
 figuresOf held dropped response = plainFigures heldKind 0 dropped response
-figuresOf (delivered context flow stream size) dropped response = carryingFigures deliveredKind dropped response context (flow .source) (flow .cos) stream size
-figuresOf (message context source letter mailbox size) dropped response = carryingFigures messageKind dropped response context source letter mailbox size
+figuresOf (delivered context flow stream size) dropped response = carryingFigures deliveredKind dropped response context (flow .source) (flow .cos) stream size (flow .priority)
+figuresOf (message context source letter mailbox size) dropped response = carryingFigures messageKind dropped response context source letter mailbox size 0
 
 -- and back: what they tell
 abbrev pub telling : Figures → Said
 telling t =
     cond (eqb (t .kind) refusedKind) (refused (t .number))
     (cond (eqb (t .kind) heldKind) held
-    (cond (eqb (t .kind) deliveredKind) (delivered (t .context) (record { source = t .source; cos = t .«cos_or_letter» }) (t .«stream_or_mailbox») (t .length))
+    (cond (eqb (t .kind) deliveredKind) (delivered (t .context) (record { source = t .source; priority = t .priority; cos = t .«cos_or_letter» }) (t .«stream_or_mailbox») (t .length))
     (message (t .context) (t .source) (t .«cos_or_letter») (t .«stream_or_mailbox») (t .length))))
 
 -- numbers that are those of what they tell: each is set, and those that carry nothing are 0

@@ -55,6 +55,7 @@ pub struct Figures {
     pub cos_or_letter: usize,
     pub stream_or_mailbox: usize,
     pub length: usize,
+    pub priority: usize,
 }
 
 // The answer to a packet, whether the packet closed an open stream context undelivered, and how many bytes of response were written.
@@ -124,6 +125,7 @@ fn plain(kind: usize, number: usize, dropped: bool, response: usize) -> Figures
         cos_or_letter: 0,
         stream_or_mailbox: 0,
         length: 0,
+        priority: 0,
     }
 }
 
@@ -154,6 +156,7 @@ fn answer_of(t: Figures) -> Answer
     if t.kind == DELIVERED {
         let flow = Flow {
             source: t.source,
+            priority: t.priority,
             cos: t.cos_or_letter,
         };
         return Answer::Delivered {

@@ -8,7 +8,7 @@ use Rattle.c_contexts.specs.declared.OpenMessage.{OpenMessage}
 
 -- of a context that is not open
 abbrev pub noStream : ℕ → ℕ → OpenStream
-noStream kind number = record { kind = kind; number = number; source = 0; cos = 0; stream = 0; held = 0 }
+noStream kind number = record { kind = kind; number = number; source = 0; cos = 0; stream = 0; held = 0; priority = 0 }
 
 abbrev pub noMessage : ℕ → ℕ → OpenMessage
 noMessage kind number = record {
@@ -31,6 +31,7 @@ openStreamOf (streamIsOpen flow streamID held) = record {
   cos = flow .cos;
   stream = streamID;
   held = held;
+  priority = flow .priority;
 }
 openStreamOf streamIsFree = noStream freeKind 0
 openStreamOf (streamAskRefused number) = noStream refusedKind number

@@ -5,7 +5,7 @@ ghost use mathlib.Core.Path.{_≡_};
 ghost use Rattle.answers.specs.Answers.{saidOfStream, saidOfMessage};
 ghost use Rattle.c_contexts.specs.Open.{openStreamOf, openMessageOf};
 
-// Kind, refusal number; of an open one its flow, its streamID, and how many bytes are held.
+// Kind, refusal number; of an open one its flow's source and cos, its streamID, how many bytes are held, and its flow's priority.
 #[repr(C)]
 pub struct OpenStream {
     pub kind: usize,
@@ -14,6 +14,7 @@ pub struct OpenStream {
     pub cos: usize,
     pub stream: usize,
     pub held: usize,
+    pub priority: usize,
 }
 
 // Kind, refusal number; of an open one who sends it, its msglen, the bytes of its segments, which have come, and the last one's length.
@@ -42,6 +43,7 @@ pub fn of_stream(asked: StreamAsked) -> OpenStream
             cos: flow.cos,
             stream,
             held,
+            priority: flow.priority,
         },
         StreamAsked::Free => OpenStream {
             kind: answers::FREE,
@@ -50,6 +52,7 @@ pub fn of_stream(asked: StreamAsked) -> OpenStream
             cos: 0,
             stream: 0,
             held: 0,
+            priority: 0,
         },
         StreamAsked::Refused(number) => OpenStream {
             kind: answers::REFUSED,
@@ -58,6 +61,7 @@ pub fn of_stream(asked: StreamAsked) -> OpenStream
             cos: 0,
             stream: 0,
             held: 0,
+            priority: 0,
         },
     }
 }

@@ -108,7 +108,7 @@ is-written (writeRefused number) e = absurd (omega (arith, e))
 are-writes : {setup : Setup} {flow : Flow} {s : Sent} {k n : ℕ} {ps : List (List ℕ)} → WritesFromC setup flow s k n ps → Writes setup flow s k n ps
 are-writes no-segment = written-all
 are-writes {setup = setup} {flow = flow} {s = s} {k = k} (one-segment out left answer promise kind more) =
-    let says : WriterSaid = writing out (headingFor setup flow s k) (setup .mtu) (s .pdu .bytes) k .says in
+    let says : WriterSaid = writing out (headingFor setup flow s) (setup .mtu) (s .pdu .bytes) k .says in
     let told : wrote (answer .number) ≡ says =
     ap (λ (a : Numbers). wrote (a .number)) (promise .answer) ∙ is-written says (ap (λ (a : Numbers). a .kind) (sym (promise .answer)) ∙ kind) in
     write out left (answer .number) (ap₂ (λ (t : WriterSaid) (o : List ℕ). wroteOf t o) told (promise .packet)) (are-writes more)
@@ -119,7 +119,7 @@ writes-from-c-are-writes setup flow s k n ps writes = are-writes writes
 -- ---- The demands
 
 pub demand2-from-c : Demand2FromC
-demand2-from-c s d flow x count ps ds up source cos fair says writes reads = demand2-of-calls s d flow x count ps ds (set-up up) source cos fair says (are-writes writes) (are-reads reads)
+demand2-from-c s d flow x count ps ds up source priority cos fair says writes reads = demand2-of-calls s d flow x count ps ds (set-up up) source priority cos fair says (are-writes writes) (are-reads reads)
 
 pub demand3-from-c : Demand3FromC
 demand3-from-c s d sending ds up fair reads = demand3-of-calls s d sending ds (set-up up) (fair .sent-fairly) (fair .one-loss) (fair .neighbours) (are-reads reads)

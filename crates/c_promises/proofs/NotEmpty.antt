@@ -36,7 +36,7 @@ use Rattle.flows.specs.Widths.{narrowed}
 use Rattle.c_bursts.specs.Bursts.{slotBytes, burstVerdict, roomFor, reportFor}
 use Rattle.answers.specs.Kinds.{deliveredKind, readyKind, writtenKind}
 use Rattle.c_promises.specs.OfCalls.{FetchesFromC, at-place, nothing, ReadsFromC, no-more, one-more}
-use Rattle.c_promises.specs.OfCalls.{SetUpFromC, WritesFromC, no-segment, one-segment, CallsFromCNotEmpty, deskForSeven, sevenReports, BurstAt, BurstNotEmpty}
+use Rattle.c_promises.specs.OfCalls.{SetUpFromC, WritesFromC, no-segment, one-segment, CallsFromCNotEmpty, deskForNine, nineReports, BurstAt, BurstNotEmpty}
 
 -- ---- Calls
 
@@ -73,12 +73,12 @@ reads-made (p ∷ ps) d =
     (_, one-more (reportFor (reading x)) reply enough (record { report = refl; desk = refl }) (fetch .1) (rest .1))
 
 -- the writer, with a buffer as long as the packet
-module _ (s : Setup) (flow : Flow) (x : Sent) (allowed : Allowed s) (source : tooWide (s .narrow) (flow .source) ≡ false) (fair : FairPDU (s .room) x) where
+module _ (s : Setup) (flow : Flow) (x : Sent) (allowed : Allowed s) (source : tooWide (s .narrow) (flow .source) ≡ false) (priority : flow .priority ≤ 3) (fair : FairPDU (s .room) x) where
   writes-made : (n k : ℕ) → k + n ≡ packetCount (s .mtu) x → (ps : List (List ℕ)) × WritesFromC s flow x k n ps
   writes-made zero k e = (_, no-segment)
   writes-made (suc n) k e =
       let packet : List ℕ = packetAt s flow x k in
-      let well = written-well s flow x allowed source fair packet k (omega arith) (omega arith) in (
+      let well = written-well s flow x allowed source priority fair packet k (omega arith) (omega arith) in (
         _,
         one-segment packet _ (numbers writtenKind (length packet))
             (record { answer = ap (λ (w : Wrote). numbersOfWriter (w .says)) well; packet = ap (λ (w : Wrote). w .out) well }) refl
@@ -89,31 +89,31 @@ pub calls-from-c-not-empty : CallsFromCNotEmpty
 calls-from-c-not-empty = record {
   sets-up = sets-up;
   reads = λ d ps. reads-made ps d;
-  writes = λ s flow x count allowed source fair says. writes-made s flow x allowed source fair count 0 (omega (arith, says, counted s flow x allowed source fair));
+  writes = λ s flow x count allowed source priority fair says. writes-made s flow x allowed source priority fair count 0 (omega (arith, says, counted s flow x allowed source priority fair));
 }
 
 -- ---- A burst
 
--- the packets that the mixture leaves, at a width: seven, all of them short
+-- the packets that the mixture leaves, at a width: nine, all of them short
 abbrev left-over : ℕ → List (List ℕ)
 left-over narrow = packets (smallSetup narrow) (mixture narrow)
 
 short-at-16 : AllShort (left-over 0)
 unfolding narrowed
-short-at-16 = subst AllShort (sym (mixture-is-fair .0 .left)) (omega arith, (omega arith, (omega arith, (omega arith, (omega arith, (omega arith, (omega arith, tt)))))))
+short-at-16 = subst AllShort (sym (mixture-is-fair .0 .left)) (omega arith, (omega arith, (omega arith, (omega arith, (omega arith, (omega arith, (omega arith, (omega arith, (omega arith, tt)))))))))
 
 short-at-8 : AllShort (left-over 1)
 unfolding narrowed
-short-at-8 = subst AllShort (sym (mixture-is-fair .1 .0 .left)) (omega arith, (omega arith, (omega arith, (omega arith, (omega arith, (omega arith, (omega arith, tt)))))))
+short-at-8 = subst AllShort (sym (mixture-is-fair .1 .0 .left)) (omega arith, (omega arith, (omega arith, (omega arith, (omega arith, (omega arith, (omega arith, (omega arith, (omega arith, tt)))))))))
 
-seven-fit : 7 ≤ roomFor (length sevenReports) (slotBytes * 7)
+nine-fit : 9 ≤ roomFor (length nineReports) (slotBytes * 9)
 unfolding roomFor
-seven-fit = omega arith
+nine-fit = omega arith
 
-burst-at : (narrow : ℕ) → AllShort (left-over narrow) → length (left-over narrow) ≡ 7 → burstVerdict (deskForSeven narrow) ≡ accept → BurstAt narrow
-burst-at narrow short seven passed = record {
+burst-at : (narrow : ℕ) → AllShort (left-over narrow) → length (left-over narrow) ≡ 9 → burstVerdict (deskForNine narrow) ≡ accept → BurstAt narrow
+burst-at narrow short nine passed = record {
   short = short;
-  whole-burst = record { whole-records = log-reads-back (left-over narrow) short; passed = passed; room = omega (arith, seven, seven-fit) };
+  whole-burst = record { whole-records = log-reads-back (left-over narrow) short; passed = passed; room = omega (arith, nine, nine-fit) };
 }
 
 pub burst-not-empty : BurstNotEmpty

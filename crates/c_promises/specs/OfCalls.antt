@@ -72,17 +72,17 @@ BurstIsCalls =
     (d : Desk) (reports burst : List ℕ) (packets : List (List ℕ)) → WholeBurst d reports burst packets
     → readBurst 0 d reports burst ≡ stopped (stepLeft atEnd (allRead (length burst) (run d reports 0 0) packets))
 
--- a desk that was just set up, with responses for seven; and their reports
-abbrev pub deskForSeven : (narrow : ℕ) → Desk
-deskForSeven narrow = withResponse (zeroDesk (smallSetup narrow)) (replicate (slotBytes * 7) 0)
+-- a desk that was just set up, with responses for nine; and their reports
+abbrev pub deskForNine : (narrow : ℕ) → Desk
+deskForNine narrow = withResponse (zeroDesk (smallSetup narrow)) (replicate (slotBytes * 9) 0)
 
-abbrev pub sevenReports : List ℕ
-sevenReports = replicate (reportWords * 7) 0
+abbrev pub nineReports : List ℕ
+nineReports = replicate (reportWords * 9) 0
 
--- these premises can be met, at both widths: by the packets of a sending with losses, mixed flows and messages between, of which there are seven
+-- these premises can be met, at both widths: by the packets of a sending with losses, mixed flows and messages between, of which there are nine
 pub record BurstAt (narrow : ℕ) : Type 0 where
   pub short : AllShort (packets (smallSetup narrow) (mixture narrow))
-  pub whole-burst : WholeBurst (deskForSeven narrow) sevenReports (writtenLog (packets (smallSetup narrow) (mixture narrow))) (packets (smallSetup narrow) (mixture narrow))
+  pub whole-burst : WholeBurst (deskForNine narrow) nineReports (writtenLog (packets (smallSetup narrow) (mixture narrow))) (packets (smallSetup narrow) (mixture narrow))
 
 abbrev pub BurstNotEmpty : Type 0
 BurstNotEmpty = Each BurstAt bothWidths
@@ -121,7 +121,7 @@ bytesAt memory place = take (place .length) (drop (place .offset) memory)
 
 -- the flow that a report names
 abbrev pub flowIn : Report → Flow
-flowIn r = record { source = r .source; cos = r .«cos_or_letter» }
+flowIn r = record { source = r .source; priority = r .priority; cos = r .«cos_or_letter» }
 
 -- What a caller in C fetches after a report. A PDU is delivered: one call of `kaiverohm_stream_room` with the report's context and length,
 -- for the stream memory as it was left; its bytes are those at the place that the call answers. After any other report nothing is fetched
@@ -157,7 +157,7 @@ pub record SetUpFromC (setup : Setup) (d : Desk) : Type 0 where
 pub data WritesFromC (setup : Setup) (flow : Flow) (s : Sent) : (k n : ℕ) → List (List ℕ) → Type 0 where
   no-segment : {k : ℕ} → WritesFromC setup flow s k zero []
   one-segment : {k n : ℕ} {ps : List (List ℕ)} (out left : List ℕ) (answer : Numbers)
-      → WriteFromCPromise out (headingFor setup flow s k) (setup .mtu) (s .pdu .bytes) k answer left
+      → WriteFromCPromise out (headingFor setup flow s) (setup .mtu) (s .pdu .bytes) k answer left
       → answer .kind ≡ writtenKind
       → WritesFromC setup flow s (suc k) n ps
       → WritesFromC setup flow s k (suc n) (take (answer .number) left ∷ ps)
@@ -171,7 +171,7 @@ abbrev pub Demand2FromC : Type 0
 Demand2FromC =
     (setup : Setup) (d : Desk) (flow : Flow) (s : Sent) (count : ℕ) (ps : List (List ℕ)) (ds : List Delivery)
     → SetUpFromC setup d
-    → flow .source < 256 ^ idsOf setup → flow .cos < 256 → FairPDU (setup .room) s
+    → flow .source < 256 ^ idsOf setup → flow .priority ≤ 3 → flow .cos < 256 → FairPDU (setup .room) s
     → CountPromise (setup .mtu) (length (s .pdu .bytes)) count → WritesFromC setup flow s 0 count ps
     → ReadsFromC d ps ds
     → ds ≡ delivery flow (s .pdu) ∷ []
@@ -185,11 +185,11 @@ Demand3FromC =
     → ds ≡ whole setup s
 
 -- the calls can be made: setup says ready at a desk whose memories are zeros; at any desk there are calls for any packets; and every PDU that a room
--- holds can be written, from a source that 47 passes
+-- holds can be written, from a source that 47 passes and at a priority that 17 passes
 pub record CallsFromCNotEmpty : Type 0 where
   pub sets-up : (setup : Setup) → Allowed setup → SetUpFromC setup (zeroDesk setup)
   pub reads : (d : Desk) (ps : List (List ℕ)) → (ds : List Delivery) × ReadsFromC d ps ds
-  pub writes : (setup : Setup) (flow : Flow) (s : Sent) (count : ℕ) → Allowed setup → tooWide (setup .narrow) (flow .source) ≡ false → FairPDU (setup .room) s
+  pub writes : (setup : Setup) (flow : Flow) (s : Sent) (count : ℕ) → Allowed setup → tooWide (setup .narrow) (flow .source) ≡ false → flow .priority ≤ 3 → FairPDU (setup .room) s
       → CountPromise (setup .mtu) (length (s .pdu .bytes)) count
       → (ps : List (List ℕ)) × WritesFromC setup flow s 0 count ps
 

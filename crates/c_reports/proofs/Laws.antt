@@ -1,9 +1,10 @@
 -- The numbers of an answer make a report, and a store for each word puts one.
-use Prim.Native.Nat.{ℕ, _+_, _≤_}
+use Prim.Native.Nat.{ℕ, suc, _+_, _≤_}
 use mathlib.Core.Path.{_≡_, refl, ap, _∙_}
 use mathlib.Core.List.{List}
 use mathlib.Core.Bool.{Bool}
 use native.Mathlib.Numerals.{towards-suc}
+use native.Mathlib.Omega.{arith}
 use lib.ListN.{length, set}
 use Rattle.lists.specs.Bytes.{written}
 use Rattle.lists.proofs.Written.{stores}
@@ -25,14 +26,19 @@ asReport t flag = record {
   «cos_or_letter» = t .«cos_or_letter»;
   «stream_or_mailbox» = t .«stream_or_mailbox»;
   length = t .length;
+  priority = t .priority;
 }
+
+-- the last place, behind those that the law knows
+ninth : (at : ℕ) → at + 9 ≡ suc (at + 8)
+ninth at = omega arith
 
 -- a store for each word, in their order
 pub stored : (w : List ℕ) (at : ℕ) (r : Report) → at + reportWords ≤ length w
-    → set (set (set (set (set (set (set (set (set w at (r .kind)) (at + 1) (r .number)) (at + 2) (r .dropped)) (at + 3) (r .response)) (at + 4) (r .context)) (at + 5) (r .source))
-    (at + 6) (r .«cos_or_letter»)) (at + 7) (r .«stream_or_mailbox»)) (at + 8) (r .length)
+    → set (set (set (set (set (set (set (set (set (set w at (r .kind)) (at + 1) (r .number)) (at + 2) (r .dropped)) (at + 3) (r .response)) (at + 4) (r .context)) (at + 5) (r .source))
+    (at + 6) (r .«cos_or_letter»)) (at + 7) (r .«stream_or_mailbox»)) (at + 8) (r .length)) (at + 9) (r .priority)
     ≡ written w at (wordsOfReport r)
-stored w at r h = simp towards-suc (stores w (wordsOfReport r) at h)
+stored w at r h = simp (ninth, towards-suc) (stores w (wordsOfReport r) at h)
 
 -- the numbers of what was said are the report's, the flag as one of them
 reported-back : (says : Said) (dropped : Bool) (response : ℕ) → asReport (figuresOf says dropped response) (flagOf dropped) ≡ reportOf says dropped response

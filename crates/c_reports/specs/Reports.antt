@@ -51,11 +51,12 @@ plainOf kind number dropped response = record {
   «cos_or_letter» = 0;
   «stream_or_mailbox» = 0;
   length = 0;
+  priority = 0;
 }
 
 -- a report that carries one
-abbrev pub carrying : ℕ → ℕ → ℕ → ℕ → ℕ → ℕ → ℕ → ℕ → Report
-carrying kind dropped response context source cosOrLetter streamOrMailbox size = record {
+abbrev pub carrying : ℕ → ℕ → ℕ → ℕ → ℕ → ℕ → ℕ → ℕ → ℕ → Report
+carrying kind dropped response context source cosOrLetter streamOrMailbox size priority = record {
   kind = kind;
   number = 0;
   dropped = dropped;
@@ -65,15 +66,16 @@ carrying kind dropped response context source cosOrLetter streamOrMailbox size =
   «cos_or_letter» = cosOrLetter;
   «stream_or_mailbox» = streamOrMailbox;
   length = size;
+  priority = priority;
 }
 
 abbrev pub sayingOf : Said → ℕ → ℕ → Report
 sayingOf (refused number) dropped response = plainOf (kindOf (refused number)) number dropped response
 sayingOf held dropped response = plainOf (kindOf held) 0 dropped response
 sayingOf (delivered context flow stream size) dropped response =
-    carrying (kindOf (delivered context flow stream size)) dropped response context (flow .source) (flow .cos) stream size
+    carrying (kindOf (delivered context flow stream size)) dropped response context (flow .source) (flow .cos) stream size (flow .priority)
 sayingOf (message context source letter mailbox size) dropped response =
-    carrying (kindOf (message context source letter mailbox size)) dropped response context source letter mailbox size
+    carrying (kindOf (message context source letter mailbox size)) dropped response context source letter mailbox size 0
 
 -- the report of what reading the packet said, whether it dropped an open PDU, and how many bytes of response it wrote
 unfoldable pub reportOf : Said → Bool → ℕ → Report
@@ -81,7 +83,7 @@ reportOf says dropped replied = sayingOf says (flagOf dropped) replied
 
 -- how many words a report takes in a lent buffer
 abbrev pub reportWords : ℕ
-reportWords = 9
+reportWords = 10
 
 -- its words there, in the order of its fields
 abbrev pub wordsOfReport : Report → List ℕ
@@ -95,6 +97,7 @@ wordsOfReport r =
     ∷ r .«cos_or_letter»
     ∷ r .«stream_or_mailbox»
     ∷ r .length
+    ∷ r .priority
     ∷ []
 
 -- and back: the report that stands in such words
@@ -109,4 +112,5 @@ reportIn words = record {
   «cos_or_letter» = byte words 6;
   «stream_or_mailbox» = byte words 7;
   length = byte words 8;
+  priority = byte words 9;
 }

@@ -8,9 +8,10 @@ ghost use Rattle.lists.specs.Bytes.{written};
 ghost use Rattle.c_reports.specs.Reports.{flagOf, reportOf, reportWords, wordsOfReport};
 
 // The words of a report.
-pub const WORDS: usize = 9;
+pub const WORDS: usize = 10;
 
-// Kind, refusal number, 1 where an open PDU was dropped, bytes of response written, context, source, cos or letter, streamID or mailbox, length.
+// Kind, refusal number, 1 where an open PDU was dropped, bytes of response written, context, source, cos or letter, streamID or mailbox, length,
+// priority.
 #[repr(C)]
 pub struct Report {
     pub kind: usize,
@@ -22,6 +23,7 @@ pub struct Report {
     pub cos_or_letter: usize,
     pub stream_or_mailbox: usize,
     pub length: usize,
+    pub priority: usize,
 }
 
 fn flag(b: bool) -> usize
@@ -48,6 +50,7 @@ pub fn reported(t: Figures) -> Report
         cos_or_letter: t.cos_or_letter,
         stream_or_mailbox: t.stream_or_mailbox,
         length: t.length,
+        priority: t.priority,
     }
 }
 
@@ -65,6 +68,7 @@ pub fn put(words: &mut [usize], at: usize, r: Report)
     words[at + 6] = r.cos_or_letter;
     words[at + 7] = r.stream_or_mailbox;
     words[at + 8] = r.length;
+    words[at + 9] = r.priority;
 }
 
 // The answer of a call that reads no packet: its kind, and the refusal's number or the length written.

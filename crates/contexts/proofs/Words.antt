@@ -1,5 +1,5 @@
 -- Laws between a state and its words: reading and writing one part, and that a state is its words and no more.
-use Prim.Native.Nat.{ℕ, _<_, _+_, _*_}
+use Prim.Native.Nat.{ℕ, _<_, _+_, _-_, _*_}
 use mathlib.Core.Path.{_≡_, refl, ap, ap₂, sym, _∙_}
 use mathlib.Core.List.{List, [], _∷_, _++_, map, append-nil}
 use native.Mathlib.Omega.{arith}
@@ -80,14 +80,14 @@ module _ (w : List ℕ) where
         (records-before streamFrom streamWords streamContexts firstStream w (omega arith) at (wordsOfMessage c) (omega arith) (omega arith))
         (record-put messageFrom messageWords messageContexts firstMessage w (omega arith) i (wordsOfMessage c) refl h)
 
-    -- a context that goes on: its first word and some behind are written, and those between stay
+    -- a context that goes on: its first word and its last are written, and those between stay
 
     pub stream-hold : (i held : ℕ) → i < streamContexts
-        → stateOf (writeAt (set w (firstStream + streamWords * i + 0) 1) (firstStream + streamWords * i) 4 (held ∷ [])) ≡ withStream (stateOf w) i (holding (streamIn (stateOf w) i) held)
+        → stateOf (writeAt (set w (firstStream + streamWords * i + 0) 1) (firstStream + streamWords * i) (streamWords - 1) (held ∷ [])) ≡ withStream (stateOf w) i (holding (streamIn (stateOf w) i) held)
     stream-hold i held h =
         let at : ℕ = firstStream + streamWords * i in
         let c : StreamContext = streamFrom (readAt w at 0 streamWords) in
-        sym (ap stateOf (write-around w at 1 3 (held ∷ [])))
+        sym (ap stateOf (write-around w at 1 (streamWords - 2) (held ∷ [])))
         ∙ (stream-put i (holding c held) h ∙ ap (λ (x : StreamContext). withStream (stateOf w) i (holding x held)) (stream-read i h))
 
     -- ---- a state is its words and no more

@@ -36,7 +36,7 @@ idsIn s = idsOf (s .setup)
 
 -- a context with all its fields 0
 abbrev pub closedStream : StreamContext
-closedStream = record { live = 0; flow = record { source = 0; cos = 0 }; stream = 0; held = 0 }
+closedStream = record { live = 0; flow = record { source = 0; priority = 0; cos = 0 }; stream = 0; held = 0 }
 
 abbrev pub closedMessage : MessageContext
 closedMessage = record { live = 0; source = 0; letter = 0; mbox = 0; msglen = 0; ssize = 0; marks = 0; last = 0 }

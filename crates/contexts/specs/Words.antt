@@ -20,14 +20,14 @@ setupFrom w = fixed (getD w 0 0) (getD w 1 0) (getD w 2 0) (getD w 3 0)
 
 -- a stream context
 abbrev pub wordsOfStream : StreamContext → List ℕ
-wordsOfStream c = c .live ∷ c .flow .source ∷ c .flow .cos ∷ c .stream ∷ c .held ∷ []
+wordsOfStream c = c .live ∷ c .flow .source ∷ c .flow .priority ∷ c .flow .cos ∷ c .stream ∷ c .held ∷ []
 
 abbrev pub streamFrom : List ℕ → StreamContext
 streamFrom w = record {
   live = getD w 0 0;
-  flow = record { source = getD w 1 0; cos = getD w 2 0 };
-  stream = getD w 3 0;
-  held = getD w 4 0;
+  flow = record { source = getD w 1 0; priority = getD w 2 0; cos = getD w 3 0 };
+  stream = getD w 4 0;
+  held = getD w 5 0;
 }
 
 -- a message context

@@ -28,13 +28,15 @@ pub const LIVE: usize = 0;
 
 pub const SOURCE: usize = 1;
 
-pub const COS: usize = 2;
+pub const PRIORITY: usize = 2;
 
-pub const STREAM: usize = 3;
+pub const COS: usize = 3;
 
-pub const HELD: usize = 4;
+pub const STREAM: usize = 4;
 
-pub const STREAM_WORDS: usize = 5;
+pub const HELD: usize = 5;
+
+pub const STREAM_WORDS: usize = 6;
 
 // The words of a message context, in their order: LIVE and SOURCE, then these.
 pub const LETTER: usize = 2;

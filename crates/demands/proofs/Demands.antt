@@ -67,7 +67,7 @@ one-PDU setup flow s d f ranges fair =
 
 pub our-writer-meets : OurWriterMeets
 our-writer-meets setup flow s d outs f ranges fair long =
-    ap (deliveries d) (ours-writes setup flow s (f .allowed) (fits-width (setup .narrow) (flow .source) (ranges .source)) fair outs long (packetCount (setup .mtu) s) 0 (omega arith)) ∙ one-PDU setup flow s d f ranges fair
+    ap (deliveries d) (ours-writes setup flow s (f .allowed) (fits-width (setup .narrow) (flow .source) (ranges .source)) (ranges .priority) fair outs long (packetCount (setup .mtu) s) 0 (omega arith)) ∙ one-PDU setup flow s d f ranges fair
 
 -- ---- Demand 3, stronger, and its corollary
 

@@ -54,10 +54,10 @@ from2 = sourceOf 2
 
 here-ranges : Ranges here from2
 unfolding idBytes
-here-ranges = record { allowed = here-allowed; source = omega arith; cos = omega arith }
+here-ranges = record { allowed = here-allowed; source = omega arith; priority = omega arith; cos = omega arith }
 
 abbrev alone : ℕ → List ℕ → Sent
-alone stream bytes = record { pdu = pdu stream bytes; lost = []; priorities = [] }
+alone stream bytes = record { pdu = pdu stream bytes; lost = [] }
 
 abbrev one : Sent
 one = alone 7 firstPDU
@@ -193,10 +193,10 @@ resized-size (refused number) n context flow stream size e = absurd (let z : _�
 -- ---- Keeps the context after 11: 96 bytes without the middle, then 40 without the start. Not a joint, yet it would be delivered
 
 abbrev hurt : Sent
-hurt = record { pdu = pdu 7 (counting 0 96); lost = 1 ∷ []; priorities = [] }
+hurt = record { pdu = pdu 7 (counting 0 96); lost = 1 ∷ [] }
 
 abbrev tail-only : Sent
-tail-only = record { pdu = pdu 8 secondPDU; lost = 0 ∷ []; priorities = [] }
+tail-only = record { pdu = pdu 8 secondPDU; lost = 0 ∷ [] }
 
 no-joint : Pair here from2 hurt tail-only
 unfolding deciding segmentCount
@@ -259,11 +259,11 @@ zeros k = replicate (length (packetAt here from2 single k)) 0
 idle : (w : Writer) → Idle w → Demand2OfWriter w → ⊥
 unfolding segmentCount
 idle w does-nothing demand =
-    let x : Wrote = w (zeros 0) (headingFor here from2 single 0) 32 (single .pdu .bytes) 0 in
+    let x : Wrote = w (zeros 0) (headingFor here from2 single) 32 (single .pdu .bytes) 0 in
     let n : ℕ = length (packetAt here from2 single 0) in
     let wanted : deliveries (zeroDesk here) (standsIn (x .says) (x .out) ∷ []) ≡ delivery from2 (single .pdu) ∷ [] =
     demand here from2 single (zeroDesk here) zeros here-fresh here-ranges fair-single (λ k. omega (arith, length-replicate {A = ℕ} (length (packetAt here from2 single k)) 0)) in
-    let as-it-was : x .out ≡ zeros 0 = does-nothing (zeros 0) (headingFor here from2 single 0) 32 (single .pdu .bytes) 0 in
+    let as-it-was : x .out ≡ zeros 0 = does-nothing (zeros 0) (headingFor here from2 single) 32 (single .pdu .bytes) 0 in
     let gets : deliveries (zeroDesk here) (standsIn (x .says) (zeros 0) ∷ []) ≡ [] = ours-meets .demand3 here (zeroDesk here) (sent-zeros (x .says) n) here-fresh (fair-zeros (x .says) n) in
     let z : _≡_ {A = ℕ} 0 1 = ap length (sym gets ∙ (ap (λ (out : List ℕ). deliveries (zeroDesk here) (standsIn (x .says) out ∷ [])) (sym as-it-was) ∙ wanted)) in
     omega arith

@@ -17,7 +17,7 @@ use Rattle.answers.specs.Stands.{Stands, stands}
 use Rattle.reading.specs.Desk.{Desk, stateOn}
 use Rattle.flows.specs.Deliveries.{deliveries}
 use Rattle.flows.specs.Fresh.{Fresh}
-use Rattle.flows.proofs.Fine.{reply-on, fresh-fine}
+use Rattle.flows.proofs.Steady.{reply-on, fresh-steady}
 use Rattle.sending.specs.Sending.{packetCount}
 use Rattle.sending.proofs.Untold.{packetsFrom}
 use Rattle.demands.specs.OfCalls.{SetUp, SetUpIsFresh, Demand2OfCalls, Demand3OfCalls, Demand3AnyLoss}
@@ -48,7 +48,7 @@ set-up-is-fresh s d up = go (verdict (setupTable (up .before) s)) refl (up .read
 
 -- the response buffer that is lent, by the state's own width
 own-reply : (s : Setup) (d : Desk) → SetUp s d → responseSize (idsIn (stateOn d)) ≤ length (d .response)
-own-reply s d up = reply-on (fresh-fine s d (set-up-is-fresh s d up) [])
+own-reply s d up = reply-on (fresh-steady s d (set-up-is-fresh s d up))
 
 -- ---- Demand 3
 
@@ -65,9 +65,9 @@ demand3-any-loss s d sending n ds up sent-fairly neighbours reads =
 -- ---- Demand 2
 
 pub demand2-of-calls : Demand2OfCalls
-demand2-of-calls s d flow x count ps ds up source cos fair says writes reads =
+demand2-of-calls s d flow x count ps ds up source priority cos fair says writes reads =
     let f = set-up-is-fresh s d up in
-    let n : count ≡ packetCount (s .mtu) x = says ∙ counted s flow x (f .allowed) (fits-width (s .narrow) (flow .source) source) fair in
+    let n : count ≡ packetCount (s .mtu) x = says ∙ counted s flow x (f .allowed) (fits-width (s .narrow) (flow .source) source) priority fair in
     let cut : ps ≡ packetsFrom s flow x 0 (packetCount (s .mtu) x) = calls-write s flow x writes ∙ ap (packetsFrom s flow x 0) n in
     calls-deliver d ps ds (own-reply s d up) reads
-    ∙ (ap (deliveries d) cut ∙ one-PDU s flow x d f (record { allowed = f .allowed; source = source; cos = cos }) fair)
+    ∙ (ap (deliveries d) cut ∙ one-PDU s flow x d f (record { allowed = f .allowed; source = source; priority = priority; cos = cos }) fair)

@@ -40,10 +40,10 @@ module _ (setup : Setup) where
 
   module _ (most : setup .room ≤ 65536) where
     wider-PDU : (s : Sent) → FairPDU (setup .room) s → FairPDU 65536 s
-    wider-PDU s f = record { stream = f .stream; bytes = f .bytes; some-byte = f .some-byte; fits = omega (arith, f .fits); priorities = f .priorities }
+    wider-PDU s f = record { stream = f .stream; bytes = f .bytes; some-byte = f .some-byte; fits = omega (arith, f .fits) }
 
     wider-flow : (x : FlowSent) → FairFlow setup x → FairFlow widest x
-    wider-flow x f = record { source = f .source; cos = f .cos; PDUs = each (FairPDU (setup .room)) (FairPDU 65536) wider-PDU (x .sent) (f .PDUs) }
+    wider-flow x f = record { source = f .source; priority = f .priority; cos = f .cos; PDUs = each (FairPDU (setup .room)) (FairPDU 65536) wider-PDU (x .sent) (f .PDUs) }
 
     wider-turn : (t : Turn) → FairTurn setup t → FairTurn widest t
     unfolding parsed

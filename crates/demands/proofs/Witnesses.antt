@@ -35,11 +35,12 @@ use Rattle.sending.specs.OfSendings.{packetAt}
 use Rattle.sending.specs.Joint.{isJoint}
 use Rattle.sending.specs.Mixture.{smallSetup, mixture}
 use Rattle.sending.proofs.Decided.{each-by, fair-PDU, deciding}
+use Rattle.priorities.specs.Apart.{first, later}
 use Rattle.paper_examples.proofs.Computing.{computing}
 use Rattle.calls.specs.Calls.{Fetches, room, none-held, none-message, none-refused, Reads, stop, call}
 use Rattle.demands.specs.Writes.{Writes, written-all, write}
 use Rattle.demands.specs.OfCalls.{SetUp}
-use Rattle.demands.specs.Witnesses.{CallsNotEmpty, WritesNotEmpty, AllowedNotEmpty, FlowsNotEmpty, endLost, startLost, JointAt, JointNotEmpty, WidthsNotEmpty}
+use Rattle.demands.specs.Witnesses.{CallsNotEmpty, WritesNotEmpty, AllowedNotEmpty, FlowsNotEmpty, PriorityNotEmpty, endLost, startLost, JointAt, JointNotEmpty, WidthsNotEmpty}
 use Rattle.demands.proofs.Widths.{fits-width, in-16-bits}
 use Rattle.demands.proofs.Demands.{zeros-fresh}
 use Rattle.demands.proofs.Writing.{counted, written-well}
@@ -83,15 +84,15 @@ calls-made (p ∷ ps) d =
     (_, call (answered-by x) (replicate size 0) long (promised x) (fetch .1) (rest .1))
 
 -- the writer, with a buffer as long as the packet
-module _ (s : Setup) (flow : Flow) (x : Sent) (allowed : Allowed s) (source : tooWide (s .narrow) (flow .source) ≡ false) (fair : FairPDU (s .room) x) where
+module _ (s : Setup) (flow : Flow) (x : Sent) (allowed : Allowed s) (source : tooWide (s .narrow) (flow .source) ≡ false) (priority : flow .priority ≤ 3) (fair : FairPDU (s .room) x) where
   writes-made : (n k : ℕ) → k + n ≡ packetCount (s .mtu) x → (ps : List (List ℕ)) × Writes s flow x k n ps
   writes-made zero k e = (_, written-all)
   writes-made (suc n) k e =
       let packet : List ℕ = packetAt s flow x k in
-      (_, write packet _ _ (written-well s flow x allowed source fair packet k (omega arith) (omega arith)) (writes-made n (suc k) (omega arith) .1))
+      (_, write packet _ _ (written-well s flow x allowed source priority fair packet k (omega arith) (omega arith)) (writes-made n (suc k) (omega arith) .1))
 
 pub writes-not-empty : WritesNotEmpty
-writes-not-empty s flow x count allowed source fair says = writes-made s flow x allowed source fair count 0 (omega (arith, says, counted s flow x allowed source fair))
+writes-not-empty s flow x count allowed source priority fair says = writes-made s flow x allowed source priority fair count 0 (omega (arith, says, counted s flow x allowed source priority fair))
 
 pub calls-not-empty : CallsNotEmpty
 calls-not-empty = record { sets-up = sets-up; reads = λ d ps. calls-made ps d; writes = writes-not-empty }
@@ -103,7 +104,7 @@ allowed-not-empty = (
   (record { device-ID = omega arith; allowed-MTU = refl; allowed-R = refl }, tt),
 )
 
--- ---- Packets of two flows
+-- ---- Packets of three flows
 
 small-allowed : Each (λ (narrow : ℕ). Allowed (smallSetup narrow)) bothWidths
 unfolding idBytes badMTU badRoom
@@ -119,15 +120,25 @@ flows-not-empty = (
     fresh = zeros-fresh (smallSetup 0) (small-allowed .0);
     few = omega arith;
     bytes = each-by AreBytes (below 256) are-bytes (packets (smallSetup 0) (mixture 0)) refl;
-    occur = (refl, (refl, (refl, (refl, (refl, (refl, (refl, tt)))))));
+    occur = (refl, (refl, (refl, (refl, (refl, (refl, (refl, (refl, (refl, tt)))))))));
   },
   (
     record {
       fresh = zeros-fresh (smallSetup 1) (small-allowed .1 .0);
       few = omega arith;
       bytes = each-by AreBytes (below 256) are-bytes (packets (smallSetup 1) (mixture 1)) refl;
-      occur = (refl, (refl, (refl, (refl, (refl, (refl, (refl, tt)))))));
+      occur = (refl, (refl, (refl, (refl, (refl, (refl, (refl, (refl, (refl, tt)))))))));
     },
+    tt,
+  ),
+)
+
+pub priority-not-empty : PriorityNotEmpty
+unfolding computing putOf
+priority-not-empty = (
+  record { all-but = record { first-byte = refl; others = refl; differ = λ e. omega (arith, e) }; ordinary-came = later (later (later first)); urgent-came = later (later (later (later first))) },
+  (
+    record { all-but = record { first-byte = refl; others = refl; differ = λ e. omega (arith, e) }; ordinary-came = later (later (later first)); urgent-came = later (later (later (later first))) },
     tt,
   ),
 )
@@ -140,7 +151,7 @@ joint-not-empty = (at 0 (allowed-not-empty .0) (omega arith), (at 1 (allowed-not
     at : (narrow : ℕ) → Allowed (paperSetupAt narrow) → 2 < 256 ^ idBytes narrow → JointAt narrow
     at narrow allowed source = record {
       pair = record {
-        ranges = record { allowed = allowed; source = source; cos = omega arith };
+        ranges = record { allowed = allowed; source = source; priority = omega arith; cos = omega arith };
         first-fair = fair-PDU 2048 endLost refl;
         second-fair = fair-PDU 2048 startLost refl;
         first-loses = refl;

@@ -61,10 +61,10 @@ module _ (setup : Setup) (flow : Flow) (s : Sent) where
   pub calls-write : {k n : ℕ} {ps : List (List ℕ)} → Writes setup flow s k n ps → ps ≡ packetsFrom setup flow s k n
   calls-write written-all = refl
   calls-write {k = k} (write out left size promise rest) =
-      ap₂ (λ (p : List ℕ) (ps : List (List ℕ)). p ∷ ps) (wrote-packet out (headingFor setup flow s k) (setup .mtu) (s .pdu .bytes) k size left promise) (calls-write rest)
+      ap₂ (λ (p : List ℕ) (ps : List (List ℕ)). p ∷ ps) (wrote-packet out (headingFor setup flow s) (setup .mtu) (s .pdu .bytes) k size left promise) (calls-write rest)
 
   -- a PDU that a room holds
-  module _ (allowed : Allowed setup) (source : tooWide (setup .narrow) (flow .source) ≡ false) (fair : FairPDU (setup .room) s) where
+  module _ (allowed : Allowed setup) (source : tooWide (setup .narrow) (flow .source) ≡ false) (priority : flow .priority ≤ 3) (fair : FairPDU (setup .room) s) where
     most : length (s .pdu .bytes) ≤ 65536
     most = omega (arith, fair .fits, good (fresh setup) (fresh-good setup (allowed .allowed-MTU) (allowed .allowed-R)) .room)
 
@@ -74,7 +74,7 @@ module _ (setup : Setup) (flow : Flow) (s : Sent) where
     -- a buffer that 16 allows
     pub written-well : (out : List ℕ) (k : ℕ) → k < packetCount (setup .mtu) s → length (packetAt setup flow s k) ≤ length out
         → wroteOf (wrote (length (packetAt setup flow s k))) (written out 0 (packetAt setup flow s k))
-        ≡ writing out (headingFor setup flow s k) (setup .mtu) (s .pdu .bytes) k
+        ≡ writing out (headingFor setup flow s) (setup .mtu) (s .pdu .bytes) k
     unfolding writing writerTable verdict badSize
     written-well out k below long =
         let some : length (s .pdu .bytes) ≡ 0 → ⊥ = λ e. omega (arith, fair .some-byte) in
@@ -82,7 +82,7 @@ module _ (setup : Setup) (flow : Flow) (s : Sent) where
           fits-width (setup .narrow) (setup .device) (allowed .device-ID),
           source,
           allowed .allowed-MTU,
-          le-ltb 3 _ (fair .priorities k),
+          le-ltb 3 _ priority,
           ne-eqb (length (s .pdu .bytes)) 0 some,
           le-ltb 65536 (length (s .pdu .bytes)) most,
           lt-ltb k (segmentCount (setup .mtu) (length (s .pdu .bytes))) below,

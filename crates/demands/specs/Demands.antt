@@ -35,7 +35,7 @@ standsIn (writeRefused number) out = []
 abbrev pub writtenBy : Writer → Setup → Flow → Sent → (outs : ℕ → List ℕ) → (k n : ℕ) → List (List ℕ)
 writtenBy w setup flow s outs k zero = []
 writtenBy w setup flow s outs k (suc n) =
-    let x = w (outs k) (headingFor setup flow s k) (setup .mtu) (s .pdu .bytes) k in
+    let x = w (outs k) (headingFor setup flow s) (setup .mtu) (s .pdu .bytes) k in
     standsIn (x .says) (x .out) ∷ writtenBy w setup flow s outs (suc k) n
 
 -- what it writes into buffers that 16 allows, our endpoint reads back

@@ -38,7 +38,7 @@ Demand2OfCalls =
     -- an endpoint of that address, width and MTU, from fresh
     → SetUp setup d
     -- a PDU that its room holds, with fields in their ranges
-    → flow .source < 256 ^ idsOf setup → flow .cos < 256 → FairPDU (setup .room) s
+    → flow .source < 256 ^ idsOf setup → flow .priority ≤ 3 → flow .cos < 256 → FairPDU (setup .room) s
     -- segments 0 to count-1, each written into any buffer
     → CountPromise (setup .mtu) (length (s .pdu .bytes)) count → Writes setup flow s 0 count ps
     -- read one after the other

@@ -16,18 +16,20 @@ use Rattle.flows.specs.Deliveries.{Delivery}
 use Rattle.flows.specs.Fresh.{Allowed, zeroDesk, paperSetupAt}
 use Rattle.flows.specs.Widths.{bothWidths, narrowed}
 use Rattle.flows.specs.Apart.{AtMostSixteenFlows}
+use Rattle.priorities.specs.Apart.{AllButPriority, Among}
 use Rattle.sending.specs.Sending.{Sent, packets, FairPDU}
+use Rattle.sending.specs.OfSendings.{packetAt}
 use Rattle.sending.specs.Joint.{Pair, isJoint}
-use Rattle.sending.specs.Mixture.{smallSetup, five, six, letterOne, mixture}
+use Rattle.sending.specs.Mixture.{smallSetup, five, urgentFive, six, sound, urgent, letterOne, mixture}
 use Rattle.paper_examples.specs.Table.{sourceOf, firstPDU, secondPDU}
 use Rattle.calls.specs.Calls.{Reads}
 use Rattle.demands.specs.Writes.{Writes}
 use Rattle.demands.specs.OfCalls.{SetUp}
 
--- every PDU that a room holds can be written, from a source that 47 passes, by as many calls as `segment_count` says
+-- every PDU that a room holds can be written, from a source that 47 passes and at a priority that 17 passes, by as many calls as `segment_count` says
 abbrev pub WritesNotEmpty : Type 0
 WritesNotEmpty =
-    (setup : Setup) (flow : Flow) (s : Sent) (count : ℕ) → Allowed setup → tooWide (setup .narrow) (flow .source) ≡ false → FairPDU (setup .room) s
+    (setup : Setup) (flow : Flow) (s : Sent) (count : ℕ) → Allowed setup → tooWide (setup .narrow) (flow .source) ≡ false → flow .priority ≤ 3 → FairPDU (setup .room) s
     → CountPromise (setup .mtu) (length (s .pdu .bytes)) count
     → (ps : List (List ℕ)) × Writes setup flow s 0 count ps
 
@@ -44,14 +46,29 @@ AllowedNotEmpty = Each (λ (narrow : ℕ). Allowed (paperSetupAt narrow)) bothWi
 -- there are packets of at most sixteen flows: those that the mixture leaves
 abbrev pub FlowsNotEmpty : Type 0
 FlowsNotEmpty =
-    Each (λ (narrow : ℕ). AtMostSixteenFlows (smallSetup narrow) (zeroDesk (smallSetup narrow)) (five ∷ six ∷ []) (packets (smallSetup narrow) (mixture narrow))) bothWidths
+    Each (λ (narrow : ℕ). AtMostSixteenFlows (smallSetup narrow) (zeroDesk (smallSetup narrow)) (five ∷ urgentFive ∷ six ∷ []) (packets (smallSetup narrow) (mixture narrow))) bothWidths
+
+-- two of these agree in all but their priority
+abbrev pub ordinaryStart : (narrow : ℕ) → List ℕ
+ordinaryStart narrow = packetAt (smallSetup narrow) five sound 0
+
+abbrev pub urgentStart : (narrow : ℕ) → List ℕ
+urgentStart narrow = packetAt (smallSetup narrow) urgentFive urgent 0
+
+pub record PrioritiesAt (narrow : ℕ) : Type 0 where
+  pub all-but : AllButPriority (ordinaryStart narrow) (urgentStart narrow)
+  pub ordinary-came : Among (ordinaryStart narrow) (packets (smallSetup narrow) (mixture narrow))
+  pub urgent-came : Among (urgentStart narrow) (packets (smallSetup narrow) (mixture narrow))
+
+abbrev pub PriorityNotEmpty : Type 0
+PriorityNotEmpty = Each PrioritiesAt bothWidths
 
 -- example 9: two PDUs of 40 bytes, the first without its end, the second without its start
 abbrev pub endLost : Sent
-endLost = record { pdu = pdu 7 firstPDU; lost = 1 ∷ []; priorities = [] }
+endLost = record { pdu = pdu 7 firstPDU; lost = 1 ∷ [] }
 
 abbrev pub startLost : Sent
-startLost = record { pdu = pdu 8 secondPDU; lost = 0 ∷ []; priorities = [] }
+startLost = record { pdu = pdu 8 secondPDU; lost = 0 ∷ [] }
 
 -- they are such a pair, and a joint
 pub record JointAt (narrow : ℕ) : Type 0 where

@@ -13,6 +13,6 @@ use Rattle.sending.specs.Sending.{Sent, headingFor}
 pub data Writes (setup : Setup) (flow : Flow) (s : Sent) : (k n : ℕ) → List (List ℕ) → Type 0 where
   written-all : {k : ℕ} → Writes setup flow s k zero []
   write : {k n : ℕ} {ps : List (List ℕ)} (out left : List ℕ) (size : ℕ)
-      → WritePromise out (headingFor setup flow s k) (setup .mtu) (s .pdu .bytes) k (Length size) left
+      → WritePromise out (headingFor setup flow s) (setup .mtu) (s .pdu .bytes) k (Length size) left
       → Writes setup flow s (suc k) n ps
       → Writes setup flow s k (suc n) (take size left ∷ ps)

@@ -21,13 +21,14 @@ fn data_from(flags: usize, ids: usize) -> usize
     ids::header(ids) + 4
 }
 
-// Who sent a packet, under which class of service.
+// Who sent a packet, at which priority, under which class of service.
 fn flow_at(packet: &[u8], ids: usize) -> Flow
     requires { ⌜ (1 ≤ ids) × (ids ≤ 2) × (header ids + 2 ≤ length (now packet)) ⌝ }
     ensures { λ r. ⌜ r ≡ flowOf ids (now (packet .entry)) ⌝ }
 {
     Flow {
         source: ids::id_at(packet, 1 + ids, ids),
+        priority: lists::wide(packet[0]) / 64,
         cos: lists::wide(packet[ids::header(ids)]),
     }
 }

@@ -23,8 +23,7 @@ use Rattle.reading.specs.Desk.{Desk}
 use Rattle.flows.specs.Deliveries.{read, after, view}
 use Rattle.flows.specs.ByFlow.{Tells, OwnFlow, NoFlow, ByFlow}
 use Rattle.flows.specs.Apart.{FlowAnswer, flowAnswer, heardOf, heardAlone, isOf, packetsOf, answersTo, alone, flowAmong, AmongFlows, FlowsApart, SamePacketsSameAnswers}
-use Rattle.contexts.proofs.Flows.{same-true}
-use Rattle.flows.proofs.Flows.{same-false, ne-same}
+use Rattle.wire.proofs.SameFlow.{same-true, same-false, ne-same}
 use Rattle.flows.proofs.Fine.{Fine, fresh-fine, fresh-view}
 use Rattle.flows.proofs.Machine.{by-flow}
 

@@ -16,8 +16,8 @@ use Rattle.contexts.specs.declared.StreamContext.{StreamContext}
 use Rattle.contexts.specs.State.{closedStream, isFreeStream, isOfFlow}
 use Rattle.lists.proofs.Tests.{both}
 use Rattle.flows.specs.ByFlow.{among}
-use Rattle.contexts.proofs.Flows.{same-true, of-flow}
-use Rattle.flows.proofs.Flows.{eq-same, pigeon-less}
+use Rattle.wire.proofs.SameFlow.{eq-same}
+use Rattle.flows.proofs.Flows.{pigeon-less}
 
 -- context i; a closed one past the last
 abbrev pub at : List StreamContext → ℕ → StreamContext

@@ -1,35 +1,15 @@
--- Flows that are the same, flows among others, and pigeonholes.
+-- Flows among others, and pigeonholes.
 use Prim.Native.Nat.{ℕ, zero, suc, _≤_, _<_}
 use native.Mathlib.Omega.{arith}
-use mathlib.Core.Path.{_≡_, refl, ap, ap₂, sym, _∙_}
+use mathlib.Core.Path.{_≡_, refl, ap, sym, _∙_}
 use mathlib.Core.Bool.{Bool, true, false, cond, _||_, false≢true}
 use mathlib.Core.List.{List, [], _∷_}
 use lib.ListN.{length}
-use lib.Dec.{eqb}
-use borrow.Author.Tests.{eqb-true, eq-eqb}
 use Rattle.wire.specs.declared.Flow.{Flow}
 use Rattle.wire.specs.Type9.{sameFlow}
-use Rattle.lists.proofs.Tests.{both}
 use Rattle.lists.specs.First.{any}
-use Rattle.contexts.proofs.Flows.{same-true}
+use Rattle.wire.proofs.SameFlow.{same-true}
 use Rattle.flows.specs.ByFlow.{among}
-
-pub same-refl : (a : Flow) → sameFlow a a ≡ true
-unfolding sameFlow
-same-refl a = rw (eq-eqb (a .source) (a .source) refl, eq-eqb (a .cos) (a .cos) refl)
-
-pub eq-same : (a b : Flow) → a ≡ b → sameFlow a b ≡ true
-eq-same a b e = ap (λ (x : Flow). sameFlow a x) (sym e) ∙ same-refl a
-
-pub same-false : (a b : Flow) → sameFlow a b ≡ false → a ≡ b → ⊥
-same-false a b e q = false≢true (sym e ∙ eq-same a b q)
-
-pub ne-same : (a b : Flow) → (a ≡ b → ⊥) → sameFlow a b ≡ false
-ne-same a b f = go (sameFlow a b) refl
-  where
-    go : (t : Bool) → sameFlow a b ≡ t → sameFlow a b ≡ false
-    go true e = absurd (f (same-true a b e))
-    go false e = e
 
 -- the flows without the first that is k
 remove : Flow → List Flow → List Flow

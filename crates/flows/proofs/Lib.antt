@@ -5,6 +5,7 @@ pub mod Seen
 pub mod OneStep
 pub mod Steps
 pub mod Quiet
+pub mod Steady
 pub mod Fine
 pub mod Machine
 pub mod Apart

@@ -13,11 +13,10 @@ use Rattle.wire.specs.declared.MessageSegment.{MessageSegment}
 use Rattle.wire.specs.Parsed.{Parsed}
 use Rattle.wire.specs.Parsed.{Refused, Stream, Message}
 use Rattle.sizes.specs.Sizes.{dataLength}
-use Rattle.wire.specs.Packet.{header}
 use Rattle.wire.specs.Parsed.{parsed}
 use Rattle.contexts.specs.declared.StreamContext.{StreamContext}
 use Rattle.wire.specs.declared.Setup.{Setup}
-use Rattle.contexts.specs.State.{State, idsIn}
+use Rattle.contexts.specs.State.{State}
 use Rattle.contexts.specs.Words.{stateOf, wordsOf}
 use Rattle.contexts.proofs.Words.{sixteen, eight, state-of}
 use Rattle.stream_rooms.specs.Placing as streamRoom
@@ -28,41 +27,30 @@ use Rattle.messages.specs.Joining as messageStep
 use Rattle.reading.specs.Desk.{Desk, stateOn}
 use Rattle.reading.specs.Table.{lent}
 use Rattle.reading.specs.Read.{Settled, ofStream, ofMessage}
-use Rattle.reading.specs.Good.{StillGood}
-use Rattle.reading.proofs.Rows.{byParsed, by-packet}
-use Rattle.reading.proofs.Packets.{stream-parsed, message-parsed, message-small}
-use Rattle.reading.proofs.Kept.{stays-good}
-use Rattle.reading.proofs.Laws.{sizes-right}
+use Rattle.reading.proofs.Rows.{byParsed}
+use Rattle.reading.proofs.Packets.{stream-parsed}
 use Rattle.flows.specs.OneFlow.{PDU, flowStep}
 use Rattle.flows.specs.Deliveries.{read, deliveredBy, viewOf, view}
 use Rattle.flows.specs.ByFlow.{among, Tells, OwnFlow, NoFlow, ByFlow}
-use Rattle.flows.proofs.Flows.{same-false}
+use Rattle.wire.proofs.SameFlow.{same-false}
 use Rattle.flows.proofs.Contexts.{Once, Inside}
 use Rattle.flows.proofs.Seen.{seen}
 use Rattle.flows.proofs.Steps.{Sim, sim-stepped}
-use Rattle.flows.proofs.Quiet.{Quiet, quiet-stepped}
-use Rattle.flows.proofs.Fine.{Fine, view-is, view-of, rooms-on, reply-on, sound-on, still-fine}
+use Rattle.flows.proofs.Quiet.{Quiet}
+use Rattle.flows.proofs.Steady.{rooms-on, read-is, still-steady, quiet-read}
+use Rattle.flows.proofs.Fine.{Fine, view-is, view-of, sound-on}
 
 -- the data of a type 9 packet, all there
-data-length : (p : List ℕ) (g : Segment) → g .from + g .raw ≡ length p → length (streamRoom.dataOf p g) ≡ dataLength g
+pub data-length : (p : List ℕ) (g : Segment) → g .from + g .raw ≡ length p → length (streamRoom.dataOf p g) ≡ dataLength g
 data-length p g e = simp (length-take, length-drop) (omega (arith, data-le g))
 
 module _ (setup : Setup) (flows : List Flow) (b : Desk) (p : List ℕ) (f : Fine setup flows b) (bytes : AreBytes p) where
   abbrev s : State
   s = stateOn b
 
-  -- the state's own setup is the one given
-  same-parsed : parsed (s .setup) p ≡ parsed setup p
-  same-parsed = ap (λ (t : Setup). parsed t p) (f .same-setup)
-
   -- reading goes by what the packet is
-  read-is : (x : Parsed) → parsed setup p ≡ x → read b p ≡ byParsed (lent b p) x
-  read-is x e =
-      by-packet (lent b p) (f .whole) (f .good) (sizes-right b (rooms-on f) (f .lends .boxes) (reply-on f))
-      ∙ ap (byParsed (lent b p)) (same-parsed ∙ e)
-
-  still-good : StillGood s (read b p .desk .words)
-  still-good = stays-good (lent b p) (f .whole) (f .good) (bytes (header (idsIn s)))
+  read-as : (x : Parsed) → parsed setup p ≡ x → read b p ≡ byParsed (lent b p) x
+  read-as = read-is (f .steady) p
 
   -- ---- a type 9 packet
   module _ (few : length flows ≤ 16) (g : Segment) (e : parsed setup p ≡ Stream g) (member : among (g .flow) flows ≡ true) where
@@ -70,12 +58,12 @@ module _ (setup : Setup) (flows : List Flow) (b : Desk) (p : List ℕ) (f : Fine
     j = streamStep.stepped s (b .streamMemory) p g
 
     leaves : read b p ≡ ofStream (lent b p) j
-    leaves = read-is (Stream g) e
+    leaves = read-as (Stream g) e
 
     sim : Sim flows s (b .streamMemory) g j (flowStep (s .setup) (view b (g .flow)) g (streamRoom.dataOf p g))
     sim =
         subst (λ (v : Option PDU). Sim flows s (b .streamMemory) g j (flowStep (s .setup) v g (streamRoom.dataOf p g))) (sym (view-is b (g .flow)))
-        (sim-stepped flows s (b .streamMemory) p g (sound-on f) member (data-length p g (stream-parsed p setup g e .1)) few (f .good))
+        (sim-stepped flows s (b .streamMemory) p g (sound-on f) member (data-length p g (stream-parsed p setup g e .1)) few (f .steady .good))
 
     back : stateOf (wordsOf (j .state)) ≡ j .state
     back = state-of (j .state) (sim .leaves .sound .size) (ap length (sim .same-messages) ∙ eight (b .words))
@@ -89,8 +77,11 @@ module _ (setup : Setup) (flows : List Flow) (b : Desk) (p : List ℕ) (f : Fine
     left-fine : Fine setup flows (ofStream (lent b p) j .desk)
     left-fine =
         let contexts : (P : List StreamContext → Type 0) → P (j .state .streams) → P (stateOf (wordsOf (j .state)) .streams) = λ P h. subst (λ (t : State). P (t .streams)) (sym back) h in
-        still-fine f (ofStream (lent b p) j) (subst (λ (y : Settled). StillGood s (y .desk .words)) leaves still-good)
-        (sim .leaves .sound .rooms ∙ sym (rooms-on f)) refl refl (contexts Once (sim .leaves .sound .once)) (contexts (Inside flows) (sim .leaves .sound .inside))
+        record {
+          steady = still-steady (f .steady) p bytes (ofStream (lent b p) j) leaves (sim .leaves .sound .rooms ∙ sym (rooms-on (f .steady))) refl refl;
+          once = contexts Once (sim .leaves .sound .once);
+          inside = contexts (Inside flows) (sim .leaves .sound .inside);
+        }
 
     -- by the state's own MTU and R
     own-flow : OwnFlow (Fine setup flows) (s .setup) b p g
@@ -105,7 +96,7 @@ module _ (setup : Setup) (flows : List Flow) (b : Desk) (p : List ℕ) (f : Fine
     }
 
     by-stream : OwnFlow (Fine setup flows) setup b p g
-    by-stream = subst (λ (t : Setup). OwnFlow (Fine setup flows) t b p g) (f .same-setup) own-flow
+    by-stream = subst (λ (t : Setup). OwnFlow (Fine setup flows) t b p g) (f .steady .same-setup) own-flow
 
   -- ---- a type 11 packet
   module _ (m : MessageSegment) (e : parsed setup p ≡ Message m) where
@@ -113,12 +104,10 @@ module _ (setup : Setup) (flows : List Flow) (b : Desk) (p : List ℕ) (f : Fine
     k = messageStep.messageStepped s (b .messageMemory) (b .response) p m
 
     message-leaves : read b p ≡ ofMessage (lent b p) k
-    message-leaves = read-is (Message m) e
+    message-leaves = read-as (Message m) e
 
     quiet : Quiet s (b .messageMemory) (b .response) k
-    quiet =
-        let small = message-small (idsIn s) p m (message-parsed p (s .setup) m (same-parsed ∙ e)) (bytes (header (idsIn s))) (bytes (header (idsIn s) + 1)) in
-        quiet-stepped s (b .messageMemory) (b .response) p m (f .lends .boxes) (reply-on f) (small .0) (small .2)
+    quiet = quiet-read (f .steady) p bytes m e
 
     message-back : stateOf (wordsOf (k .state)) ≡ k .state
     message-back = state-of (k .state) (ap length (quiet .same-streams) ∙ sixteen (b .words)) (quiet .messages ∙ eight (b .words))
@@ -134,8 +123,11 @@ module _ (setup : Setup) (flows : List Flow) (b : Desk) (p : List ℕ) (f : Fine
     message-fine : Fine setup flows (ofMessage (lent b p) k .desk)
     message-fine =
         let same : stateOf (wordsOf (k .state)) .streams ≡ s .streams = ap (λ (t : State). t .streams) message-back ∙ quiet .same-streams in
-        still-fine f (ofMessage (lent b p) k) (subst (λ (y : Settled). StillGood s (y .desk .words)) message-leaves still-good)
-        refl (quiet .boxes) (quiet .reply) (subst Once (sym same) (f .once)) (subst (Inside flows) (sym same) (f .inside))
+        record {
+          steady = still-steady (f .steady) p bytes (ofMessage (lent b p) k) message-leaves refl (quiet .boxes) (quiet .reply);
+          once = subst Once (sym same) (f .once);
+          inside = subst (Inside flows) (sym same) (f .inside);
+        }
 
     by-message : NoFlow (Fine setup flows) setup b p
     by-message = record {
@@ -147,7 +139,7 @@ module _ (setup : Setup) (flows : List Flow) (b : Desk) (p : List ℕ) (f : Fine
   -- ---- a packet that rows 1 to 5 refuse
   by-refused : (number : ℕ) → parsed setup p ≡ Refused number → NoFlow (Fine setup flows) setup b p
   by-refused number e =
-      let same : read b p ≡ byParsed (lent b p) (Refused number) = read-is (Refused number) e in
+      let same : read b p ≡ byParsed (lent b p) (Refused number) = read-as (Refused number) e in
       record {
         ok = subst (λ (y : Settled). Fine setup flows (y .desk)) (sym same) f;
         views = λ x. ap (λ (y : Settled). view (y .desk) x) same;

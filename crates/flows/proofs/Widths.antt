@@ -20,7 +20,8 @@ use Rattle.wire.specs.Packet.{header, priority, tt as tt·of, packetType, ttOf,
 use Rattle.wire.specs.declared.Setup.{Setup}
 use Rattle.wire.specs.Segment.{Segment}
 use Rattle.wire.specs.declared.MessageSegment.{MessageSegment}
-use Rattle.wire.specs.Type9.{flags, isS, isE, segmentAt, segmentOf}
+use Rattle.wire.specs.declared.Flow.{Flow}
+use Rattle.wire.specs.Type9.{flags, isS, isE, flowOf, segmentAt, segmentOf}
 use Rattle.wire.specs.Type11.{messageOf, isSingle}
 use Rattle.wire.specs.Head.{under, is9, headRows}
 use Rattle.wire.specs.Parsed.{Parsed, Refused, Stream, Message, parsedBy, parsed}
@@ -83,11 +84,11 @@ same-seven : (a a′ b b′ c c′ d d′ e e′ f f′ g g′ : Bool) → a ≡
 same-seven a a′ b b′ c c′ d d′ e e′ f f′ g g′ h₁ h₂ h₃ h₄ h₅ h₆ h₇ = rw (h₁, h₂, h₃, h₄, h₅, h₆, h₇)
 
 -- a segment by its numbers
-abbrev made : (flags source cos field from raw : ℕ) → Segment
-made x source cos field from raw = record {
+abbrev made : (flags : ℕ) → Flow → (field from raw : ℕ) → Segment
+made x flow field from raw = record {
   begins = bit x 128;
   ends = bit x 64;
-  flow = record { source = source; cos = cos };
+  flow = flow;
   field = field;
   from = from;
   raw = raw;
@@ -95,8 +96,8 @@ made x source cos field from raw = record {
   pad = bit x 1;
 }
 
-same-made : (x x′ s s′ c c′ f f′ from r r′ : ℕ) → x ≡ x′ → s ≡ s′ → c ≡ c′ → f ≡ f′ → r ≡ r′ → made x s c f from r ≡ made x′ s′ c′ f′ from r′
-same-made x x′ s s′ c c′ f f′ from r r′ h₁ h₂ h₃ h₄ h₅ = rw (h₁, h₂, h₃, h₄, h₅)
+same-made : (x x′ : ℕ) (k k′ : Flow) (f f′ from r r′ : ℕ) → x ≡ x′ → k ≡ k′ → f ≡ f′ → r ≡ r′ → made x k f from r ≡ made x′ k′ f′ from r′
+same-made x x′ k k′ f f′ from r r′ h₁ h₂ h₃ h₄ = rw (h₁, h₂, h₃, h₄)
 
 -- the same segment with its data elsewhere
 abbrev moved : ℕ → Segment → Segment
@@ -172,6 +173,11 @@ module _ (p : List ℕ) (long : header 2 ≤ length p) (two : tt·of p ≡ ttOf 
   unfolding narrowed
   priority-same = let e : (byte p 0 - 16) / 64 ≡ byte p 0 / 64 = omega arith in e
 
+  flow-same : flowOf 1 q ≡ flowOf 2 p
+  flow-same =
+      ap₂ (λ (s c : ℕ). record { source = s; priority = priority q; cos = c }) by-same first-same
+      ∙ ap (λ (n : ℕ). record { source = source 2 p; priority = n; cos = byte p (header 2) }) priority-same
+
   rows-same : (device : ℕ) → headRows device 1 q ≡ headRows device 2 p
   unfolding headRows
   rows-same device =
@@ -187,7 +193,7 @@ module _ (p : List ℕ) (long : header 2 ≤ length p) (two : tt·of p ≡ ttOf 
 
   fields-same : (a b f f′ : ℕ) → a + 2 ≡ b → f ≡ f′ → segmentAt 1 q a f ≡ moved a (segmentAt 2 p b f′)
   unfolding segmentAt
-  fields-same a b f f′ e h = same-made _ _ _ _ _ _ _ _ _ _ _ flags-same by-same first-same h (omega (arith, lengths))
+  fields-same a b f f′ e h = same-made _ _ _ _ _ _ _ _ _ flags-same flow-same h (omega (arith, lengths))
 
   from-of : (from field : ℕ) → segmentAt 2 p from field .from ≡ from
   unfolding segmentAt

@@ -25,6 +25,11 @@ read d packet = reading (lent d packet)
 abbrev pub after : Desk → List ℕ → Desk
 after d packet = read d packet .desk
 
+-- the desk after packets
+abbrev pub deskAfter : Desk → List (List ℕ) → Desk
+deskAfter d [] = d
+deskAfter d (p ∷ ps) = deskAfter (after d p) ps
+
 -- the first n bytes of room i, where a room has so many bytes
 abbrev pub inRoom : ℕ → List ℕ → ℕ → ℕ → List ℕ
 inRoom room memory i n = take n (drop (i * room) memory)

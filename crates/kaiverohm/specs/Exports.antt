@@ -23,7 +23,7 @@ use Rattle.log_writer.specs.Writing.{recording}
 
 -- the interface: it rises whenever a function, a struct or a constant of include/kaiverohm.h changes, and additions leave it
 abbrev pub interface : ℕ
-interface = 2
+interface = 3
 
 -- the promise of `kaiverohm_interface`
 abbrev pub InterfacePromise : ℕ → Type 0

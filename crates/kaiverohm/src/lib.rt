@@ -24,7 +24,7 @@ ghost use Rattle.kaiverohm.specs.Exports.{StreamContextFromCPromise, Mes
 pub extern "C" fn kaiverohm_interface() -> usize
     ensures { λ r. ⌜ InterfacePromise r ⌝ }
 {
-    2
+    3
 }
 
 // The words of a state.

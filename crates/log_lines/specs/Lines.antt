@@ -10,7 +10,7 @@ use Rattle.log_lines.specs.Decimal.{decimal}
 unfoldable pub spaced : ℕ → List ℕ
 spaced n = text " " ++ decimal n
 
--- held, pdu SOURCE COS STREAM LENGTH, msg SOURCE LETTER MAILBOX LENGTH, refused N
+-- held, pdu SOURCE COS STREAM LENGTH (the priority is passed by), msg SOURCE LETTER MAILBOX LENGTH, refused N
 abbrev pub answerText : Said → List ℕ
 answerText held = text "held"
 answerText (delivered context flow stream size) = text "pdu" ++ spaced (flow .source) ++ spaced (flow .cos) ++ spaced stream ++ spaced size

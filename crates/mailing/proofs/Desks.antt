@@ -14,7 +14,7 @@ use Rattle.wire.specs.Parsed.{parsed}
 use Rattle.lists.specs.First.{firstOf}
 use Rattle.lists.proofs.First.{first-passes}
 use Rattle.wire.specs.declared.Setup.{Setup}
-use Rattle.wire.specs.Packet.{header, idsOf}
+use Rattle.wire.specs.Packet.{header}
 use Rattle.wire.specs.Type11.{messageDataFrom}
 use Rattle.responses.specs.Type13.{responseSize}
 use Rattle.contexts.specs.State.{State, idsIn, messageIn, closedMessage, messageContext}
@@ -27,14 +27,12 @@ use Rattle.messages.specs.Joining.{messageStepped}
 use Rattle.reading.specs.Desk.{Desk, stateOn, withResponse}
 use Rattle.reading.specs.Table.{lent}
 use Rattle.reading.specs.Read.{Settled, ofStream, ofMessage}
-use Rattle.reading.specs.Good.{GoodWords, StillGood}
-use Rattle.reading.proofs.Rows.{byParsed, by-packet}
+use Rattle.reading.proofs.Rows.{byParsed}
 use Rattle.reading.proofs.Packets.{stream-parsed, message-parsed, message-small}
-use Rattle.reading.proofs.Kept.{stays-good}
-use Rattle.reading.proofs.Laws.{sizes-right}
 use Rattle.flows.specs.Deliveries.{read, after}
 use Rattle.flows.specs.Fresh.{Lends}
-use Rattle.flows.proofs.Quiet.{Quiet, quiet-stepped}
+use Rattle.flows.proofs.Quiet.{Quiet}
+use Rattle.flows.proofs.Steady.{Steady, read-is, still-steady, quiet-read}
 use Rattle.mailing.specs.Mail.{Posted}
 use Rattle.mailing.specs.Run.{isOfMail}
 use Rattle.mailing.specs.ReadBack.{GoodDesk, setupOf, OthersLeaveMail}
@@ -46,6 +44,21 @@ use Rattle.mailing.proofs.Streams.{Beside, beside-stepped}
 pub record Ready (setup : Setup) (d : Desk) : Type 0 where
   pub desk : GoodDesk d
   pub own-setup : setupOf d ≡ setup
+
+-- which is a steady one
+steady : {setup : Setup} {d : Desk} → Ready setup d → Steady setup d
+steady {d = d} r = record {
+  whole = r .desk .good .whole;
+  good = r .desk .good .good;
+  same-setup = r .own-setup;
+  lends = subst (λ (t : Setup). Lends t d) (r .own-setup) (r .desk .lends);
+}
+
+ready : {setup : Setup} {d : Desk} → Steady setup d → Ready setup d
+ready {d = d} f = record {
+  desk = record { good = record { whole = f .whole; good = f .good }; lends = subst (λ (t : Setup). Lends t d) (sym (f .same-setup)) (f .lends) };
+  own-setup = f .same-setup;
+}
 
 -- it stays so with any response buffer that 12 allows
 pub with-buffer : {setup : Setup} {d : Desk} → Ready setup d → (given : List ℕ) → responseSize (idsIn (stateOn d)) ≤ length given → Ready setup (withResponse d given)
@@ -72,38 +85,17 @@ module _ (setup : Setup) (d : Desk) (p : List ℕ) (r : Ready setup d) (bytes : 
   abbrev s : State
   s = stateOn d
 
-  abbrev state : GoodWords (d .words)
-  state = r .desk .good
-
   abbrev lends : Lends (s .setup) d
   lends = r .desk .lends
 
-  -- the state's own setup is the one given
-  same-parsed : parsed (s .setup) p ≡ parsed setup p
-  same-parsed = ap (λ (t : Setup). parsed t p) (r .own-setup)
-
   -- reading goes by what the packet is
-  read-is : (y : Parsed) → parsed setup p ≡ y → read d p ≡ byParsed (lent d p) y
-  read-is y e =
-      by-packet (lent d p) (state .whole) (state .good) (sizes-right d (lends .rooms) (lends .boxes) (lends .reply))
-      ∙ ap (byParsed (lent d p)) (same-parsed ∙ e)
+  read-as : (y : Parsed) → parsed setup p ≡ y → read d p ≡ byParsed (lent d p) y
+  read-as = read-is (steady r) p
 
-  -- it leaves a good state, and so a desk that is ready where the memories keep their lengths
+  -- a desk that is ready, where the memories keep their lengths
   still-ready : (y : Settled) → read d p ≡ y → length (y .desk .streamMemory) ≡ length (d .streamMemory) → length (y .desk .messageMemory) ≡ length (d .messageMemory)
       → length (y .desk .response) ≡ length (d .response) → Ready setup (y .desk)
-  still-ready y e streams messages response =
-      let g : StillGood s (y .desk .words) = subst (λ (l : Settled). StillGood s (l .desk .words)) e (stays-good (lent d p) (state .whole) (state .good) (bytes (header (idsIn s)))) in
-      record {
-        desk = record {
-          good = record { whole = g .whole; good = g .good };
-          lends = record {
-            rooms = streams ∙ (lends .rooms ∙ ap (λ (t : Setup). 16 * t .room) (sym (g .setup)));
-            boxes = messages ∙ lends .boxes;
-            reply = subst (λ (t : Setup). responseSize (idsOf t) ≤ length (y .desk .response)) (sym (g .setup)) (omega (arith, response, lends .reply));
-          };
-        };
-        own-setup = g .setup ∙ r .own-setup;
-      }
+  still-ready y e streams messages response = ready (still-steady (steady r) p bytes y e streams messages response)
 
   -- ---- a type 11 packet
   module _ (m : MessageSegment) (e : parsed setup p ≡ Message m) where
@@ -111,13 +103,13 @@ module _ (setup : Setup) (d : Desk) (p : List ℕ) (r : Ready setup d) (bytes : 
     j = messageStepped s (d .messageMemory) (d .response) p m
 
     leaves : read d p ≡ ofMessage (lent d p) j
-    leaves = read-is (Message m) e
+    leaves = read-as (Message m) e
 
     small : (messageDataFrom (idsIn s) + m .raw ≡ length p) × (m .msglen < 16) × (m .msgseg < 16) × (m .mbox < 4)
-    small = message-small (idsIn s) p m (message-parsed p (s .setup) m (same-parsed ∙ e)) (bytes (header (idsIn s))) (bytes (header (idsIn s) + 1))
+    small = message-small (idsIn s) p m (message-parsed p (s .setup) m (ap (λ (t : Setup). parsed t p) (r .own-setup) ∙ e)) (bytes (header (idsIn s))) (bytes (header (idsIn s) + 1))
 
     quiet : Quiet s (d .messageMemory) (d .response) j
-    quiet = quiet-stepped s (d .messageMemory) (d .response) p m (lends .boxes) (lends .reply) (small .0) (small .2)
+    quiet = quiet-read (steady r) p bytes m e
 
     back : stateOf (wordsOf (j .state)) ≡ j .state
     back = state-of (j .state) (ap length (quiet .same-streams) ∙ sixteen (d .words)) (quiet .messages ∙ eight (d .words))
@@ -146,7 +138,7 @@ module _ (setup : Setup) (d : Desk) (p : List ℕ) (r : Ready setup d) (bytes : 
 
     by-refused : (number : ℕ) → parsed setup p ≡ Refused number → ReadOther setup x d p
     by-refused number e =
-        let same : read d p ≡ byParsed (lent d p) (Refused number) = read-is (Refused number) e in
+        let same : read d p ≡ byParsed (lent d p) (Refused number) = read-as (Refused number) e in
         record {
           ready = subst (λ (y : Settled). Ready setup (y .desk)) (sym same) r;
           stays = subst (λ (y : Settled). Stays x s (d .messageMemory) (stateOf (y .desk .words)) (y .desk .messageMemory)) (sym same) (all-stays x s s (d .messageMemory) refl);
@@ -156,7 +148,7 @@ module _ (setup : Setup) (d : Desk) (p : List ℕ) (r : Ready setup d) (bytes : 
     by-stream : (g : Segment) → parsed setup p ≡ Stream g → ReadOther setup x d p
     by-stream g e =
         let j : streamRoom.Joined = streamStep.stepped s (d .streamMemory) p g in
-        let same : read d p ≡ ofStream (lent d p) j = read-is (Stream g) e in
+        let same : read d p ≡ ofStream (lent d p) j = read-as (Stream g) e in
         let beside : Beside s (d .streamMemory) j = beside-stepped s (d .streamMemory) p g (lends .rooms) (stream-parsed p setup g e .1) in
         let back : stateOf (wordsOf (j .state)) ≡ j .state = state-of (j .state) (beside .streams ∙ sixteen (d .words)) (ap length (beside .messages) ∙ eight (d .words)) in
         record {

@@ -10,4 +10,3 @@ pub mod Desks
 pub mod Fetched
 pub mod Calls
 pub mod Runs
-pub mod Eleven

@@ -2,4 +2,3 @@ pub mod Mail
 pub mod Run
 pub mod ReadBack
 pub mod OfCalls
-pub mod Eleven

@@ -68,6 +68,7 @@ fn keep(
             cos_or_letter: m.letter,
             stream_or_mailbox: message_rules::mailbox_of(m),
             length: m.msglen * sizes::bytes_of(m.ssize) + last,
+            priority: 0,
         };
     }
     message_contexts::keep_message(

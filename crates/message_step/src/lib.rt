@@ -47,6 +47,7 @@ fn take_alone(
         cos_or_letter: m.letter,
         stream_or_mailbox: message_rules::mailbox_of(m),
         length: m.raw,
+        priority: 0,
     }
 }
 

@@ -8,7 +8,8 @@ use lib.Dec.{eqb}
 use Rattle.lists.specs.Bytes.{byte, word}
 use Rattle.answers.specs.Answers.{Said, held, delivered, message, refused}
 use Rattle.wire.specs.Packet.{header}
-use Rattle.contexts.specs.State.{idsIn}
+use Rattle.contexts.specs.declared.StreamContext.{StreamContext}
+use Rattle.contexts.specs.State.{idsIn, streamIn}
 use Rattle.message_rooms.specs.Placing.{messageRoomBytes}
 use Rattle.cutting.specs.declared.Heading.{Heading}
 use Rattle.cutting.specs.Cutting.{segmentCount, packetOf}
@@ -47,6 +48,8 @@ pub data Fact : Type 0 where
   deliversNot : List ℕ → Fact
   -- what the response buffer then holds
   response : List ℕ → Fact
+  -- what a stream context then holds
+  contextHolds : (context : ℕ) → StreamContext → Fact
 
 pub data Line : Type 0 where
   -- the packet is lost
@@ -98,6 +101,7 @@ found d p (lengthField n) = lengthField (word p (header (idsIn (stateOn d)) + 2)
 found d p (delivers bytes) = delivers (deliveredBytes (after d p) (read d p .says))
 found d p (deliversNot bytes) = cond (sameBytes (deliveredBytes (after d p) (read d p .says)) bytes) (delivers bytes) (deliversNot bytes)
 found d p (response bytes) = response (after d p .response)
+found d p (contextHolds context c) = contextHolds context (streamIn (stateOn (after d p)) context)
 
 -- the lines as they are for these packets, each read with what the one before left. Where there are more packets than lines, a line too many
 abbrev pub computed : Desk → List (List ℕ) → List Line → List Line

@@ -1,5 +1,5 @@
 -- The starred examples of document 01, in its order and with its numbers ('Examples to hold it to'). MTU 32. Behind them a few of the same with IDs of
--- 8 bits (document 02, M-112).
+-- 8 bits (document 02, M-112). Then a table for document 02, M-103: its example, and some more.
 use Prim.Native.Nat.{ℕ, zero, suc}
 use mathlib.Core.List.{List, [], _∷_, _++_}
 use lib.ListN.{take, drop, replicate}
@@ -8,16 +8,25 @@ use Rattle.wire.specs.declared.Flow.{Flow}
 use Rattle.cutting.specs.declared.Heading.{Heading}
 use Rattle.cutting.specs.Cutting.{packetOf}
 use Rattle.lists.specs.Each.{Each}
-use Rattle.flows.specs.Widths.{narrowed}
-use Rattle.paper_examples.specs.Example.{counting, cut, Fact, hasBytes, hasByte, lengthField, delivers, deliversNot, response, lost, gets, getsDropped, Example, example, narrowExample, Holds}
+use Rattle.contexts.specs.State.{closedStream, openStream}
+use Rattle.flows.specs.Widths.{bothWidths, narrowed}
+use Rattle.paper_examples.specs.Example.{counting, cut, Fact, hasBytes, hasByte, lengthField, delivers, deliversNot, response, contextHolds, lost, gets, getsDropped, Example, example, narrowExample, Holds}
 
--- the flow of a source: cos 5
+-- the flow of a source: priority 0, cos 5
 abbrev pub sourceOf : ℕ → Flow
-sourceOf source = record { source = source; cos = 5 }
+sourceOf source = record { source = source; priority = 0; cos = 5 }
 
--- to device 1, cos 5, priority 0, with IDs of that width
+-- the same at priority 1
+abbrev pub urgentOf : ℕ → Flow
+urgentOf source = record { source = source; priority = 1; cos = 5 }
+
+-- to device 1 on a flow, with IDs of that width
+abbrev pub headingOn : (narrow : ℕ) → Flow → (stream : ℕ) → Heading
+headingOn narrow flow stream = record { destination = 1; source = flow .source; cos = flow .cos; stream = stream; priority = flow .priority; narrow = narrow }
+
+-- on the flow of a source
 abbrev pub headingAt : (narrow source stream : ℕ) → Heading
-headingAt narrow source stream = record { destination = 1; source = source; cos = 5; stream = stream; priority = 0; narrow = narrow }
+headingAt narrow source stream = headingOn narrow (sourceOf source) stream
 
 -- of 16 bits
 abbrev pub heading : (source stream : ℕ) → Heading
@@ -114,3 +123,86 @@ examples =
 -- every example comes out as it says
 abbrev pub ExamplesHold : Type 0
 ExamplesHold = Each Holds examples
+
+-- ---- Document 02
+
+-- M-103: the first PDU at priority 0, the second at 1, else as in examples 8 and 9
+abbrev pub atTwoPriorities : (narrow : ℕ) → List (List ℕ)
+atTwoPriorities narrow = cut (headingOn narrow (sourceOf 2) 7) 32 firstPDU ++ cut (headingOn narrow (urgentOf 2) 8) 32 secondPDU
+
+-- the first's start and end with the second's between, which has overtaken
+abbrev pub overtaking : (narrow : ℕ) → List (List ℕ)
+overtaking narrow =
+    packetOf (headingOn narrow (sourceOf 2) 7) 32 firstPDU 0
+    ∷ (cut (headingOn narrow (urgentOf 2) 8) 32 secondPDU
+    ++ (packetOf (headingOn narrow (sourceOf 2) 7) 32 firstPDU 1 ∷ []))
+
+-- a start at priority 0, an end of the same PDU at priority 1, and one at priority 0
+abbrev pub otherEnd : (narrow : ℕ) → List (List ℕ)
+otherEnd narrow =
+    packetOf (headingOn narrow (sourceOf 2) 7) 32 firstPDU 0
+    ∷ packetOf (headingOn narrow (urgentOf 2) 7) 32 firstPDU 1
+    ∷ packetOf (headingOn narrow (sourceOf 2) 7) 32 firstPDU 1
+    ∷ []
+
+-- the first's start at priority 0 and its end at 1, then the second's start at 1 and its end at 0
+abbrev pub crossed : (narrow : ℕ) → List (List ℕ)
+crossed narrow =
+    packetOf (headingOn narrow (sourceOf 2) 7) 32 firstPDU 0
+    ∷ packetOf (headingOn narrow (urgentOf 2) 7) 32 firstPDU 1
+    ∷ packetOf (headingOn narrow (urgentOf 2) 8) 32 secondPDU 0
+    ∷ packetOf (headingOn narrow (sourceOf 2) 8) 32 secondPDU 1
+    ∷ []
+
+-- what the first PDU's context holds after its start
+abbrev pub firstStarted : Fact
+firstStarted = contextHolds 0 (openStream (sourceOf 2) 7 32)
+
+-- at a width. The number is that of the example of document 01 that it is made from
+abbrev pub examplesOf02At : (narrow : ℕ) → List Example
+examplesOf02At narrow =
+    -- Example 8 with the second PDU at another priority opens a second context and drops nothing. Context 0 still holds the first.
+    record {
+      number = 8;
+      narrow = narrow;
+      sent = atTwoPriorities narrow;
+      lines =
+          gets held (firstStarted ∷ [])
+          ∷ lost
+          ∷ gets held (firstStarted ∷ contextHolds 1 (openStream (urgentOf 2) 8 32) ∷ [])
+          ∷ gets (delivered 1 (urgentOf 2) 8 40) (delivers secondPDU ∷ firstStarted ∷ contextHolds 1 closedStream ∷ [])
+          ∷ [];
+    }
+    -- Nothing is lost, and the second overtakes: both are delivered.
+    ∷ record {
+      number = 8;
+      narrow = narrow;
+      sent = overtaking narrow;
+      lines =
+          gets held []
+          ∷ gets held []
+          ∷ gets (delivered 1 (urgentOf 2) 8 40) (delivers secondPDU ∷ [])
+          ∷ gets (delivered 0 (sourceOf 2) 7 40) (delivers firstPDU ∷ [])
+          ∷ [];
+    }
+    -- Example 9 with the second PDU at another priority is no joint: its end finds nothing open.
+    ∷ record { number = 9; narrow = narrow; sent = atTwoPriorities narrow; lines = gets held [] ∷ lost ∷ lost ∷ gets (refused 8) (firstStarted ∷ []) ∷ [] }
+    -- A start and an end at different priorities: held, then 8, and the PDU is left open until its own end comes.
+    ∷ record {
+      number = 8;
+      narrow = narrow;
+      sent = otherEnd narrow;
+      lines = gets held [] ∷ gets (refused 8) (firstStarted ∷ []) ∷ gets (delivered 0 (sourceOf 2) 7 40) (delivers firstPDU ∷ []) ∷ [];
+    }
+    -- Two PDUs, each at two priorities, on which the promises say nothing: no packet is lost, and a PDU that nobody sent is delivered.
+    ∷ record {
+      number = 9;
+      narrow = narrow;
+      sent = crossed narrow;
+      lines = gets held [] ∷ gets (refused 8) [] ∷ gets held [] ∷ gets (delivered 0 (sourceOf 2) 7 40) (delivers joint ∷ deliversNot firstPDU ∷ deliversNot secondPDU ∷ []) ∷ [];
+    }
+    ∷ []
+
+-- every one comes out as it says, at both widths
+abbrev pub ExamplesOf02 : Type 0
+ExamplesOf02 = Each (λ (narrow : ℕ). Each Holds (examplesOf02At narrow)) bothWidths

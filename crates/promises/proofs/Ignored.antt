@@ -110,7 +110,7 @@ module _ (setup : Setup) (p q : List ℕ) (d : DifferInIgnored (idsOf setup) p q
   -- the fields are read alike
   same-at : (from field field′ : ℕ) → field ≡ field′ → segmentAt ids p from field ≡ segmentAt ids q from field′
   unfolding segmentAt
-  same-at from field field′ e = cc (first-two .0, first-two .1, last-three .1, last-three .2, d .size, same-number ids (1 + ids) (omega arith), head (header ids) (omega arith))
+  same-at from field field′ e = cc (first-two .0, first-two .1, last-three .1, last-three .2, d .size, same-number ids (1 + ids) (omega arith), head 0 (omega arith), head (header ids) (omega arith))
 
   fielded : (isS ids p || isE ids p) ≡ (isS ids q || isE ids q)
   fielded = cc (first-two .0, first-two .1)

@@ -8,16 +8,18 @@ use Rattle.sending.proofs.MixtureRun.{mixture-delivered}
 use Rattle.sending.proofs.Widths.{segment-of-other-width-refused, segments-same-but-for-ids}
 use Rattle.flows.proofs.Apart.{flows-apart, same-packets-same-answers}
 use Rattle.flows.proofs.Widths.{other-width-refused, same-but-for-ids}
+use Rattle.priorities.proofs.Joined.{delivered-flow}
+use Rattle.priorities.proofs.Apart.{priority-apart}
 use Rattle.mailing.proofs.Packets.{mail-read}
 use Rattle.mailing.proofs.Desks.{others-leave-mail}
 use Rattle.mailing.proofs.Runs.{message-read-back-of-calls}
-use Rattle.mailing.proofs.Eleven.{mail-runs-not-empty}
-use Rattle.paper_examples.proofs.Table.{examples-hold}
+use Rattle.eleven.proofs.Eleven.{mail-runs-not-empty}
+use Rattle.paper_examples.proofs.Table.{examples-hold, examples-of-02}
 use Rattle.calls.proofs.Rooms.{room-of-delivered}
 use Rattle.demands.proofs.Demands.{ours-meets, our-writer-meets, corollary3}
 use Rattle.demands.proofs.OfCalls.{demand2-of-calls, demand3-of-calls, demand3-any-loss}
 use Rattle.demands.proofs.Impostors.{impostors-break}
-use Rattle.demands.proofs.Witnesses.{calls-not-empty, allowed-not-empty, flows-not-empty, joint-not-empty, widths-not-empty}
+use Rattle.demands.proofs.Witnesses.{calls-not-empty, allowed-not-empty, flows-not-empty, priority-not-empty, joint-not-empty, widths-not-empty}
 use Rattle.sixteen.proofs.Sixteen.{sixteen-at-once, sixteen-delivered}
 use Rattle.promises.specs.Statements.{Promises}
 use Rattle.promises.specs.Witnesses.{PremisesCanBeMet}
@@ -39,6 +41,7 @@ premises-can-be-met = record {
   sixteen = sixteen-at-once;
   sixteen-delivered = sixteen-delivered;
   flows = flows-not-empty;
+  priority = priority-not-empty;
   widths = widths-not-empty;
   joint = joint-not-empty;
 }
@@ -82,6 +85,9 @@ promises = record {
   other-segment = segment-of-other-width-refused;
   same-segments = segments-same-but-for-ids;
   same-packets = same-but-for-ids;
+  delivered-flow = delivered-flow;
+  priority-apart = priority-apart;
   examples = examples-hold;
+  examples-of-02 = examples-of-02;
   witnesses = premises-can-be-met;
 }

@@ -14,10 +14,12 @@ use Rattle.sending.specs.Joint.{JointExactly, JointOnly, JointLength, JointUnse
 use Rattle.sending.specs.Widths.{SegmentOfOtherWidthRefused, SegmentsSameButForIDs}
 use Rattle.flows.specs.Apart.{FlowsApart, SamePacketsSameAnswers}
 use Rattle.flows.specs.Widths.{OtherWidthRefused, SameButForIDs}
+use Rattle.priorities.specs.Joined.{DeliveredFlow}
+use Rattle.priorities.specs.Apart.{PriorityApart}
 use Rattle.mailing.specs.Mail.{MailSegmentsReadBack}
 use Rattle.mailing.specs.ReadBack.{OthersLeaveMail}
 use Rattle.mailing.specs.OfCalls.{MessageReadBackOfCalls}
-use Rattle.paper_examples.specs.Table.{ExamplesHold}
+use Rattle.paper_examples.specs.Table.{ExamplesHold, ExamplesOf02}
 use Rattle.calls.specs.Rooms.{RoomOfDelivered}
 use Rattle.demands.specs.Demands.{OursMeets, OurWriterMeets}
 use Rattle.demands.specs.OfCalls.{Demand2OfCalls, Demand3OfCalls, Demand3AnyLoss, Corollary3}
@@ -104,6 +106,14 @@ pub record Promises : Type 0 where
   -- the same to it; and to every packet
   pub same-segments : SegmentsSameButForIDs
   pub same-packets : SameButForIDs
-  -- ==== The paper's starred examples come out as it says; and every premise above can be met
+  -- ==== PRIORITY BELONGS TO THE FLOW (document 02, M-103). In every line above a flow is a source ID, a priority and a cos.
+
+  -- the source, priority and cos of a delivery are those of every packet that was joined to it, and its bytes are their data
+  pub delivered-flow : DeliveredFlow
+  -- two type 9 packets that agree in all but their priority are of two flows, which never share a stream context; from fresh, with at most sixteen
+  -- flows, what the one's flow is answered does not depend on the other
+  pub priority-apart : PriorityApart
+  -- ==== The paper's starred examples come out as it says, and so does document 02's, with more of its kind; and every premise above can be met
   pub examples : ExamplesHold
+  pub examples-of-02 : ExamplesOf02
   pub witnesses : PremisesCanBeMet

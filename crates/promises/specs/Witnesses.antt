@@ -1,7 +1,7 @@
 -- The premises of the promises can be met: for each there is a witness, most of them computed.
 use Rattle.sending.specs.Mixture.{MixtureIsFair, MixtureDelivered}
-use Rattle.mailing.specs.Eleven.{MailRunsNotEmpty}
-use Rattle.demands.specs.Witnesses.{CallsNotEmpty, AllowedNotEmpty, FlowsNotEmpty, JointNotEmpty, WidthsNotEmpty}
+use Rattle.eleven.specs.Eleven.{MailRunsNotEmpty}
+use Rattle.demands.specs.Witnesses.{CallsNotEmpty, AllowedNotEmpty, FlowsNotEmpty, PriorityNotEmpty, JointNotEmpty, WidthsNotEmpty}
 use Rattle.sixteen.specs.Sixteen.{SixteenAtOnce, SixteenDelivered}
 use Rattle.promises.specs.Ignored.{IgnoredNotEmpty}
 
@@ -21,6 +21,8 @@ pub record PremisesCanBeMet : Type 0 where
   pub sixteen-delivered : SixteenDelivered
   -- packets of at most sixteen flows
   pub flows : FlowsNotEmpty
+  -- two of them that differ in priority alone
+  pub priority : PriorityNotEmpty
   -- a packet of one width, and the same of the other
   pub widths : WidthsNotEmpty
   -- the joint happens: example 9

@@ -17,7 +17,7 @@ use Rattle.flows.specs.ByFlow.{among, Tells, OwnFlow, ByFlow}
 use Rattle.lists.specs.Each.{Each}
 use Rattle.sending.specs.Sending.{tell}
 use Rattle.sending.specs.OneFlow.{packetStep, deliveredPDU, also, flowDeliveries}
-use Rattle.flows.proofs.Flows.{same-refl}
+use Rattle.wire.proofs.SameFlow.{same-refl}
 use Rattle.sending.proofs.OneFlow.{Proper}
 
 -- a flow is itself, so it is among itself

@@ -1,6 +1,6 @@
 -- A segment that the writer cuts is read as itself. By cases on S and E, since only a continuation has no field.
 use Prim.Native.Nat.{ℕ, _+_, _-_, _*_, _/_, _%_, _<_}
-use mathlib.Core.Path.{_≡_, refl, sym, ap, _∙_, subst, subst₂}
+use mathlib.Core.Path.{_≡_, refl, sym, ap, ap₂, _∙_, subst, subst₂}
 use mathlib.Core.List.{List, _∷_, _++_}
 use mathlib.Core.Bool.{Bool, true, false, cond, not, _||_, _&&_}
 use native.Mathlib.Omega.{arith}
@@ -16,7 +16,7 @@ use Rattle.wire.specs.Packet.{header, priority, packetType, destination, source
 use Rattle.wire.specs.declared.Flow.{Flow}
 use Rattle.wire.specs.Segment.{Segment}
 use Rattle.wire.specs.Parsed.{Stream}
-use Rattle.wire.specs.Type9.{cos, flags, segmentAt, segmentOf}
+use Rattle.wire.specs.Type9.{cos, flags, flowOf, segmentAt, segmentOf}
 use Rattle.sizes.specs.Sizes.{badMTU, dataLength}
 use Rattle.wire.specs.Head.{under, is9, headRows}
 use Rattle.wire.specs.Parsed.{parsed}
@@ -46,12 +46,12 @@ abbrev segment : Heading → (first final : Bool) → (size : ℕ) → List ℕ 
 segment h first final size bytes = cutSegment (idsFor h) (headingFlow h) first final (h .stream) size (length bytes)
 
 -- two segments are equal by their fields
-by-fields : (b b′ e e′ o o′ q q′ : Bool) (s s′ c c′ f f′ from r r′ : ℕ)
-    → b ≡ b′ → e ≡ e′ → s ≡ s′ → c ≡ c′ → f ≡ f′ → r ≡ r′ → o ≡ o′ → q ≡ q′
+by-fields : (b b′ e e′ o o′ q q′ : Bool) (k k′ : Flow) (f f′ from r r′ : ℕ)
+    → b ≡ b′ → e ≡ e′ → k ≡ k′ → f ≡ f′ → r ≡ r′ → o ≡ o′ → q ≡ q′
     → _≡_ {A = Segment}
-    (record { begins = b; ends = e; flow = record { source = s; cos = c }; field = f; from = from; raw = r; odd = o; pad = q })
-    (record { begins = b′; ends = e′; flow = record { source = s′; cos = c′ }; field = f′; from = from; raw = r′; odd = o′; pad = q′ })
-by-fields b b′ e e′ o o′ q q′ s s′ c c′ f f′ from r r′ eb ee es ec ef er eo eq = rw (eb, ee, es, ec, ef, er, eo, eq)
+    (record { begins = b; ends = e; flow = k; field = f; from = from; raw = r; odd = o; pad = q })
+    (record { begins = b′; ends = e′; flow = k′; field = f′; from = from; raw = r′; odd = o′; pad = q′ })
+by-fields b b′ e e′ o o′ q q′ k k′ f f′ from r r′ eb ee ek ef er eo eq = rw (eb, ee, ek, ef, er, eo, eq)
 
 -- the data and the pad
 length-tail : (bytes : List ℕ) → length (bytes ++ padOf (length bytes)) ≡ length bytes + length bytes % 2
@@ -109,6 +109,15 @@ module _ (h : Heading) (range : InRange h) (size : ℕ) (bytes : List ℕ) where
   cos-is : (first final : Bool) → cos ids (shape h first final size bytes) ≡ h .cos
   cos-is first final = byte-behind ids byte-0 (h .destination) (h .source) (rest first final)
 
+  priority-is : (first final : Bool) → priority (shape h first final size bytes) ≡ h .priority
+  unfolding addressed
+  priority-is first final = byte-0-is .of-priority
+
+  flow-is : (first final : Bool) → flowOf ids (shape h first final size bytes) ≡ headingFlow h
+  flow-is first final =
+      ap₂ (λ (s c : ℕ). record { source = s; priority = priority (shape h first final size bytes); cos = c }) (source-is first final) (cos-is first final)
+      ∙ ap (λ (n : ℕ). record { source = h .source; priority = n; cos = h .cos }) (priority-is first final)
+
   -- read, it is the segment
   is-segment : (first final : Bool) → segmentOf ids (shape h first final size bytes) ≡ segment h first final size bytes
   unfolding segmentAt fieldOf
@@ -117,19 +126,19 @@ module _ (h : Heading) (range : InRange h) (size : ℕ) (bytes : List ℕ) where
       let t = length-tail bytes in
       let l = length-is true final in
       with-field ids (shape h true final size bytes) (rw (fl .of-S))
-      ∙ by-fields _ _ _ _ _ _ _ _ _ _ _ _ _ _ _ _ _ (fl .of-S) (fl .of-E) (source-is true final) (cos-is true final) (field-at true final ∙ two-bytes (h .stream) (range .stream)) (omega arith) (fl .of-O) (fl .of-P)
+      ∙ by-fields _ _ _ _ _ _ _ _ _ _ _ _ _ _ _ (fl .of-S) (fl .of-E) (flow-is true final) (field-at true final ∙ two-bytes (h .stream) (range .stream)) (omega arith) (fl .of-O) (fl .of-P)
   is-segment false true =
       let fl = flags-are false true in
       let t = length-tail bytes in
       let l = length-is false true in
       with-field ids (shape h false true size bytes) (rw (fl .of-S, fl .of-E))
-      ∙ by-fields _ _ _ _ _ _ _ _ _ _ _ _ _ _ _ _ _ (fl .of-S) (fl .of-E) (source-is false true) (cos-is false true) (field-at false true ∙ two-bytes-mod size) (omega arith) (fl .of-O) (fl .of-P)
+      ∙ by-fields _ _ _ _ _ _ _ _ _ _ _ _ _ _ _ (fl .of-S) (fl .of-E) (flow-is false true) (field-at false true ∙ two-bytes-mod size) (omega arith) (fl .of-O) (fl .of-P)
   is-segment false false =
       let fl = flags-are false false in
       let t = length-tail bytes in
       let l = length-is false false in
       without-field ids (shape h false false size bytes) (fl .of-S) (fl .of-E)
-      ∙ by-fields _ _ _ _ _ _ _ _ _ _ _ _ _ _ _ _ _ (fl .of-S) (fl .of-E) (source-is false false) (cos-is false false) refl (omega arith) (fl .of-O) (fl .of-P)
+      ∙ by-fields _ _ _ _ _ _ _ _ _ _ _ _ _ _ _ (fl .of-S) (fl .of-E) (flow-is false false) refl (omega arith) (fl .of-O) (fl .of-P)
 
   -- the rows of the head pass it
   of-9 : (first final : Bool) → is9 (shape h first final size bytes) ≡ true
@@ -145,10 +154,6 @@ module _ (h : Heading) (range : InRange h) (size : ℕ) (bytes : List ℕ) where
   tt-is : (first final : Bool) → tt·of (shape h first final size bytes) ≡ ttOf ids
   unfolding addressed
   tt-is first final = byte-0-is .of-tt
-
-  priority-is : (first final : Bool) → priority (shape h first final size bytes) ≡ h .priority
-  unfolding addressed
-  priority-is first final = byte-0-is .of-priority
 
   passes : (first final : Bool) → none (headRows (h .destination) ids (shape h first final size bytes))
   unfolding none headRows

@@ -9,7 +9,7 @@ use lib.Dec.{ltb, leb}
 use borrow.Author.Tests.{ltb-true, leb-true, not-true}
 use Rattle.lists.specs.Each.{Each}
 use Rattle.lists.proofs.Tests.{both}
-use Rattle.lists.proofs.Below.{below, below-at, are-bytes}
+use Rattle.lists.proofs.Below.{below, are-bytes}
 use Rattle.wire.specs.Parsed.{Parsed}
 use Rattle.wire.specs.Parsed.{Refused, Stream, Message}
 use Rattle.wire.specs.Packet.{idsOf}
@@ -32,7 +32,7 @@ each-by P test f (x ∷ xs) e = let h = both (test x) (allOf test xs) e in (f x 
 -- ---- A sending
 
 unfoldable pub isFairPDU : ℕ → Sent → Bool
-isFairPDU R s = ltb (s .pdu .stream) 65536 && (below 256 (s .pdu .bytes) && (leb 1 (length (s .pdu .bytes)) && (leb (length (s .pdu .bytes)) R && below 4 (s .priorities))))
+isFairPDU R s = ltb (s .pdu .stream) 65536 && (below 256 (s .pdu .bytes) && (leb 1 (length (s .pdu .bytes)) && leb (length (s .pdu .bytes)) R))
 
 pub fair-PDU : (R : ℕ) (s : Sent) → isFairPDU R s ≡ true → FairPDU R s
 unfolding isFairPDU
@@ -40,27 +40,27 @@ fair-PDU R s e =
     let a = both (ltb (s .pdu .stream) 65536) _ e in
     let b = both (below 256 (s .pdu .bytes)) _ (a .1) in
     let c = both (leb 1 (length (s .pdu .bytes))) _ (b .1) in
-    let d = both (leb (length (s .pdu .bytes)) R) _ (c .1) in
     record {
       stream = ltb-true (s .pdu .stream) 65536 (a .0);
       bytes = are-bytes (s .pdu .bytes) (b .0);
       some-byte = omega (arith, leb-true 1 (length (s .pdu .bytes)) (c .0));
-      fits = omega (arith, leb-true (length (s .pdu .bytes)) R (d .0));
-      priorities = λ k. let h = below-at 4 (s .priorities) k (omega arith) (d .1) in omega arith;
+      fits = omega (arith, leb-true (length (s .pdu .bytes)) R (c .1));
     }
 
 unfoldable pub isFairFlow : Setup → FlowSent → Bool
-isFairFlow setup x = ltb (x .flow .source) (256 ^ idsOf setup) && (ltb (x .flow .cos) 256 && allOf (isFairPDU (setup .room)) (x .sent))
+isFairFlow setup x = ltb (x .flow .source) (256 ^ idsOf setup) && (leb (x .flow .priority) 3 && (ltb (x .flow .cos) 256 && allOf (isFairPDU (setup .room)) (x .sent)))
 
 fair-flow : (setup : Setup) (x : FlowSent) → isFairFlow setup x ≡ true → FairFlow setup x
 unfolding isFairFlow
 fair-flow setup x e =
     let a = both (ltb (x .flow .source) (256 ^ idsOf setup)) _ e in
-    let b = both (ltb (x .flow .cos) 256) _ (a .1) in
+    let b = both (leb (x .flow .priority) 3) _ (a .1) in
+    let c = both (ltb (x .flow .cos) 256) _ (b .1) in
     record {
       source = ltb-true (x .flow .source) (256 ^ idsOf setup) (a .0);
-      cos = ltb-true (x .flow .cos) 256 (b .0);
-      PDUs = each-by (FairPDU (setup .room)) (isFairPDU (setup .room)) (fair-PDU (setup .room)) (x .sent) (b .1);
+      priority = leb-true (x .flow .priority) 3 (b .0);
+      cos = ltb-true (x .flow .cos) 256 (c .0);
+      PDUs = each-by (FairPDU (setup .room)) (isFairPDU (setup .room)) (fair-PDU (setup .room)) (x .sent) (c .1);
     }
 
 -- a packet that is parsed as no segment

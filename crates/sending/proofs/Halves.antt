@@ -30,7 +30,7 @@ module _ (setup : Setup) (flow : Flow) (ranges : Ranges setup flow) (s : Sent) (
   bytes = s .pdu .bytes
 
   abbrev packet : ℕ → List ℕ
-  packet k = packetOf (headingFor setup flow s k) (setup .mtu) (s .pdu .bytes) k
+  packet k = packetOf (headingFor setup flow s) (setup .mtu) (s .pdu .bytes) k
 
   abbrev put : ℕ → Put
   put k = putOf setup flow s k

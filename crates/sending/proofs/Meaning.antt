@@ -19,7 +19,7 @@ use Rattle.sending.specs.Sending.{Event, put, came, nextEvent, advance, 
 use Rattle.sending.specs.OneFlow.{also}
 use Rattle.sending.specs.Meaning.{putBy, toCome, InOrder, intact, fromFlow, WholeIsIntact}
 use Rattle.sending.proofs.Steps.{count-pos}
-use Rattle.contexts.proofs.Flows.{same-true}
+use Rattle.wire.proofs.SameFlow.{same-true}
 use Rattle.sending.proofs.Runs.{completed}
 
 in-order-from : (flow : Flow) (ts : List Turn) (q : Flow → List Put) → putBy flow (events q ts) ++ toCome q ts flow ≡ q flow

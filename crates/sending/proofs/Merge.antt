@@ -1,6 +1,6 @@
 -- Any mixture: an endpoint that treats each flow by itself, as the one-flow endpoint does, delivers exactly the whole PDUs.
 -- The invariant: what each flow still has to send is good from what the board has of that flow, and a flow that is not listed has nothing.
-use Prim.Native.Nat.{ℕ, zero, suc, _^_, _<_}
+use Prim.Native.Nat.{ℕ, zero, suc, _^_, _≤_, _<_}
 use mathlib.Core.Path.{_≡_, refl, sym, ap, _∙_, subst}
 use mathlib.Core.List.{List, [], _∷_, _++_, map, tail}
 use mathlib.Core.Bool.{Bool, true, false, cond, _||_, false≢true}
@@ -23,7 +23,7 @@ use Rattle.lists.specs.First.{any}
 use Rattle.sending.specs.Sending.{Put, flowPuts, FlowSent, Turn, next, between, sentOn, flowsOf, Event, nextEvent}
 use Rattle.sending.specs.Sending.{advance, events, queues, packetsLeft, tell, wholes, whole, FairFlow, FairTurn, OneOfTwoWhole}
 use Rattle.sending.specs.OneFlow.{packetStep, deliveredPDU}
-use Rattle.contexts.proofs.Flows.{same-true}
+use Rattle.wire.proofs.SameFlow.{same-true}
 use Rattle.sending.specs.OfSendings.{DeliveredIsWhole, DeliveredIsWholeAnyLoss, firstTurns, DeliveredAtEveryTurn, SamePacketsSameWhole}
 use Rattle.sending.proofs.OneFlow.{afterPut, Good, one-flow}
 use Rattle.sending.proofs.Rooms.{carried}
@@ -140,6 +140,7 @@ module _ (setup : Setup) (allowed : Allowed setup) where
           one-flow setup flow (record {
             allowed = allowed;
             source = subst (λ (y : Flow). y .source < 256 ^ idsOf setup) (sym e) (f .source);
+            priority = subst (λ (y : Flow). y .priority ≤ 3) (sym e) (f .priority);
             cos = subst (λ (y : Flow). y .cos < 256) (sym e) (f .cos);
           }) (x .sent) (f .PDUs) (apart .0)
       go false t rest = rest

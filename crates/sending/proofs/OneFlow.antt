@@ -47,7 +47,7 @@ Good setup flow o (x ∷ xs) = Proper setup flow (x .packet) × (seenAt setup o 
 
 -- packet k is
 pub proper-packet : (setup : Setup) (flow : Flow) → Ranges setup flow → (s : Sent) → FairPDU (setup .room) s → (k : ℕ) → k < packetCount (setup .mtu) s
-    → Proper setup flow (packetOf (headingFor setup flow s k) (setup .mtu) (s .pdu .bytes) k)
+    → Proper setup flow (packetOf (headingFor setup flow s) (setup .mtu) (s .pdu .bytes) k)
 proper-packet setup flow ranges s fair k below = record {
   reads = packet-read setup flow ranges s fair k below;
   of-flow = packet-flow setup flow ranges s fair k;
@@ -59,7 +59,7 @@ module _ (setup : Setup) (flow : Flow) (ranges : Ranges setup flow) (s : Sent) (
   Good′ = Good setup flow
 
   abbrev packet : ℕ → List ℕ
-  packet k = packetOf (headingFor setup flow s k) (setup .mtu) (s .pdu .bytes) k
+  packet k = packetOf (headingFor setup flow s) (setup .mtu) (s .pdu .bytes) k
 
   abbrev put : ℕ → Put
   put k = putOf setup flow s k

@@ -129,10 +129,10 @@ module _ (setup : Setup) (flow : Flow) (ranges : Ranges setup flow) (s : Sent) (
   bytes = s .pdu .bytes
 
   abbrev packet : ℕ → List ℕ
-  packet k = packetOf (headingFor setup flow s k) (setup .mtu) (s .pdu .bytes) k
+  packet k = packetOf (headingFor setup flow s) (setup .mtu) (s .pdu .bytes) k
 
-  in-range : (k : ℕ) → InRange (headingFor setup flow s k)
-  in-range k = record { destination = ranges .allowed .device-ID; source = ranges .source; cos = ranges .cos; stream = fair .stream; priority = fair .priorities k }
+  in-range : InRange (headingFor setup flow s)
+  in-range = record { destination = ranges .allowed .device-ID; source = ranges .source; cos = ranges .cos; stream = fair .stream; priority = ranges .priority }
 
   -- 19 allows an R of 65,536 at most
   most-R : setup .room ≤ 65536
@@ -143,10 +143,10 @@ module _ (setup : Setup) (flow : Flow) (ranges : Ranges setup flow) (s : Sent) (
   mtu-pos = let m = mtu-fits (setup .mtu) (ranges .allowed .allowed-MTU) in omega arith
 
   reads-as : (k : ℕ) → k < packetCount (setup .mtu) s
-      → ReadsAs (headingFor setup flow s k) (setup .mtu) bytes k (packet k) (segmentFor (headingFor setup flow s k) (setup .mtu) bytes k)
+      → ReadsAs (headingFor setup flow s) (setup .mtu) bytes k (packet k) (segmentFor (headingFor setup flow s) (setup .mtu) bytes k)
   reads-as k below =
-      segments-read-back (headingFor setup flow s k) (setup .mtu) bytes k (record {
-        heading = in-range k;
+      segments-read-back (headingFor setup flow s) (setup .mtu) bytes k (record {
+        heading = in-range;
         allowed = ranges .allowed .allowed-MTU;
         bytes = fair .bytes;
         some-byte = omega (arith, fair .some-byte);
@@ -154,8 +154,8 @@ module _ (setup : Setup) (flow : Flow) (ranges : Ranges setup flow) (s : Sent) (
         segment = below;
       })
 
-  segment-is : (k : ℕ) → segmentOf (idsOf setup) (packet k) ≡ segmentFor (headingFor setup flow s k) (setup .mtu) bytes k
-  segment-is k = segment-of-cut (headingFor setup flow s k) (setup .mtu) bytes k (in-range k)
+  segment-is : (k : ℕ) → segmentOf (idsOf setup) (packet k) ≡ segmentFor (headingFor setup flow s) (setup .mtu) bytes k
+  segment-is k = segment-of-cut (headingFor setup flow s) (setup .mtu) bytes k in-range
 
   pub packet-read : (k : ℕ) → k < packetCount (setup .mtu) s → parsed setup (packet k) ≡ Stream (segmentOf (idsOf setup) (packet k))
   packet-read k below = reads-as k below .read setup refl refl ∙ ap Stream (sym (segment-is k))
@@ -171,7 +171,7 @@ module _ (setup : Setup) (flow : Flow) (ranges : Ranges setup flow) (s : Sent) (
       → packetStep setup o (packet k) ≡ flowStep setup o (cutSegment (idsOf setup) flow first final (s .pdu .stream) (length bytes) (length (segmentData (setup .mtu) bytes k))) (segmentData (setup .mtu) bytes k)
   step-is k first final o below e e′ =
       ap (λ (g : Segment). flowStep setup o g (placing.dataOf (packet k) g)) (segment-is k)
-      ∙ ap (flowStep setup o (segmentFor (headingFor setup flow s k) (setup .mtu) bytes k)) (reads-as k below .data-of)
+      ∙ ap (flowStep setup o (segmentFor (headingFor setup flow s) (setup .mtu) bytes k)) (reads-as k below .data-of)
       ∙ rw (e, e′)
 
   -- which is first, and which last; what each holds

@@ -7,8 +7,8 @@ use mathlib.Core.Bool.{Bool, true, false, cond, _&&_, false≢true, _||_}
 use mathlib.Core.Option.{Option, none, some}
 use native.Mathlib.Omega.{arith}
 use native.Mathlib.Nat.{zero-mul}
-use lib.ListN.{length, take, drop, getD, replicate}
-use lib.Seq.{length-take-le, take-at, drop-append-add, drop-drop, getD-drop}
+use lib.ListN.{length, take, drop, replicate}
+use lib.Seq.{length-take-le, take-at, drop-append-add, drop-drop}
 use lib.Dec.{eqb, leb}
 use borrow.Author.Tests.{eqb-true, leb-true, eq-eqb, ne-eqb}
 use Rattle.wire.specs.declared.Flow.{Flow}
@@ -18,9 +18,9 @@ use Rattle.sizes.specs.Sizes.{badMTU}
 use Rattle.wire.specs.declared.Setup.{Setup}
 use Rattle.flows.specs.OneFlow.{PDU}
 use Rattle.flows.specs.Deliveries.{Delivery, delivery}
-use Rattle.flows.proofs.Flows.{same-refl}
+use Rattle.wire.proofs.SameFlow.{same-refl}
 use Rattle.lists.specs.Each.{Each}
-use Rattle.sending.specs.Sending.{Sent, isLost, priorityOf, packetCount, lossesFrom, losses, isWhole, Put, headingFor, putOf, putsFrom, flowPuts, next}
+use Rattle.sending.specs.Sending.{Sent, isLost, packetCount, lossesFrom, losses, isWhole, Put, headingFor, putOf, putsFrom, flowPuts, next}
 use Rattle.sending.specs.Sending.{nextEvent, advance, events, queues, packetsLeft, tell, wholes, packets, whole, FairPDU, FairTurn, FairlySent}
 use Rattle.sending.specs.Meaning.{intact}
 use Rattle.sending.specs.OneFlow.{also, arriving}
@@ -53,7 +53,7 @@ is-joint mtu a b e = go (eqb (packetCount mtu a) 2) (isLost a 1) (leb 2 (packetC
 -- n packets from number k on
 abbrev pub packetsFrom : Setup → Flow → Sent → (k n : ℕ) → List (List ℕ)
 packetsFrom setup flow s k zero = []
-packetsFrom setup flow s k (suc n) = packetOf (headingFor setup flow s k) (setup .mtu) (s .pdu .bytes) k ∷ packetsFrom setup flow s (suc k) n
+packetsFrom setup flow s k (suc n) = packetOf (headingFor setup flow s) (setup .mtu) (s .pdu .bytes) k ∷ packetsFrom setup flow s (suc k) n
 
 -- none of them lost, they all arrive
 module _ (setup : Setup) (flow : Flow) (s : Sent) (more : List Put) where
@@ -61,7 +61,7 @@ module _ (setup : Setup) (flow : Flow) (s : Sent) (more : List Put) where
   unfolding putOf
   arriving-lost k xs e = rw e
 
-  arriving-seen : (k : ℕ) (xs : List Put) → isLost s k ≡ false → arriving (putOf setup flow s k ∷ xs) ≡ packetOf (headingFor setup flow s k) (setup .mtu) (s .pdu .bytes) k ∷ arriving xs
+  arriving-seen : (k : ℕ) (xs : List Put) → isLost s k ≡ false → arriving (putOf setup flow s k ∷ xs) ≡ packetOf (headingFor setup flow s) (setup .mtu) (s .pdu .bytes) k ∷ arriving xs
   unfolding putOf
   arriving-seen k xs e = rw e
 
@@ -70,29 +70,29 @@ module _ (setup : Setup) (flow : Flow) (s : Sent) (more : List Put) where
   all-arrive (suc n) k e =
       let h = none-lost (s .lost) k n e in
       arriving-seen k (putsFrom setup flow s (suc k) n ++ more) (h .0) ∙ ap
-      (λ (l : List (List ℕ)). packetOf (headingFor setup flow s k) (setup .mtu) (s .pdu .bytes) k ∷ l) (all-arrive n (suc k) (h .1))
+      (λ (l : List (List ℕ)). packetOf (headingFor setup flow s) (setup .mtu) (s .pdu .bytes) k ∷ l) (all-arrive n (suc k) (h .1))
 
 -- ---- Two packets are the same by their parts
 
-abbrev parts : Setup → Flow → (k priority : ℕ) → (final : Bool) → (field bytes : List ℕ) → List ℕ
-parts setup flow k priority final field bytes =
-    addressed (idsOf setup) (firstByte (idsOf setup) priority 9) (setup .device) (flow .source)
+abbrev parts : Setup → Flow → (k : ℕ) → (final : Bool) → (field bytes : List ℕ) → List ℕ
+parts setup flow k final field bytes =
+    addressed (idsOf setup) (firstByte (idsOf setup) (flow .priority) 9) (setup .device) (flow .source)
     (flow .cos
     ∷ flagsOf (isFirst k) final (length bytes)
     ∷ (field ++ bytes ++ padOf (length bytes)))
 
-same-parts : (setup : Setup) (flow : Flow) (k q q′ : ℕ) (l l′ : Bool) (f f′ d d′ : List ℕ) → q ≡ q′ → l ≡ l′ → f ≡ f′ → d ≡ d′ → parts setup flow k q l f d ≡ parts setup flow k q′ l′ f′ d′
-same-parts setup flow k q q′ l l′ f f′ d d′ e₁ e₂ e₃ e₄ = rw (e₁, e₂, e₃, e₄)
+same-parts : (setup : Setup) (flow : Flow) (k : ℕ) (l l′ : Bool) (f f′ d d′ : List ℕ) → l ≡ l′ → f ≡ f′ → d ≡ d′ → parts setup flow k l f d ≡ parts setup flow k l′ f′ d′
+same-parts setup flow k l l′ f f′ d d′ e₁ e₂ e₃ = rw (e₁, e₂, e₃)
 
 -- the k-th of two PDUs
 abbrev fieldAt : ℕ → Sent → ℕ → List ℕ
 fieldAt mtu s k = fieldOf (isFirst k) (isFinal mtu (s .pdu .bytes) k) (s .pdu .stream) (length (s .pdu .bytes))
 
-same-packet : (setup : Setup) (flow : Flow) (s s′ : Sent) (k : ℕ) → priorityOf s k ≡ priorityOf s′ k → isFinal (setup .mtu) (s .pdu .bytes) k ≡ isFinal (setup .mtu) (s′ .pdu .bytes) k
+same-packet : (setup : Setup) (flow : Flow) (s s′ : Sent) (k : ℕ) → isFinal (setup .mtu) (s .pdu .bytes) k ≡ isFinal (setup .mtu) (s′ .pdu .bytes) k
     → fieldAt (setup .mtu) s k ≡ fieldAt (setup .mtu) s′ k → segmentData (setup .mtu) (s .pdu .bytes) k ≡ segmentData (setup .mtu) (s′ .pdu .bytes) k
-    → packetOf (headingFor setup flow s k) (setup .mtu) (s .pdu .bytes) k ≡ packetOf (headingFor setup flow s′ k) (setup .mtu) (s′ .pdu .bytes) k
+    → packetOf (headingFor setup flow s) (setup .mtu) (s .pdu .bytes) k ≡ packetOf (headingFor setup flow s′) (setup .mtu) (s′ .pdu .bytes) k
 unfolding packetOf
-same-packet setup flow s s′ k e₁ e₂ e₃ e₄ = same-parts setup flow k _ _ _ _ _ _ _ _ e₁ e₂ e₃ e₄
+same-packet setup flow s s′ k e₁ e₂ e₃ = same-parts setup flow k _ _ _ _ _ _ e₁ e₂ e₃
 
 -- ---- The joint's packets
 
@@ -121,23 +121,22 @@ module _ (setup : Setup) (flow : Flow) (a b : Sent) (pair : Pair setup flow a b)
   unfolding segmentData
   first-data = rw (zero-mul (setup .mtu)) (take-at (take (setup .mtu) (a .pdu .bytes)) (drop (setup .mtu) (b .pdu .bytes)) (setup .mtu) front-length)
 
-  first-packet : packetOf (headingFor setup flow (jointSent (setup .mtu) a b) 0) (setup .mtu) (jointPDU (setup .mtu) a b .bytes) 0
-      ≡ packetOf (headingFor setup flow a 0) (setup .mtu) (a .pdu .bytes) 0
+  first-packet : packetOf (headingFor setup flow (jointSent (setup .mtu) a b)) (setup .mtu) (jointPDU (setup .mtu) a b .bytes) 0
+      ≡ packetOf (headingFor setup flow a) (setup .mtu) (a .pdu .bytes) 0
   unfolding isFirst isFinal fieldOf
   first-packet =
-      same-packet setup flow (jointSent (setup .mtu) a b) a 0 refl
+      same-packet setup flow (jointSent (setup .mtu) a b) a 0
       (ne-eqb (0 + 1) (packetCount (setup .mtu) (jointSent (setup .mtu) a b)) (λ e. omega (arith, j .several, ap (segmentCount (setup .mtu)) same-length))
       ∙ sym (ne-eqb (0 + 1) (packetCount (setup .mtu) a) (λ e. omega (arith, j .two))))
       refl first-data
 
-  later-packet : (k : ℕ) → packetOf (headingFor setup flow (jointSent (setup .mtu) a b) (suc k)) (setup .mtu) (jointPDU (setup .mtu) a b .bytes) (suc k)
-      ≡ packetOf (headingFor setup flow b (suc k)) (setup .mtu) (b .pdu .bytes) (suc k)
+  later-packet : (k : ℕ) → packetOf (headingFor setup flow (jointSent (setup .mtu) a b)) (setup .mtu) (jointPDU (setup .mtu) a b .bytes) (suc k)
+      ≡ packetOf (headingFor setup flow b) (setup .mtu) (b .pdu .bytes) (suc k)
   unfolding isFirst isFinal
   later-packet k =
       let final : isFinal (setup .mtu) (jointPDU (setup .mtu) a b .bytes) (suc k) ≡ isFinal (setup .mtu) (b .pdu .bytes) (suc k) = ap
       (λ (n : ℕ). eqb (suc k + 1) (segmentCount (setup .mtu) n)) same-length in
       same-packet setup flow (jointSent (setup .mtu) a b) b (suc k)
-      (getD-drop 1 (b .priorities) k 0 ∙ ap (λ (n : ℕ). getD (b .priorities) n 0) (let e : 1 + k ≡ suc k = omega arith in e))
       final (field (isFinal (setup .mtu) (jointPDU (setup .mtu) a b .bytes) (suc k)) (isFinal (setup .mtu) (b .pdu .bytes) (suc k)) final) (later-data k)
     where
       field : (l l′ : Bool) → l ≡ l′ → fieldOf (isFirst (suc k)) l (a .pdu .stream) (length (jointPDU (setup .mtu) a b .bytes)) ≡ fieldOf (isFirst (suc k)) l′ (b .pdu .stream) (length (b .pdu .bytes))
@@ -147,7 +146,7 @@ module _ (setup : Setup) (flow : Flow) (a b : Sent) (pair : Pair setup flow a b)
   later-packets zero k = refl
   later-packets (suc n) k =
       ap (λ (p : List ℕ). p ∷ packetsFrom setup flow (jointSent (setup .mtu) a b) (suc (suc k)) n) (later-packet k)
-      ∙ ap (λ (l : List (List ℕ)). packetOf (headingFor setup flow b (suc k)) (setup .mtu) (b .pdu .bytes) (suc k) ∷ l) (later-packets n (suc k))
+      ∙ ap (λ (l : List (List ℕ)). packetOf (headingFor setup flow b) (setup .mtu) (b .pdu .bytes) (suc k) ∷ l) (later-packets n (suc k))
 
   -- the first's start arrives, since its end is the one that is lost
   start-arrives : isLost a 0 ≡ false
@@ -161,11 +160,11 @@ module _ (setup : Setup) (flow : Flow) (a b : Sent) (pair : Pair setup flow a b)
       go false e = refl
 
   first-left : (more : List Put)
-      → arriving (putsFrom setup flow a 0 (packetCount (setup .mtu) a) ++ more) ≡ packetOf (headingFor setup flow a 0) (setup .mtu) (a .pdu .bytes) 0 ∷ arriving more
+      → arriving (putsFrom setup flow a 0 (packetCount (setup .mtu) a) ++ more) ≡ packetOf (headingFor setup flow a) (setup .mtu) (a .pdu .bytes) 0 ∷ arriving more
   first-left more =
-      subst (λ (c : ℕ). arriving (putsFrom setup flow a 0 c ++ more) ≡ packetOf (headingFor setup flow a 0) (setup .mtu) (a .pdu .bytes) 0 ∷ arriving more) (sym (j .two))
+      subst (λ (c : ℕ). arriving (putsFrom setup flow a 0 c ++ more) ≡ packetOf (headingFor setup flow a) (setup .mtu) (a .pdu .bytes) 0 ∷ arriving more) (sym (j .two))
       (arriving-seen setup flow a more 0 (putOf setup flow a 1 ∷ more) start-arrives
-      ∙ ap (λ (l : List (List ℕ)). packetOf (headingFor setup flow a 0) (setup .mtu) (a .pdu .bytes) 0 ∷ l) (arriving-lost setup flow a more 1 more (j .end-lost)))
+      ∙ ap (λ (l : List (List ℕ)). packetOf (headingFor setup flow a) (setup .mtu) (a .pdu .bytes) 0 ∷ l) (arriving-lost setup flow a more 1 more (j .end-lost)))
 
   second-left : (n : ℕ) → packetCount (setup .mtu) b ≡ suc n → arriving (putsFrom setup flow b 0 (packetCount (setup .mtu) b) ++ []) ≡ packetsFrom setup flow b 1 n ++ []
   second-left n e =
@@ -175,7 +174,7 @@ module _ (setup : Setup) (flow : Flow) (a b : Sent) (pair : Pair setup flow a b)
       ∙ all-arrive setup flow b [] n 1 (count-lost (b .lost) 0 n 0 (j .start-lost) one))
 
   joint-left : (n : ℕ) → packetCount (setup .mtu) b ≡ suc n
-      → arriving (flowPuts setup flow (jointSent (setup .mtu) a b ∷ [])) ≡ packetOf (headingFor setup flow (jointSent (setup .mtu) a b) 0) (setup .mtu) (jointPDU (setup .mtu) a b .bytes) 0 ∷
+      → arriving (flowPuts setup flow (jointSent (setup .mtu) a b ∷ [])) ≡ packetOf (headingFor setup flow (jointSent (setup .mtu) a b)) (setup .mtu) (jointPDU (setup .mtu) a b .bytes) 0 ∷
       (packetsFrom setup flow (jointSent (setup .mtu) a b) 1 n ++ [])
   joint-left n e =
       let count : packetCount (setup .mtu) (jointSent (setup .mtu) a b) ≡ suc n = ap (segmentCount (setup .mtu)) same-length ∙ e in
@@ -189,7 +188,7 @@ module _ (setup : Setup) (flow : Flow) (a b : Sent) (pair : Pair setup flow a b)
       go zero e = absurd (omega (arith, j .several))
       go (suc n) e =
           first-left (putsFrom setup flow b 0 (packetCount (setup .mtu) b) ++ [])
-          ∙ ap (λ (l : List (List ℕ)). packetOf (headingFor setup flow a 0) (setup .mtu) (a .pdu .bytes) 0 ∷ l)
+          ∙ ap (λ (l : List (List ℕ)). packetOf (headingFor setup flow a) (setup .mtu) (a .pdu .bytes) 0 ∷ l)
           (second-left n e ∙ ap (λ (l : List (List ℕ)). l ++ []) (sym (later-packets n 0)))
           ∙ ap (λ (p : List ℕ). p ∷ (packetsFrom setup flow (jointSent (setup .mtu) a b) 1 n ++ [])) (sym first-packet)
           ∙ sym (joint-left n e)
@@ -202,12 +201,7 @@ module _ (setup : Setup) (flow : Flow) (a b : Sent) (pair : Pair setup flow a b)
         (bytes-drop (setup .mtu) (b .pdu .bytes) (pair .second-fair .bytes));
     some-byte = omega (arith, same-length, pair .second-fair .some-byte);
     fits = omega (arith, same-length, pair .second-fair .fits);
-    priorities = priority;
   }
-    where
-      priority : (k : ℕ) → priorityOf (jointSent (setup .mtu) a b) k ≤ 3
-      priority zero = pair .first-fair .priorities 0
-      priority (suc k) = subst (λ (q : ℕ). q ≤ 3) (sym (getD-drop 1 (b .priorities) k 0)) (pair .second-fair .priorities (1 + k))
 
 -- ---- One flow with a turn for each packet: all that it has is put on, in order
 
@@ -281,7 +275,7 @@ joint-untold setup flow a b pair test =
     sent-fairly : (sent : List Sent) → Each (FairPDU (setup .room)) sent → FairlySent setup (inTurn setup flow sent)
     sent-fairly sent fair = record {
       sixteen = omega arith;
-      flows = (record { source = pair .ranges .source; cos = pair .ranges .cos; PDUs = fair }, tt);
+      flows = (record { source = pair .ranges .source; priority = pair .ranges .priority; cos = pair .ranges .cos; PDUs = fair }, tt);
       turns = turns-fair setup (length (flowPuts setup flow sent)) flow;
     }
 

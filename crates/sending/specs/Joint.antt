@@ -12,7 +12,7 @@ use Rattle.flows.specs.OneFlow.{PDU, pdu}
 use Rattle.wire.specs.declared.Setup.{Setup}
 use Rattle.reading.specs.Desk.{Desk}
 use Rattle.flows.specs.Deliveries.{delivery, deliveries}
-use Rattle.sending.specs.Sending.{Sent, isLost, priorityOf, packetCount, losses, flowPuts, next, Sending, packets, whole, Ranges, FairPDU, FairlySent, OneLossEach, NoNeighboursLose, Fair}
+use Rattle.sending.specs.Sending.{Sent, isLost, packetCount, losses, flowPuts, next, Sending, packets, whole, Ranges, FairPDU, FairlySent, OneLossEach, NoNeighboursLose, Fair}
 use Rattle.sending.specs.OneFlow.{flowDeliveries, arriving}
 use Rattle.sending.specs.OfSendings.{Begins}
 
@@ -72,7 +72,7 @@ JointDelivered =
 -- NO RECEIVER CAN TELL: two sendings leave the packets of a joint. In the one the two PDUs are sent, and nothing is whole; in the other that PDU is
 -- sent, alone, without loss: it is fair, and the PDU is whole. So the premise of demand 3 that no two neighbours both lose a packet cannot be left out.
 abbrev pub jointSent : ℕ → Sent → Sent → Sent
-jointSent mtu first second = record { pdu = jointPDU mtu first second; lost = []; priorities = priorityOf first 0 ∷ drop 1 (second .priorities) }
+jointSent mtu first second = record { pdu = jointPDU mtu first second; lost = [] }
 
 -- one flow sends these, with a turn for each packet
 abbrev pub inTurn : Setup → Flow → List Sent → Sending

@@ -67,7 +67,7 @@ SamePacketsSameWhole =
 
 -- packet k of a PDU of that flow
 abbrev pub packetAt : Setup → Flow → Sent → ℕ → List ℕ
-packetAt setup flow s k = packetOf (headingFor setup flow s k) (setup .mtu) (s .pdu .bytes) k
+packetAt setup flow s k = packetOf (headingFor setup flow s) (setup .mtu) (s .pdu .bytes) k
 
 -- the desk after the first k packets, and what packet k gets there
 abbrev pub deskAt : Endpoint → Setup → Flow → Sent → Desk → ℕ → Desk

@@ -34,7 +34,7 @@ cutSegment ids flow first final stream size n = record {
 }
 
 abbrev pub headingFlow : Heading → Flow
-headingFlow h = record { source = h .source; cos = h .cos }
+headingFlow h = record { source = h .source; priority = h .priority; cos = h .cos }
 
 -- segment k of a PDU
 abbrev pub segmentFor : Heading → ℕ → List ℕ → ℕ → Segment

@@ -4,7 +4,7 @@ use mathlib.Core.Path.{_≡_}
 use mathlib.Core.List.{List, [], _∷_, _++_, map, tail}
 use mathlib.Core.Bool.{Bool, true, false, cond, _||_, _&&_}
 use mathlib.Core.Option.{Option, none, some}
-use lib.ListN.{length, getD}
+use lib.ListN.{length}
 use lib.Dec.{eqb}
 use Rattle.lists.specs.Bytes.{AreBytes}
 use Rattle.lists.specs.Each.{Each}
@@ -24,11 +24,10 @@ use Rattle.flows.specs.Fresh.{Allowed}
 
 -- ---- What one flow sends
 
--- a PDU, the numbers (from 0) of its packets that are lost, and the priorities of its packets (0 where the list ends)
+-- a PDU, and the numbers (from 0) of its packets that are lost
 pub record Sent : Type 0 where
   pub pdu : PDU
   pub lost : List ℕ
-  pub priorities : List ℕ
 
 -- whether a number is in a list
 abbrev pub has : ℕ → List ℕ → Bool
@@ -37,9 +36,6 @@ has k (x ∷ xs) = eqb k x || has k xs
 
 abbrev pub isLost : Sent → ℕ → Bool
 isLost s k = has k (s .lost)
-
-abbrev pub priorityOf : Sent → ℕ → ℕ
-priorityOf s k = getD (s .priorities) k 0
 
 -- how many packets it makes
 abbrev pub packetCount : ℕ → Sent → ℕ
@@ -63,20 +59,21 @@ pub record Put : Type 0 where
   pub lost : Bool
   pub whole : Option PDU
 
-abbrev pub headingFor : Setup → Flow → Sent → ℕ → Heading
-headingFor setup flow s k = record {
+-- the same for all packets of a PDU; source, priority and cos are the flow's
+abbrev pub headingFor : Setup → Flow → Sent → Heading
+headingFor setup flow s = record {
   destination = setup .device;
   source = flow .source;
   cos = flow .cos;
   stream = s .pdu .stream;
-  priority = priorityOf s k;
+  priority = flow .priority;
   narrow = setup .narrow;
 }
 
 -- packet k of a PDU. The PDU is whole with its last packet, if no packet is lost
 unfoldable pub putOf : Setup → Flow → Sent → ℕ → Put
 putOf setup flow s k = record {
-  packet = packetOf (headingFor setup flow s k) (setup .mtu) (s .pdu .bytes) k;
+  packet = packetOf (headingFor setup flow s) (setup .mtu) (s .pdu .bytes) k;
   lost = isLost s k;
   whole = cond (isFinal (setup .mtu) (s .pdu .bytes) k && isWhole (setup .mtu) s) (some (s .pdu)) none;
 }
@@ -167,6 +164,7 @@ whole setup s = wholes (events (queues setup s) (s .turns))
 pub record Ranges (setup : Setup) (flow : Flow) : Type 0 where
   pub allowed : Allowed setup
   pub source : flow .source < 256 ^ idsOf setup
+  pub priority : flow .priority ≤ 3
   pub cos : flow .cos < 256
 
 -- a PDU of 1 to R bytes
@@ -175,10 +173,10 @@ pub record FairPDU (R : ℕ) (s : Sent) : Type 0 where
   pub bytes : AreBytes (s .pdu .bytes)
   pub some-byte : 1 ≤ length (s .pdu .bytes)
   pub fits : length (s .pdu .bytes) ≤ R
-  pub priorities : (k : ℕ) → priorityOf s k ≤ 3
 
 pub record FairFlow (setup : Setup) (x : FlowSent) : Type 0 where
   pub source : x .flow .source < 256 ^ idsOf setup
+  pub priority : x .flow .priority ≤ 3
   pub cos : x .flow .cos < 256
   pub PDUs : Each (FairPDU (setup .room)) (x .sent)
 

@@ -9,7 +9,7 @@ use Rattle.wire.specs.declared.Setup.{Setup}
 use Rattle.contexts.specs.State.{fixed, freeStream, streamContexts}
 use Rattle.reading.specs.Desk.{Desk, stateOn}
 use Rattle.flows.specs.OneFlow.{pdu}
-use Rattle.flows.specs.Deliveries.{delivery, after, deliveries}
+use Rattle.flows.specs.Deliveries.{delivery, deskAfter, deliveries}
 use Rattle.flows.specs.Fresh.{zeroDesk}
 use Rattle.flows.specs.Widths.{bothWidths, atWidth}
 use Rattle.sending.specs.Sending.{Sent, losses, FlowSent, Turn, next, between, Sending, packets, whole, Fair}
@@ -23,14 +23,14 @@ sixteenSetup narrow = fixed 1 32 96 narrow
 
 -- 40 bytes of n on stream n, a start and an end; also without its start
 abbrev pub forty : ℕ → Sent
-forty n = record { pdu = pdu n (replicate 40 n); lost = []; priorities = [] }
+forty n = record { pdu = pdu n (replicate 40 n); lost = [] }
 
 abbrev pub startless : Sent
-startless = record { pdu = pdu 100 (replicate 40 100); lost = 0 ∷ []; priorities = [] }
+startless = record { pdu = pdu 100 (replicate 40 100); lost = 0 ∷ [] }
 
 -- 96 bytes, which fill a room: a start, a continuation that is lost, and an end
 abbrev pub middleless : Sent
-middleless = record { pdu = pdu 2 (replicate 96 2); lost = 1 ∷ []; priorities = [] }
+middleless = record { pdu = pdu 2 (replicate 96 2); lost = 1 ∷ [] }
 
 abbrev pub sendsForty : ℕ → FlowSent
 sendsForty n = record { flow = sourceOf n; sent = forty n ∷ [] }
@@ -69,11 +69,6 @@ sixteenOpen narrow = record {
       ++ (map between (others narrow)
       ++ eachPuts (16 ∷ 15 ∷ 14 ∷ 13 ∷ 12 ∷ 11 ∷ 10 ∷ 9 ∷ 8 ∷ 7 ∷ 6 ∷ 5 ∷ 4 ∷ 3 ∷ 2 ∷ 1 ∷ 2 ∷ [])));
 }
-
--- the desk after packets
-abbrev pub deskAfter : Desk → List (List ℕ) → Desk
-deskAfter d [] = d
-deskAfter d (p ∷ ps) = deskAfter (after d p) ps
 
 pub record AllSixteen (narrow : ℕ) : Type 0 where
   pub fair : Fair (sixteenSetup narrow) (sixteenOpen narrow)

@@ -15,10 +15,7 @@ pub fn stream_at(state: &[usize], n: usize) -> StreamContext
     ensures { λ r. ⌜ r ≡ streamIn (stateOf (now (state .entry))) n ⌝ }
 {
     let at = contexts::STREAMS + contexts::STREAM_WORDS * n;
-    let flow = Flow {
-        source: state[at + contexts::SOURCE],
-        cos: state[at + contexts::COS],
-    };
+    let flow = stream_flow(state, n);
     StreamContext {
         live: state[at + contexts::LIVE],
         flow,
@@ -44,6 +41,7 @@ pub fn stream_flow(state: &[usize], n: usize) -> Flow
     let at = contexts::STREAMS + contexts::STREAM_WORDS * n;
     Flow {
         source: state[at + contexts::SOURCE],
+        priority: state[at + contexts::PRIORITY],
         cos: state[at + contexts::COS],
     }
 }
@@ -75,6 +73,7 @@ fn put_stream(state: &mut [usize], n: usize, c: StreamContext)
     let flow = c.flow;
     state[at + contexts::LIVE] = c.live;
     state[at + contexts::SOURCE] = flow.source;
+    state[at + contexts::PRIORITY] = flow.priority;
     state[at + contexts::COS] = flow.cos;
     state[at + contexts::STREAM] = c.stream;
     state[at + contexts::HELD] = c.held;
@@ -113,7 +112,11 @@ pub fn close_stream(state: &mut [usize], n: usize)
     requires { ⌜ (n < streamContexts) × (length (now state) ≡ stateWords) ⌝ }
     ensures { λ _. ⌜ stateOf (now (state .exit)) ≡ withStream (stateOf (now (state .entry))) n closedStream ⌝ }
 {
-    let flow = Flow { source: 0, cos: 0 };
+    let flow = Flow {
+        source: 0,
+        priority: 0,
+        cos: 0,
+    };
     put_stream(
         state,
         n,

@@ -46,6 +46,7 @@ pub fn deliver(
         cos_or_letter: flow.cos,
         stream_or_mailbox: stream,
         length: total,
+        priority: flow.priority,
     }
 }
 

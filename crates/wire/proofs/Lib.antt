@@ -3,3 +3,4 @@ pub mod Fields
 pub mod ByNumber
 pub mod Addressed
 pub mod Widths
+pub mod SameFlow

@@ -6,7 +6,7 @@ use mathlib.Core.Bool.{Bool, cond, _||_, _&&_}
 use lib.ListN.{length}
 use lib.Dec.{eqb}
 use Rattle.lists.specs.Bytes.{byte, word}
-use Rattle.wire.specs.Packet.{header, source, bit}
+use Rattle.wire.specs.Packet.{header, priority, source, bit}
 use Rattle.wire.specs.declared.Flow.{Flow}
 use Rattle.wire.specs.Segment.{Segment}
 
@@ -33,13 +33,15 @@ isO ids p = bit (flags ids p) 2
 abbrev pub isP : (ids : ℕ) → List ℕ → Bool
 isP ids p = bit (flags ids p) 1
 
--- a flow is a source ID and a cos
+-- a flow is a source ID, a priority and a cos (document 02, M-103). 004 ties a stream and its PDUs to one transaction request flow (2.4, 3.2.4). Such
+-- flows are told apart by virtual channel, critical request flow and priority (1.5): the priority stands in byte 0, the other two in the link byte, which
+-- our packets come without (document 01)
 abbrev pub flowOf : (ids : ℕ) → List ℕ → Flow
-flowOf ids p = record { source = source ids p; cos = cos ids p }
+flowOf ids p = record { source = source ids p; priority = priority p; cos = cos ids p }
 
 -- whether two flows are one
 unfoldable pub sameFlow : Flow → Flow → Bool
-sameFlow a b = eqb (a .source) (b .source) && eqb (a .cos) (b .cos)
+sameFlow a b = eqb (a .source) (b .source) && (eqb (a .priority) (b .priority) && eqb (a .cos) (b .cos))
 
 -- what the packet says, where its data begin at `from`
 unfoldable pub segmentAt : (ids : ℕ) → List ℕ → ℕ → ℕ → Segment

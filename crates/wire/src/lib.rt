@@ -15,9 +15,10 @@ pub struct Setup {
     pub narrow: usize,
 }
 
-// A flow: who sends, under which class of service.
+// A flow: who sends, at which priority, under which class of service.
 pub struct Flow {
     pub source: usize,
+    pub priority: usize,
     pub cos: usize,
 }
 
@@ -43,10 +44,13 @@ pub struct MessageSegment {
 pub fn same_flow(a: Flow, b: Flow) -> bool
     ensures { λ r. ⌜ r ≡ sameFlow a b ⌝ }
 {
-    if a.source == b.source {
-        return a.cos == b.cos;
+    if a.source != b.source {
+        return false;
     }
-    false
+    if a.priority != b.priority {
+        return false;
+    }
+    a.cos == b.cos
 }
 
 // Whether the bit of that weight is set.

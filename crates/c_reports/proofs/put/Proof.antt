@@ -20,4 +20,5 @@ put-spec =
     (λ c. search needs) (λ c. simp length-set (omega arith)) (λ c. search needs)
     (λ c. search needs) (λ c. simp length-set (omega arith)) (λ c. search needs)
     (λ c. search needs) (λ c. simp length-set (omega arith)) (λ c. search needs)
+    (λ c. search needs) (λ c. simp length-set (omega arith)) (λ c. search needs)
     (λ c. stored _ _ (c .args .r) (c .pre)))

@@ -4,7 +4,19 @@ use Rattle.fields.proofs.flow_at.Statement.{statement}
 use Rattle.fields.proofs.flow_at.Tie as tie
 
 returns : tie.Need-returns
-returns c = simp (← c .before .before .before .id-at .ensures, ← c .before .before .header .ensures, ← c .wide .ensures .0)
+returns c =
+    let with-header = c .before .before in
+    let with-first = with-header .before in
+    simp (← with-first .before .before .id-at .ensures, ← with-first .wide .ensures .0, ← with-header .header .ensures, ← c .wide2 .ensures .0)
 
 pub flow-at-spec : {M : Type 1} → statement M
-flow-at-spec = tie.close (tie.spec (λ c. search needs) (λ c κs. search needs) (λ c κs. search needs) (λ c. search needs) (λ c κs. search needs) returns)
+flow-at-spec =
+    tie.close
+    (tie.spec
+    -- the source
+    (λ c. search needs) (λ c κs. search needs)
+    -- byte 0
+    (λ c. search needs) (λ c κs. search needs)
+    -- the cos
+    (λ c κs. search needs) (λ c. search needs) (λ c κs. search needs)
+    returns)

@@ -8,7 +8,7 @@ use native.Mathlib.Decide.{ℕ-discrete}
 use lib.ListN.{length, replicate, length-replicate}
 use lib.Dec.{leb}
 use borrow.Author.Tests.{ne-eqb, lt-leb}
-use Rattle.lists.proofs.Below.{below, are-bytes}
+use Rattle.lists.proofs.Below.{below, below-at, are-bytes}
 use Rattle.wire.specs.declared.Setup.{Setup}
 use Rattle.wire.specs.Packet.{idBytes, idsOf}
 use Rattle.wire.proofs.Widths.{wide-is, narrow-is}
@@ -17,15 +17,15 @@ use Rattle.lent_state.specs.Lent.{stateRefusal, hasRoom}
 use Rattle.room_parts.specs.Parts.{roomPart, messageRoom}
 use Rattle.flows.specs.Fresh.{Fresh}
 use Rattle.flows.specs.Widths.{atWidth, narrowed}
-use Rattle.flows.proofs.Fine.{fresh-fine}
+use Rattle.flows.proofs.Steady.{fresh-steady}
 use Rattle.mailing.specs.Mail.{Posted, msglenOf, dataAt, mailPacket, Postable}
 use Rattle.mailing.specs.Run.{segment, other, runPackets, times, FairMailTurn, ofSegments, contextAtFirst}
 use Rattle.mailing.specs.ReadBack.{GoodDesk, setupOf, MailRun, definedCalls}
 use Rattle.mailing.specs.OfCalls.{MailCalls}
-use Rattle.mailing.specs.Eleven.{mailDesk, eleven, fromThree, startBetween, elevenTurns, elevenCalls, logMail, MailRunsNotEmpty, ElevenDelivered}
+use Rattle.eleven.specs.Eleven.{mailDesk, eleven, fromThree, startBetween, elevenTurns, elevenCalls, logMail, MailRunsNotEmpty, ElevenDelivered}
 use Rattle.reading.proofs.Computing.{reads}
 use Rattle.mailing.proofs.Fetched.{room-call}
 use Rattle.mailing.proofs.Calls.{Handed, defined-made}
 
 -- each number once
 two-once : (k : ℕ) → times k (1 ∷ 0 ∷ []) ≡ cond (leb k 1) 1 0
@@ -64,7 +64,7 @@ module _ (narrow : ℕ) where
   good : GoodDesk (mailDesk narrow)
   unfolding reads
   good =
-      let f = fresh-fine setup (mailDesk narrow) fresh [] in
+      let f = fresh-steady setup (mailDesk narrow) fresh in
       record { good = record { whole = f .whole; good = f .good }; lends = f .lends }
 
   postable-eleven : Postable setup eleven
@@ -76,7 +76,7 @@ module _ (narrow : ℕ) where
     mailbox = omega arith;
     bytes = are-bytes (eleven .mail .bytes) refl;
     size = refl;
-    priorities = λ k. omega arith;
+    priorities = λ k. let h = below-at 4 (eleven .priorities) k (omega arith) refl in omega arith;
   }
 
   -- the others are fair, and example 11 gets context 1: fromThree has context 0

@@ -8,21 +8,21 @@ use Rattle.lists.specs.Each.{Each}
 use Rattle.reading.specs.Desk.{Desk}
 use Rattle.flows.specs.Fresh.{zeroDesk, paperSetupAt}
 use Rattle.flows.specs.Widths.{bothWidths, atWidth}
 use Rattle.mailing.specs.Mail.{Posted, mailPacket}
 use Rattle.mailing.specs.Run.{MailTurn, segment, other, runPackets, MailCall, ofSegments, saidAt, mailIn}
 use Rattle.mailing.specs.ReadBack.{setupOf, MailRun, definedCalls}
 use Rattle.mailing.specs.OfCalls.{MailCalls}
 
 -- the paper's desk, with IDs of that width
 abbrev pub mailDesk : (narrow : ℕ) → Desk
 mailDesk narrow = zeroDesk (paperSetupAt narrow)
 
--- ssize 64, two segments: 64 bytes of 7 and 8 bytes of 9, from source 2 under letter 1 to mailbox 2
+-- ssize 64, two segments: 64 bytes of 7 at priority 0 and 8 bytes of 9 at priority 2, from source 2 under letter 1 to mailbox 2
 abbrev pub eleven : Posted
 eleven = record {
   mail = record { source = 2; letter = 1; mailbox = 2; bytes = replicate 64 7 ++ replicate 8 9 };
   ssize = 0b1100;
-  priorities = [];
+  priorities = 0 ∷ 2 ∷ [];
 }
 
 -- a segment of another message, from source 3, which takes context 0; and a start from source 2
@@ -56,7 +56,7 @@ pub record MailRunsAt (narrow : ℕ) : Type 0 where
   pub packets : runPackets (setupOf (mailDesk narrow)) eleven (elevenTurns narrow)
       ≡ map (atWidth narrow)
       (fromThree
-      ∷ (0x1B ∷ 0x00 ∷ 0x01 ∷ 0x00 ∷ 0x02 ∷ 0x1C ∷ 0x61 ∷ replicate 8 9)
+      ∷ (0x9B ∷ 0x00 ∷ 0x01 ∷ 0x00 ∷ 0x02 ∷ 0x1C ∷ 0x61 ∷ replicate 8 9)
       ∷ startBetween
       ∷ (0x1B ∷ 0x00 ∷ 0x01 ∷ 0x00 ∷ 0x02 ∷ 0x1C ∷ 0x60 ∷ replicate 64 7)
       ∷ [])
