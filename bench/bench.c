@@ -72,15 +72,15 @@ static void add_segments(unsigned flows, uint16_t stream, uint64_t segments, uin
     }
 }
 
-/* segment k of a message of sixteen segments of 64 bytes, once from each of four senders */
-static void add_mail(unsigned k)
+/* segment k of a message of sixteen segments of 64 bytes, once from each of so many senders */
+static void add_mail(unsigned senders, unsigned k)
 {
     uint8_t p[7 + 64] = { 0x1b, 0, 1, 0, 0, 0xfc, 0 };
     for (size_t i = 7; i < sizeof p; i++)
         p[i] = (uint8_t)(3 * i);
-    for (unsigned sender = 0; sender < 4; sender++) {
+    for (unsigned sender = 0; sender < senders; sender++) {
         p[4] = (uint8_t)(sender + 2);
-        p[6] = (uint8_t)(sender << 4 | k);
+        p[6] = (uint8_t)(sender % 4 << 4 | k);
         payload += 64;
         add(p, sizeof p);
     }
@@ -101,11 +101,22 @@ static void make_priorities(void)
     make_streams();
 }
 
-static void make_messages(void)
+static void make_mail(unsigned senders)
 {
     while (count < PACKETS)
         for (unsigned k = 0; k < 16; k++)
-            add_mail(k);
+            add_mail(senders, k);
+}
+
+static void make_messages(void)
+{
+    make_mail(4);
+}
+
+/* as many messages open as there are contexts for them */
+static void make_eight(void)
+{
+    make_mail(8);
 }
 
 /* an idle board: PDUs of one segment, so that no context is ever open */
@@ -121,8 +132,8 @@ static void make_half(void)
     for (uint16_t stream = 0; count < PACKETS; stream++)
         for (unsigned k = 0; k < 8; k++) {
             add_segments(8, stream, 8, k);
-            add_mail(2 * k);
-            add_mail(2 * k + 1);
+            add_mail(4, 2 * k);
+            add_mail(4, 2 * k + 1);
         }
 }
 
@@ -218,10 +229,14 @@ static const struct {
     const char *name;
     size_t mtu;
     void (*make)(void);
-} traffics[] = { { "streams32", 32, make_streams },    { "streams256", 256, make_streams },
-                 { "messages", 32, make_messages },    { "refused", 32, make_refused },
-                 { "idle", 256, make_idle },           { "half", 256, make_half },
-                 { "priorities", 32, make_priorities } };
+} traffics[] = { { "streams32", 32, make_streams },
+                 { "streams256", 256, make_streams },
+                 { "messages", 32, make_messages },
+                 { "refused", 32, make_refused },
+                 { "idle", 256, make_idle },
+                 { "half", 256, make_half },
+                 { "priorities", 32, make_priorities },
+                 { "eight", 32, make_eight } };
 
 static void make(const char *name)
 {

@@ -74,9 +74,10 @@
 extern "C" {
 #endif
 
-#define KAIVEROHM_VERSION "0.3"
+#define KAIVEROHM_VERSION "0.3.1"
 #define KAIVEROHM_VERSION_MAJOR 0
 #define KAIVEROHM_VERSION_MINOR 3
+#define KAIVEROHM_VERSION_PATCH 1
 
 /* It rises whenever a function, a struct or a constant of this file changes.
    What is only added leaves it. kaiverohm_interface says the archive's: compare

@@ -203,6 +203,7 @@ static void refuses(size_t length, unsigned number, unsigned dropped, int change
              && r.length == 0 && r.priority == 0,
          "fields that a refusal does not name are 0", line);
     want(changed() == changes, "what is left", line);
+    want(memcmp(packet_end - length, packet, length) == 0, "the packet", line);
 }
 
 #define REFUSES(length, number, dropped, changes) \
@@ -610,6 +611,71 @@ static void messages(void)
     WANT(replied(reply(), "\xdd\x00\x0a\x01\x02\x13\x00"));
     r = read_it(MADE("\x1b\x01\x02\x00\x17\x19\x01", 8));
     WANT(r.kind == KAIVEROHM_MESSAGE && r.context == 7 && r.length == 16 && r.source == 0x17);
+}
+
+/* ---- marks past msglen: 19, however many ones there are */
+
+/* Context n holds a message of segments of 8 bytes. But for its marks it is good. */
+static uint64_t *holds_message(size_t n, uint64_t msglen, uint64_t marks)
+{
+    const uint64_t words[MESSAGE_WORDS] = { 1,      9, 1,     2,
+                                            msglen, 9, marks, marks >> msglen & 1 ? 8 : 0 };
+    return memcpy(message_context(n), words, sizeof words);
+}
+
+/* Its segment k. */
+static size_t message_segment(uint64_t msglen, uint64_t k)
+{
+    const char head[] = { 0x1b, 1, 2, 0, 9, (char)(msglen << 4 | 9), (char)(0x60 | k) };
+    return made(head, sizeof head, 8);
+}
+
+/* Marks that lack segment k alone: it completes the message. */
+static void completes(size_t n, uint64_t msglen, uint64_t k, uint64_t lacking)
+{
+    uint64_t *c = holds_message(n, msglen, lacking);
+    struct kaiverohm_report r = read_it(message_segment(msglen, k));
+    WANT(r.kind == KAIVEROHM_MESSAGE && r.context == n && r.length == 8 * (msglen + 1));
+    WANT(r.response == reply() && zeros(c, 8 * MESSAGE_WORDS));
+}
+
+/* The same with a mark past msglen: as many ones as segments before this one came,
+   and, where another segment is missing, as many once it has come. */
+static void completes_nothing(size_t n, uint64_t msglen, uint64_t k, uint64_t marks, uint64_t past)
+{
+    const uint64_t other = UINT64_C(1) << (k + 1) % (msglen + 1);
+    fresh();
+    holds_message(n, msglen, marks | past);
+    REFUSES(message_segment(msglen, k), 19, 0, 0);
+    holds_message(n, msglen, (marks & ~other) | past);
+    REFUSES(message_segment(msglen, k), 19, 0, 0);
+}
+
+/* In a closed context they are not looked at: the segment is the first of its message. */
+static void begins_message(size_t n, uint64_t msglen, uint64_t k, uint64_t marks)
+{
+    uint64_t *first = message_context(0), *c = holds_message(n, msglen, marks);
+    c[0] = 0;
+    struct kaiverohm_report r = read_it(message_segment(msglen, k));
+    WANT(r.kind == KAIVEROHM_HELD && first[0] == 1 && first[6] == UINT64_C(1) << k);
+    WANT(n == 0 || c[6] == marks);
+}
+
+/* The first bit past msglen, bits 16 and 32, which a u16 and 32 bits leave out, and the last. */
+static void marks_past_msglen(void)
+{
+    for (uint64_t msglen = 1; msglen < 16; msglen++)
+        for (uint64_t k = 0; k <= msglen; k++) {
+            const uint64_t past[] = { msglen + 1, 16, 32, 63 };
+            const uint64_t lacking = ((UINT64_C(2) << msglen) - 1) & ~(UINT64_C(1) << k);
+            const size_t n = (msglen + k) % KAIVEROHM_MESSAGE_CONTEXTS;
+            for (size_t i = 0; i < sizeof past / sizeof past[0]; i++) {
+                completes_nothing(n, msglen, k, lacking, UINT64_C(1) << past[i]);
+                begins_message(n, msglen, k, lacking | UINT64_C(1) << past[i]);
+            }
+            fresh();
+            completes(n, msglen, k, lacking);
+        }
 }
 
 /* ---- bursts */
@@ -1426,6 +1492,7 @@ static void at_this_width(void)
     row_10();
     whole_pdu();
     messages();
+    marks_past_msglen();
     abandons();
     priorities();
     priorities_of_a_burst();

@@ -153,9 +153,10 @@ static int is(struct kaiverohm_answer a, uint64_t kind, uint64_t number)
 
 static void versions(void)
 {
+    static const char spelled[] = TEXT(KAIVEROHM_VERSION_MAJOR) "." TEXT(
+        KAIVEROHM_VERSION_MINOR) "." TEXT(KAIVEROHM_VERSION_PATCH);
     WANT(kaiverohm_interface() == KAIVEROHM_INTERFACE);
-    WANT(strcmp(KAIVEROHM_VERSION, TEXT(KAIVEROHM_VERSION_MAJOR) "." TEXT(KAIVEROHM_VERSION_MINOR))
-         == 0);
+    WANT(strcmp(KAIVEROHM_VERSION, spelled) == 0);
 }
 
 /* The settings arrive field by field. */

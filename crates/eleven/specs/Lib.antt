@@ -1,1 +1,2 @@
 pub mod Eleven
+pub mod LastFirst

@@ -61,13 +61,15 @@ fn block_of_32(memory: &mut [u8], bytes: &[u8], at: usize)
     copy(&mut memory[at..], &block);
 }
 
-// The bytes from `from` on to the same place of `memory`: in blocks of 32, and what is left byte by byte.
+// The bytes from `from` on to the same place of `memory`: in blocks of 32, and what is left byte by byte. Where the blocks end is known
+// before the loop.
 fn copy_small_blocks(memory: &mut [u8], bytes: &[u8], from: usize)
     requires { ⌜ (from ≤ length (now bytes)) × (length (now bytes) ≤ length (now memory)) ⌝ }
     ensures { λ _. ⌜ now (memory .exit) ≡ written (now (memory .entry)) from (drop from (now (bytes .entry))) ⌝ }
 {
+    let end = bytes.len() - (bytes.len() - from) % 32;
     let mut at = from;
-    while at + 32 <= bytes.len() {
+    while at < end {
         block_of_32(memory, bytes, at);
         at += 32;
     }

@@ -1,12 +1,13 @@
 -- One more mark: it is set, and no other mark changes.
 use Prim.Native.Nat.{ℕ, suc, _<_, _+_, _-_, _*_, _/_, _%_, _^_}
-use mathlib.Core.Path.{_≡_, ap, sym, _∙_}
+use mathlib.Core.Path.{_≡_, ap, ap₂, sym, _∙_}
 use mathlib.Core.Bool.{true, false}
 use native.Mathlib.Omega.{arith}
 use native.Mathlib.Decide.{decLt}
-use native.Mathlib.Nat.{add-div-right, add-mul-div-right, div-div-eq-div-mul, pow-suc, pow-succ'}
+use native.Mathlib.Nat.{add-div-right, add-mul-div-right, div-add-mod', div-div-eq-div-mul, mod-lt, pow-suc, pow-succ'}
 use lib.Dec.{eqb}
 use lib.Pow.{pow-pos, pow-add}
+use lib.Bits.{bitAnd, bitOr, and-block, and-mask, and-zero-r, or-disjoint}
 use borrow.Author.Tests.{eqb-false, eq-eqb}
 use Rattle.marks.specs.Marks.{marked}
 
@@ -19,6 +20,19 @@ module _ (marks k : ℕ) where
     even : marks / 2 ^ k % 2 ≡ 0
     unfolding marked
     even = let odd = eqb-false (marks / 2 ^ k % 2) 1 unset in omega arith
+
+    -- set by `or`: the two have no digit in common
+    pub mark-or : bitOr marks (2 ^ k) ≡ marks + 2 ^ k
+    mark-or =
+        let rest : marks % 2 ^ k < 2 ^ k = mod-lt marks (pow-pos k) in
+        let apart : bitAnd (marks / 2 ^ k * 2 ^ k + marks % 2 ^ k) (1 * 2 ^ k + 0) ≡ bitAnd (marks / 2 ^ k) 1 * 2 ^ k + bitAnd (marks % 2 ^ k) 0 =
+        and-block k (marks / 2 ^ k) 1 (marks % 2 ^ k) 0 rest (pow-pos k) in
+        let high : bitAnd (marks / 2 ^ k) 1 ≡ 0 = and-mask (marks / 2 ^ k) 1 ∙ even in
+        let whole : marks / 2 ^ k * 2 ^ k + marks % 2 ^ k ≡ marks = div-add-mod' marks (2 ^ k) in
+        let weight : 1 * 2 ^ k + 0 ≡ 2 ^ k = omega arith in
+        let none : bitAnd marks (2 ^ k) ≡ 0 * 2 ^ k + 0 =
+        sym (ap₂ bitAnd whole weight) ∙ apart ∙ ap₂ (λ (i j : ℕ). i * 2 ^ k + j) high (and-zero-r (marks % 2 ^ k)) in
+        or-disjoint marks (2 ^ k) (omega (arith, none))
 
     pub mark-set : marked (marks + 2 ^ k) k ≡ true
     unfolding marked

@@ -4,7 +4,7 @@ use mathlib.Core.Path.{_≡_, ap, sym, _∙_}
 use mathlib.Core.Bool.{Bool, false, _&&_, and-true, and-false}
 use native.Mathlib.Omega.{arith}
 use native.Mathlib.Decide.{ℕ-discrete}
-use native.Mathlib.Nat.{one-mul, mod-eq-of-lt, mod-lt, zero-div, add-mul, mul-le-mul-right, pow-succ', div-lt-iff-lt-mul, div-add-mod'}
+use native.Mathlib.Nat.{one-mul, lt-of-lt-of-le, div-eq-of-lt, mod-eq-of-lt, mod-lt, zero-div, add-mul, mul-le-mul-right, pow-succ', div-lt-iff-lt-mul, div-add-mod'}
 use lib.Dec.{eqb}
 use borrow.Author.Tests.{eqb-false, eq-eqb, ne-eqb}
 use lib.Pow.{pow-mono, pow-pos, pow-add}
@@ -33,6 +33,10 @@ all-greatest marks (suc n) =
     ∙ one-more (marks % p) p (marks / p % 2) rest (omega arith)
     ∙ sym (ap (λ (k : ℕ). eqb (marks % 2 ^ suc n) (k - 1)) (pow-succ' 2 n) ∙ ap (λ (k : ℕ). eqb k (2 * p - 1)) whole)
 
+-- where no mark stands past them, that number is the marks themselves
+pub all-below : (marks count : ℕ) → marks < 2 ^ count → allMarked marks count ≡ eqb marks (2 ^ count - 1)
+all-below marks count h = all-greatest marks count ∙ ap (λ (k : ℕ). eqb k (2 ^ count - 1)) (mod-eq-of-lt h)
+
 -- the weight of a mark, as the machine shifts it
 pub power-fits : (k : ℕ) → k ≤ 16 → (1 * 2 ^ k % 18446744073709551616 ≡ 2 ^ k) × (1 * 2 ^ k % 18446744073709551616 ≤ 65536)
 power-fits k h =
@@ -60,6 +64,14 @@ room-for-mark marks k w h below e =
     split-power w k h =
         let n : w ≡ suc (w - suc k) + k = omega arith in
         ap (λ (j : ℕ). 2 ^ j) n ∙ (pow-add 2 (suc (w - suc k)) k ∙ ap (λ (j : ℕ). j * 2 ^ k) (pow-succ' 2 (w - suc k)))
+
+-- nor is any segment from w on marked
+pub none-past : (marks w k : ℕ) → marks < 2 ^ w → w ≤ k → marked marks k ≡ false
+unfolding marked
+none-past marks w k h past =
+    let more : 2 ^ w ≤ 2 ^ k = pow-mono past in
+    let none : marks / 2 ^ k ≡ 0 = div-eq-of-lt (lt-of-lt-of-le h more) in
+    ne-eqb (marks / 2 ^ k % 2) 1 (λ e. omega (arith, none, e))
 
 -- without marks nothing is marked
 pub nothing-marked : (k : ℕ) → marked 0 k ≡ false

@@ -1,6 +1,8 @@
 -- The set of segments received of a message, kept as sixteen marks: mark k is bit k of a number.
 use Prim.Native.Nat.{ℕ, zero, suc, _+_, _^_}
 use mathlib.Core.Bool.{Bool, true, _&&_}
+use lib.Dec.{eqb}
+use lib.Count.{ones}
 use Rattle.wire.specs.Packet.{bit}
 
 -- segment k is marked
@@ -15,3 +17,7 @@ withMark marks k = marks + 2 ^ k
 unfoldable pub allMarked : ℕ → ℕ → Bool
 allMarked marks zero = true
 allMarked marks (suc count) = allMarked marks count && marked marks count
+
+-- the form that document 01 names: complete exactly when the count of ones is msglen+1
+unfoldable pub countedComplete : (marks msglen : ℕ) → Bool
+countedComplete marks msglen = eqb (ones marks) (msglen + 1)

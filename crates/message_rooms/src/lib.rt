@@ -3,7 +3,7 @@ use answers::Figures;
 use wire::MessageSegment;
 ghost use mathlib.Core.Path.{_≡_};
 ghost use mathlib.Core.Bool.{false};
-ghost use Prim.Native.Nat.{_<_, _≤_};
+ghost use Prim.Native.Nat.{_+_, _<_, _≤_, _^_};
 ghost use lib.ListN.{length};
 ghost use Rattle.answers.specs.Figures.{telling, AllSet};
 ghost use Rattle.responses.specs.Type13.{DONE, answered};
@@ -53,10 +53,10 @@ fn keep(
     written: usize,
 ) -> Figures
     requires { ⌜ (n < messageContexts) × (length (now state) ≡ stateWords) ⌝ }
-    requires { ⌜ (marks < 65536) × (last ≤ 256) × (m .msglen < 16) × (m .msgseg < 16) × (m .mbox < 4) ⌝ }
+    requires { ⌜ (marks < 2 ^ (m .msglen + 1)) × (last ≤ 256) × (m .msglen < 16) × (m .msgseg < 16) × (m .mbox < 4) ⌝ }
     ensures { λ r. ⌜ MessageKept (stateOf (now (state .entry))) m n marks last (telling r) (stateOf (now (state .exit))) × AllSet r false written ⌝ }
 {
-    if marks::all_marked(marks as u16, m.msglen + 1) {
+    if marks::complete(marks as u16, m.msglen) {
         message_contexts::close_message(state, n);
         return Figures {
             kind: answers::MESSAGE,
@@ -105,19 +105,13 @@ pub fn place(
         × AllSet r false (replySize (stateOf (now (state .entry)))) ⌝ }
 {
     let size = sizes::bytes_of(m.ssize);
-    let with_this = marks + marks::power(m.msgseg);
+    let with_this = marks::with_mark(marks, m.msgseg);
+    let last_with_this = message_rules::last_with(m, last);
     lists::store(
         memory,
         n * ROOM + m.msgseg * size,
         &packet[packet.len() - m.raw..],
     );
     let written = done(state, response, packet);
-    keep(
-        state,
-        m,
-        n,
-        with_this,
-        message_rules::last_with(m, last),
-        written,
-    )
+    keep(state, m, n, with_this, last_with_this, written)
 }

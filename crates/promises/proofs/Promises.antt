@@ -10,10 +10,12 @@ use Rattle.flows.proofs.Apart.{flows-apart, same-packets-same-answers}
 use Rattle.flows.proofs.Widths.{other-width-refused, same-but-for-ids}
 use Rattle.priorities.proofs.Joined.{delivered-flow}
 use Rattle.priorities.proofs.Apart.{priority-apart}
+use Rattle.counting.proofs.Complete.{complete-by-count, marks-within}
 use Rattle.mailing.proofs.Packets.{mail-read}
 use Rattle.mailing.proofs.Desks.{others-leave-mail}
 use Rattle.mailing.proofs.Runs.{message-read-back-of-calls}
 use Rattle.eleven.proofs.Eleven.{mail-runs-not-empty}
+use Rattle.eleven.proofs.LastFirst.{last-first-delivered}
 use Rattle.paper_examples.proofs.Table.{examples-hold, examples-of-02}
 use Rattle.calls.proofs.Rooms.{room-of-delivered}
 use Rattle.demands.proofs.Demands.{ours-meets, our-writer-meets, corollary3}
@@ -36,6 +38,7 @@ premises-can-be-met = record {
   calls = calls-not-empty;
   ignored = ignored-not-empty;
   mail = mail-runs-not-empty;
+  last-first = last-first-delivered;
   mixture = mixture-is-fair;
   mixture-delivered = mixture-delivered;
   sixteen = sixteen-at-once;
@@ -87,6 +90,8 @@ promises = record {
   same-packets = same-but-for-ids;
   delivered-flow = delivered-flow;
   priority-apart = priority-apart;
+  complete-by-count = complete-by-count;
+  marks-within = marks-within;
   examples = examples-hold;
   examples-of-02 = examples-of-02;
   witnesses = premises-can-be-met;

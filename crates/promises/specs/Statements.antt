@@ -16,6 +16,7 @@ use Rattle.flows.specs.Apart.{FlowsApart, SamePacketsSameAnswers}
 use Rattle.flows.specs.Widths.{OtherWidthRefused, SameButForIDs}
 use Rattle.priorities.specs.Joined.{DeliveredFlow}
 use Rattle.priorities.specs.Apart.{PriorityApart}
+use Rattle.counting.specs.Complete.{CompleteByCount, MarksWithin}
 use Rattle.mailing.specs.Mail.{MailSegmentsReadBack}
 use Rattle.mailing.specs.ReadBack.{OthersLeaveMail}
 use Rattle.mailing.specs.OfCalls.{MessageReadBackOfCalls}
@@ -113,6 +114,12 @@ pub record Promises : Type 0 where
   -- two type 9 packets that agree in all but their priority are of two flows, which never share a stream context; from fresh, with at most sixteen
   -- flows, what the one's flow is answered does not depend on the other
   pub priority-apart : PriorityApart
+  -- ==== COMPLETE BY THE COUNT OF ONES (document 02, M-102). In every line above a message is complete where all its segments are marked.
+
+  -- the count says the same: a segment of several that rows 20 to 24 pass is answered by a message exactly if msglen+1 marks, its own with them, are ones
+  pub complete-by-count : CompleteByCount
+  -- why the count is right: an open message has no mark past msglen
+  pub marks-within : MarksWithin
   -- ==== The paper's starred examples come out as it says, and so does document 02's, with more of its kind; and every premise above can be met
   pub examples : ExamplesHold
   pub examples-of-02 : ExamplesOf02

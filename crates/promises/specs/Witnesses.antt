@@ -1,6 +1,7 @@
 -- The premises of the promises can be met: for each there is a witness, most of them computed.
 use Rattle.sending.specs.Mixture.{MixtureIsFair, MixtureDelivered}
 use Rattle.eleven.specs.Eleven.{MailRunsNotEmpty}
+use Rattle.eleven.specs.LastFirst.{LastFirstDelivered}
 use Rattle.demands.specs.Witnesses.{CallsNotEmpty, AllowedNotEmpty, FlowsNotEmpty, PriorityNotEmpty, JointNotEmpty, WidthsNotEmpty}
 use Rattle.sixteen.specs.Sixteen.{SixteenAtOnce, SixteenDelivered}
 use Rattle.promises.specs.Ignored.{IgnoredNotEmpty}
@@ -13,6 +14,8 @@ pub record PremisesCanBeMet : Type 0 where
   pub ignored : IgnoredNotEmpty
   -- a message whose segments come in reverse order, with others between
   pub mail : MailRunsNotEmpty
+  -- a message of sixteen segments that comes last-first
+  pub last-first : LastFirstDelivered
   -- a fair sending with a loss, mixed flows and messages between, to the byte; read by the definitions it delivers what is whole
   pub mixture : MixtureIsFair
   pub mixture-delivered : MixtureDelivered

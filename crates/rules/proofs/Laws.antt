@@ -6,7 +6,7 @@ use native.Mathlib.Omega.{arith}
 use lib.Dec.{eqb, ltb}
 use borrow.Author.Tests.{lt-ltb, le-ltb, eq-eqb, ne-eqb, eqb-true, ltb-false, not-false}
 use Rattle.lists.specs.Each.{Each}
-use Rattle.lists.proofs.Tests.{_and_}
+use Rattle.lists.proofs.Tests.{_and_, by-test}
 use Rattle.tables.specs.Refusals.{Row, allERROR, accept, verdict, none}
 use Rattle.tables.proofs.Exactly.{none-held}
 use Rattle.tables.proofs.Numbers.{number-accepted}
@@ -62,9 +62,17 @@ pub judge-length : (m : MessageSegment) → (bytesOf (m .ssize) ≡ 0 → ⊥) �
 unfolding judged formRows verdict reservedSize
 judge-length m a e = rw (ne-eqb (bytesOf (m .ssize)) 0 a, e)
 
-pub judge-single : (m : MessageSegment) → (bytesOf (m .ssize) ≡ 0 → ⊥) → badLength m ≡ false → m .msglen ≡ 0 → 0 ≡ judged m
-unfolding judged formRows verdict reservedSize pastLast
-judge-single m a e s = rw (ne-eqb (bytesOf (m .ssize)) 0 a, e, eq-eqb (m .msglen) 0 s)
+-- a last segment is never past the last
+last-inside : (m : MessageSegment) → isLast m ≡ true → pastLast m ≡ false
+unfolding pastLast
+last-inside m e =
+    by-test (isSingle m)
+    (λ t. rw t)
+    (λ t. rw t (le-ltb (m .msglen) (m .msgseg) (omega (arith, eqb-true (m .msgseg) (m .msglen) (rw t at e)))))
+
+pub judge-last : (m : MessageSegment) → (bytesOf (m .ssize) ≡ 0 → ⊥) → badLength m ≡ false → isLast m ≡ true → 0 ≡ judged m
+unfolding reservedSize
+judge-last m a e l = sym (judged-fine m (ne-eqb (bytesOf (m .ssize)) 0 a) e (last-inside m l))
 
 pub judge-past : (m : MessageSegment) → (bytesOf (m .ssize) ≡ 0 → ⊥) → badLength m ≡ false → (m .msglen ≡ 0 → ⊥) → m .msglen < m .msgseg → 22 ≡ judged m
 unfolding judged formRows verdict reservedSize pastLast
