@@ -16,9 +16,7 @@ enum {
     LONGEST = 300,
     STATE = KAIVEROHM_STATE_WORDS,
     REPORT = KAIVEROHM_REPORT_WORDS,
-    REPLY = KAIVEROHM_RESPONSE_ROOM,
-    ROOM = 4096,
-    MEMORY = 4096 /* what boards read and write */
+    ROOM = 4096
 };
 
 static uint8_t packets[PACKETS][LONGEST];
@@ -30,9 +28,9 @@ static unsigned narrow; /* 0: IDs of 16 bits; 1: of 8 */
 static uint8_t burst[PACKETS * (LONGEST + 2)];
 static size_t burst_length;
 
-static uint8_t streams[16 * ROOM], messages[32768], memory[MEMORY];
+static uint8_t streams[16 * ROOM], messages[32768];
 static uint64_t state[STATE], reports[PACKETS * REPORT];
-static uint8_t responses[PACKETS * REPLY], response[REPLY];
+static uint8_t responses[PACKETS * 8], response[7];
 static struct twin twin;
 
 /* Packets are made for IDs of 16 bits. The same for 8: tt is 00 for 01, or 01 for 00 in the packet
@@ -139,59 +137,6 @@ static void make_half(void)
         }
 }
 
-/* A request of one of 16 boards for so many bytes, of type 2, 5 or 6, at another place each time.
-   Byte 5 is transaction and size; 8 bytes have the code 1011, 256 have 1111 and wdptr. */
-static void add_request(unsigned type, unsigned transaction, size_t bytes)
-{
-    uint8_t p[11 + 256] = { (uint8_t)(0x10 | type), 0, 1, 0, (uint8_t)(count % 16 + 2) };
-    unsigned address = (unsigned)(count * bytes % MEMORY);
-    size_t at = 5, data = type == 2 ? 0 : bytes;
-    if (type != 6) {
-        p[at++] = (uint8_t)(transaction << 4 | (bytes == 8 ? 0xb : 0xf));
-        p[at++] = (uint8_t)count;
-    }
-    p[at + 2] = (uint8_t)(address >> 8);
-    p[at + 3] = (uint8_t)(address | (bytes == 8 ? 0 : 4));
-    for (size_t i = 0; i < data; i++)
-        p[at + 4 + i] = (uint8_t)(11 * i + count);
-    payload += bytes;
-    add(p, at + 4 + data);
-}
-
-/* NREAD */
-static void make_reads(size_t bytes)
-{
-    while (count < PACKETS)
-        add_request(2, 4, bytes);
-}
-
-/* NWRITE, NWRITE_R and SWRITE in turn */
-static void make_writes(size_t bytes)
-{
-    while (count < PACKETS)
-        add_request(count % 3 == 2 ? 6 : 5, 4 + count % 3, bytes);
-}
-
-static void make_reads8(void)
-{
-    make_reads(8);
-}
-
-static void make_writes8(void)
-{
-    make_writes(8);
-}
-
-static void make_reads256(void)
-{
-    make_reads(256);
-}
-
-static void make_writes256(void)
-{
-    make_writes(256);
-}
-
 /* packets that rows 1, 2, 3, 4, 5, 6, 7, 8 and 20 to 22 refuse */
 static void make_refused(void)
 {
@@ -199,7 +144,7 @@ static void make_refused(void)
         { 0x19, 0, 1, 0 },                    /* 1 */
         { 0x09, 0, 1, 0, 2, 5, 0x80, 0, 1 },  /* 2 */
         { 0x19, 0, 9, 0, 2, 5, 0x80, 0, 1 },  /* 3 */
-        { 0x18, 0, 1, 0, 2, 5, 0x80, 0, 1 },  /* 4 */
+        { 0x15, 0, 1, 0, 2, 5, 0x80, 0, 1 },  /* 4 */
         { 0x19, 0, 1, 0, 2, 5, 0x84, 0, 1 },  /* 5 */
         { 0x19, 0, 1, 0, 2, 5, 0x82, 0, 1 },  /* 6 */
         { 0x19, 0, 1, 0, 2, 5, 0x81, 0, 1 },  /* 7 */
@@ -238,26 +183,25 @@ static uint64_t sum;
 static void round_single(void)
 {
     for (size_t i = 0; i < count; i++) {
-        struct kaiverohm_report r =
-            kaiverohm_read(state, STATE, streams, 16 * ROOM, messages, 32768, memory, MEMORY,
-                           response, REPLY, packets[i], lengths[i]);
+        struct kaiverohm_report r = kaiverohm_read(state, STATE, streams, 16 * ROOM, messages,
+                                                   32768, response, 7, packets[i], lengths[i]);
         sum += r.kind + r.length;
     }
 }
 
 static void round_burst(void)
 {
-    struct kaiverohm_burst b = kaiverohm_read_burst(
-        state, STATE, streams, 16 * ROOM, messages, 32768, memory, MEMORY, responses,
-        sizeof responses, reports, PACKETS * REPORT, burst, burst_length, 0);
+    struct kaiverohm_burst b =
+        kaiverohm_read_burst(state, STATE, streams, 16 * ROOM, messages, 32768, responses,
+                             sizeof responses, reports, PACKETS * REPORT, burst, burst_length, 0);
     sum += b.count;
 }
 
 static void round_twin(void)
 {
     for (size_t i = 0; i < count; i++) {
-        struct twin_report r = twin_read(&twin, streams, 16 * ROOM, messages, 32768, memory, MEMORY,
-                                         response, REPLY, packets[i], lengths[i]);
+        struct twin_report r = twin_read(&twin, streams, 16 * ROOM, messages, 32768, response, 7,
+                                         packets[i], lengths[i]);
         sum += r.kind + r.length;
     }
 }
@@ -265,9 +209,8 @@ static void round_twin(void)
 static void round_unchecked(void)
 {
     for (size_t i = 0; i < count; i++) {
-        struct twin_report r =
-            twin_read_unchecked(&twin, streams, 16 * ROOM, messages, 32768, memory, MEMORY,
-                                response, REPLY, packets[i], lengths[i]);
+        struct twin_report r = twin_read_unchecked(&twin, streams, 16 * ROOM, messages, 32768,
+                                                   response, 7, packets[i], lengths[i]);
         sum += r.kind + r.length;
     }
 }
@@ -293,11 +236,7 @@ static const struct {
                  { "idle", 256, make_idle },
                  { "half", 256, make_half },
                  { "priorities", 32, make_priorities },
-                 { "eight", 32, make_eight },
-                 { "reads8", 32, make_reads8 },
-                 { "writes8", 32, make_writes8 },
-                 { "reads256", 32, make_reads256 },
-                 { "writes256", 32, make_writes256 } };
+                 { "eight", 32, make_eight } };
 
 static void make(const char *name)
 {
@@ -333,21 +272,16 @@ static void same(int holds, const char *what, size_t packet)
 static void agree(void)
 {
     static uint8_t twin_streams[sizeof streams], twin_messages[sizeof messages],
-        twin_memory[sizeof memory], twin_response[sizeof response];
+        twin_response[sizeof response];
     static struct kaiverohm_report answers[PACKETS];
-    static uint8_t answered[PACKETS][REPLY], first_memory[sizeof memory];
-    uint64_t used = 0;
-    for (size_t i = 0; i < MEMORY; i++)
-        memory[i] = twin_memory[i] = first_memory[i] = (uint8_t)(5 * i + i / 256);
+    static uint8_t answered[PACKETS][7];
     for (size_t i = 0; i < count; i++) {
-        struct kaiverohm_report a =
-            kaiverohm_read(state, STATE, streams, 16 * ROOM, messages, 32768, memory, MEMORY,
-                           response, REPLY, packets[i], lengths[i]);
-        struct twin_report b =
-            twin_read(&twin, twin_streams, 16 * ROOM, twin_messages, 32768, twin_memory, MEMORY,
-                      twin_response, REPLY, packets[i], lengths[i]);
+        struct kaiverohm_report a = kaiverohm_read(state, STATE, streams, 16 * ROOM, messages,
+                                                   32768, response, 7, packets[i], lengths[i]);
+        struct twin_report b = twin_read(&twin, twin_streams, 16 * ROOM, twin_messages, 32768,
+                                         twin_response, 7, packets[i], lengths[i]);
         same(a.kind == b.kind && a.number == b.number && a.dropped == b.dropped
-                 && a.response == b.response && a.context == b.context && a.source == b.source
+                 && a.context == b.context && a.source == b.source
                  && a.cos_or_letter == b.cos_or_letter && a.stream_or_mailbox == b.stream_or_mailbox
                  && a.length == b.length && a.priority == b.priority,
              "answers", i);
@@ -360,25 +294,20 @@ static void agree(void)
             same(memcmp(messages + a.context * 4096, twin_messages + a.context * 4096, a.length)
                      == 0,
                  "messages", i);
-        a.response_at = used;
-        used += a.response;
         answers[i] = a;
         memcpy(answered[i], response, sizeof response);
     }
     same(memcmp(streams, twin_streams, sizeof streams) == 0, "stream memories", count);
     same(memcmp(messages, twin_messages, sizeof messages) == 0, "message memories", count);
-    same(memcmp(memory, twin_memory, sizeof memory) == 0, "memories", count);
-    memcpy(memory, first_memory, sizeof memory);
 
-    struct kaiverohm_burst b = kaiverohm_read_burst(
-        state, STATE, streams, 16 * ROOM, messages, 32768, memory, MEMORY, responses,
-        sizeof responses, reports, PACKETS * REPORT, burst, burst_length, 0);
+    struct kaiverohm_burst b =
+        kaiverohm_read_burst(state, STATE, streams, 16 * ROOM, messages, 32768, responses,
+                             sizeof responses, reports, PACKETS * REPORT, burst, burst_length, 0);
     same(b.stop == KAIVEROHM_BURST_END && b.count == count, "bursts", b.count);
     same(memcmp(reports, answers, count * sizeof answers[0]) == 0, "reports of a burst", count);
     same(memcmp(state, &twin, sizeof twin) == 0, "states behind a burst", count);
-    same(memcmp(memory, twin_memory, sizeof memory) == 0, "memories behind a burst", count);
     for (size_t i = 0; i < count; i++)
-        same(memcmp(responses + answers[i].response_at, answered[i], answers[i].response) == 0,
+        same(memcmp(responses + 8 * i, answered[i], answers[i].response) == 0,
              "responses of a burst", i);
 }
 

@@ -133,50 +133,32 @@ static INLINE struct twin_report read_stream(struct twin *t, uint8_t *memory, co
         return (struct twin_report){ .kind = TWIN_HELD, .dropped = dropped };
     }
     close_stream(t, n);
-    return (struct twin_report){ .kind = TWIN_DELIVERED,
-                                 .dropped = dropped,
-                                 .context = n,
-                                 .source = source,
-                                 .cos_or_letter = cos,
-                                 .stream_or_mailbox = stream,
-                                 .length = base + size,
-                                 .priority = priority };
+    return (struct twin_report){ TWIN_DELIVERED, 0,           dropped, n, source, cos,
+                                 stream,         base + size, priority };
 }
 
-/* The transaction of a message's response, before its status. */
-enum { OF_MESSAGE = 0x10 };
-
-/* A response without data; how many bytes it has. */
-static INLINE size_t respond(uint8_t *r, const uint8_t *p, unsigned ids, unsigned code)
+static INLINE void respond(uint8_t *r, const uint8_t *p, unsigned ids, unsigned status)
 {
     unsigned priority = p[0] >> 6, h = header(ids);
     r[0] = (uint8_t)((priority < 3 ? priority + 1 : 3) << 6 | (ids - 1) << 4 | 13);
     memcpy(r + 1, p + 1 + ids, ids);
     memcpy(r + 1 + ids, p + 1, ids);
-    r[h] = (uint8_t)code;
+    r[h] = (uint8_t)(1 << 4 | status);
     r[h + 1] = p[h + 1];
-    return h + 2;
 }
 
 static INLINE struct twin_report answered(uint8_t *response, const uint8_t *p, unsigned ids,
-                                          unsigned number, unsigned code)
+                                          unsigned number, unsigned status)
 {
-    size_t written = respond(response, p, ids, code);
-    return (struct twin_report){ .kind = TWIN_REFUSED, .number = number, .response = written };
+    respond(response, p, ids, status);
+    return refused(number, false);
 }
 
-static INLINE struct twin_report whole_message(struct twin *t, int n, uint64_t source,
-                                               uint64_t letter, uint64_t mailbox, uint64_t length,
-                                               size_t written)
+static inline struct twin_report whole_message(struct twin *t, int n, uint64_t source,
+                                               uint64_t letter, uint64_t mailbox, uint64_t length)
 {
     t->messages[n] = (struct twin_message){ 0 };
-    return (struct twin_report){ .kind = TWIN_MESSAGE,
-                                 .response = written,
-                                 .context = n,
-                                 .source = source,
-                                 .cos_or_letter = letter,
-                                 .stream_or_mailbox = mailbox,
-                                 .length = length };
+    return (struct twin_report){ TWIN_MESSAGE, 0, 0, n, source, letter, mailbox, length, 0 };
 }
 
 static INLINE struct twin_report read_message(struct twin *t, uint8_t *memory, uint8_t *response,
@@ -189,12 +171,12 @@ static INLINE struct twin_report read_message(struct twin *t, uint8_t *memory, u
     size_t raw = length - (h + 2);
     unsigned size = bytes_of(ssize);
     if (size == 0)
-        return answered(response, p, ids, 20, OF_MESSAGE | 7);
+        return answered(response, p, ids, 20, 7);
     bool last = msglen == 0 || msgseg == msglen;
     if (last ? raw < 8 || raw > size || raw % 8 != 0 : raw != size)
-        return answered(response, p, ids, 21, OF_MESSAGE | 7);
+        return answered(response, p, ids, 21, 7);
     if (msglen > 0 && msgseg > msglen)
-        return answered(response, p, ids, 22, OF_MESSAGE | 7);
+        return answered(response, p, ids, 22, 7);
     int n = 8;
     if (msglen > 0) {
         for (n = 0; n < 8; n++)
@@ -206,145 +188,37 @@ static INLINE struct twin_report read_message(struct twin *t, uint8_t *memory, u
     if (n < 8) {
         m = t->messages[n];
         if (m.msglen != msglen || m.ssize != ssize)
-            return answered(response, p, ids, 23, OF_MESSAGE | 7);
+            return answered(response, p, ids, 23, 7);
         if (m.marks >> msgseg & 1)
-            return answered(response, p, ids, 24, OF_MESSAGE | 7);
+            return answered(response, p, ids, 24, 7);
     } else {
         for (n = 0; n < 8 && t->messages[n].live; n++)
             ;
         if (n == 8)
-            return answered(response, p, ids, 25, OF_MESSAGE | 3);
+            return answered(response, p, ids, 25, 3);
     }
-    size_t written = respond(response, p, ids, OF_MESSAGE);
+    respond(response, p, ids, 0);
     if (msglen == 0) {
         memcpy(memory + n * 4096, p + h + 2, raw);
-        return whole_message(t, n, source, letter, 4 * msgseg + mbox, raw, written);
+        return whole_message(t, n, source, letter, 4 * msgseg + mbox, raw);
     }
     memcpy(memory + n * 4096 + msgseg * size, p + h + 2, raw);
     m.marks |= 1u << msgseg;
     if (last)
         m.last = raw;
     if (m.marks == (2u << msglen) - 1)
-        return whole_message(t, n, source, letter, mbox, msglen * size + m.last, written);
+        return whole_message(t, n, source, letter, mbox, msglen * size + m.last);
     t->messages[n] = m;
-    return (struct twin_report){ .kind = TWIN_HELD, .response = written };
-}
-
-/* The requests: 16 times the type, and the transaction. */
-enum { NREAD = 0x24, NWRITE = 0x54, NWRITE_R = 0x55, SWRITE = 0x60 };
-
-/* By wdptr and code the first byte of the double-word, and how many bytes. Of a write over 8 it is
-   the most, and 0 is reserved. */
-struct size {
-    uint16_t first, count;
-};
-
-/* table 4-3 */
-static const struct size read_sizes[32] = {
-    { 0, 1 }, { 1, 1 }, { 2, 1 }, { 3, 1 },  { 0, 2 },  { 0, 3 },   { 2, 2 },   { 0, 5 },
-    { 0, 4 }, { 0, 6 }, { 0, 7 }, { 0, 8 },  { 0, 32 }, { 0, 96 },  { 0, 160 }, { 0, 224 },
-    { 4, 1 }, { 5, 1 }, { 6, 1 }, { 7, 1 },  { 4, 2 },  { 5, 3 },   { 6, 2 },   { 3, 5 },
-    { 4, 4 }, { 2, 6 }, { 1, 7 }, { 0, 16 }, { 0, 64 }, { 0, 128 }, { 0, 192 }, { 0, 256 },
-};
-
-/* table 4-4 */
-static const struct size write_sizes[32] = {
-    { 0, 1 }, { 1, 1 }, { 2, 1 }, { 3, 1 },  { 0, 2 },  { 0, 3 },   { 2, 2 }, { 0, 5 },
-    { 0, 4 }, { 0, 6 }, { 0, 7 }, { 0, 8 },  { 0, 32 }, { 0, 0 },   { 0, 0 }, { 0, 0 },
-    { 4, 1 }, { 5, 1 }, { 6, 1 }, { 7, 1 },  { 4, 2 },  { 5, 3 },   { 6, 2 }, { 3, 5 },
-    { 4, 4 }, { 2, 6 }, { 1, 7 }, { 0, 16 }, { 0, 64 }, { 0, 128 }, { 0, 0 }, { 0, 256 },
-};
-
-static INLINE uint32_t word_at(const uint8_t *p)
-{
-    return (uint32_t)p[0] << 24 | (uint32_t)p[1] << 16 | (uint32_t)p[2] << 8 | p[3];
-}
-
-/* ERROR where the request has a response. */
-static INLINE struct twin_report refused_request(uint8_t *response, const uint8_t *p, unsigned ids,
-                                                 unsigned request, unsigned number)
-{
-    if (request == NREAD || request == NWRITE_R)
-        return answered(response, p, ids, number, 7);
-    return refused(number, false);
-}
-
-/* whole double-words, at most so many bytes */
-static INLINE bool in_eights(size_t raw, size_t most)
-{
-    return raw != 0 && raw <= most && raw % 8 == 0;
-}
-
-static INLINE struct twin_report read_request(uint8_t *memory, size_t memory_length,
-                                              uint8_t *response, const uint8_t *p, size_t length,
-                                              unsigned ids)
-{
-    unsigned h = header(ids), type = p[0] & 15;
-    size_t from = type == 6 ? h + 4 : h + 6;
-    if (length < from)
-        return refused(1, false);
-    size_t raw = length - from;
-    uint32_t word = word_at(p + from - 4);
-    uint64_t address = (uint64_t)(word & 3) << 32 | (word & ~7u);
-    unsigned request = type == 6 ? SWRITE : type << 4 | p[h] >> 4;
-    unsigned size = (word & 4) << 2 | (p[h] & 15);
-    size_t first = 0, count = raw;
-    switch (request) {
-    case NREAD:
-        if (raw != 0)
-            return refused_request(response, p, ids, request, 32);
-        first = read_sizes[size].first;
-        count = read_sizes[size].count;
-        break;
-    case NWRITE:
-    case NWRITE_R:
-        first = write_sizes[size].first;
-        count = write_sizes[size].count;
-        if (count == 0)
-            return refused_request(response, p, ids, request, 31);
-        if (count > 8 ? !in_eights(raw, count) : raw != 8)
-            return refused_request(response, p, ids, request, 32);
-        if (count > 8)
-            count = raw;
-        break;
-    case SWRITE:
-        if (!in_eights(raw, 256))
-            return refused(32, false);
-        break;
-    default: return refused(31, false);
-    }
-    uint64_t at = address + first;
-    if (at + count > memory_length)
-        return refused_request(response, p, ids, request, 30);
-    size_t written = 0;
-    if (request == NREAD) {
-        written = respond(response, p, ids, 0x80);
-        uint8_t *data = response + written;
-        if (count < 8)
-            memset(data, 0, 8);
-        memcpy(data + first, memory + at, count);
-        written += count < 8 ? 8 : count;
-    } else {
-        memcpy(memory + at, p + from + first, count);
-        if (request == NWRITE_R)
-            written = respond(response, p, ids, 0);
-    }
-    return (struct twin_report){ .kind = TWIN_DONE,
-                                 .response = written,
-                                 .source = id_at(p + 1 + ids, ids),
-                                 .cos_or_letter = request,
-                                 .stream_or_mailbox = at,
-                                 .length = count };
+    return (struct twin_report){ .kind = TWIN_HELD };
 }
 
 static INLINE struct twin_report read_at(struct twin *t, uint8_t *streams, size_t streams_length,
-                                         uint8_t *messages, size_t messages_length, uint8_t *memory,
-                                         size_t memory_length, uint8_t *response,
-                                         size_t response_length, const uint8_t *p, size_t length,
-                                         unsigned ids)
+                                         uint8_t *messages, size_t messages_length,
+                                         uint8_t *response, size_t response_length,
+                                         const uint8_t *p, size_t length, unsigned ids)
 {
     unsigned h = header(ids);
-    if (streams_length != 16 * t->room || messages_length != 32768 || response_length < h + 2 + 256)
+    if (streams_length != 16 * t->room || messages_length != 32768 || response_length < h + 2)
         return refused(12, false);
     if (length < h)
         return refused(1, false);
@@ -353,48 +227,45 @@ static INLINE struct twin_report read_at(struct twin *t, uint8_t *streams, size_
     if (id_at(p + 1, ids) != t->device)
         return refused(3, false);
     unsigned type = p[0] & 15;
-    if (type != 9 && type != 11 && type != 2 && type != 5 && type != 6)
+    if (type != 9 && type != 11)
         return refused(4, false);
     if (length < h + 2)
         return refused(1, false);
     if (type == 9)
         return read_stream(t, streams, p, length, ids);
-    if (type == 11)
-        return read_message(t, messages, response, p, length, ids);
-    return read_request(memory, memory_length, response, p, length, ids);
+    return read_message(t, messages, response, p, length, ids);
 }
 
 /* The width parts here, so that each side has its places as constants. */
-static INLINE struct twin_report
-read_packet(struct twin *t, uint8_t *streams, size_t streams_length, uint8_t *messages,
-            size_t messages_length, uint8_t *memory, size_t memory_length, uint8_t *response,
-            size_t response_length, const uint8_t *p, size_t length)
+static INLINE struct twin_report read_packet(struct twin *t, uint8_t *streams,
+                                             size_t streams_length, uint8_t *messages,
+                                             size_t messages_length, uint8_t *response,
+                                             size_t response_length, const uint8_t *p,
+                                             size_t length)
 {
     if (t->narrow)
-        return read_at(t, streams, streams_length, messages, messages_length, memory, memory_length,
-                       response, response_length, p, length, 1);
-    return read_at(t, streams, streams_length, messages, messages_length, memory, memory_length,
-                   response, response_length, p, length, 2);
+        return read_at(t, streams, streams_length, messages, messages_length, response,
+                       response_length, p, length, 1);
+    return read_at(t, streams, streams_length, messages, messages_length, response, response_length,
+                   p, length, 2);
 }
 
 struct twin_report twin_read(struct twin *t, uint8_t *streams, size_t streams_length,
-                             uint8_t *messages, size_t messages_length, uint8_t *memory,
-                             size_t memory_length, uint8_t *response, size_t response_length,
-                             const uint8_t *packet, size_t length)
+                             uint8_t *messages, size_t messages_length, uint8_t *response,
+                             size_t response_length, const uint8_t *packet, size_t length)
 {
     if (bad_state(t))
         return refused(19, false);
-    return read_packet(t, streams, streams_length, messages, messages_length, memory, memory_length,
-                       response, response_length, packet, length);
+    return read_packet(t, streams, streams_length, messages, messages_length, response,
+                       response_length, packet, length);
 }
 
 struct twin_report twin_read_unchecked(struct twin *t, uint8_t *streams, size_t streams_length,
-                                       uint8_t *messages, size_t messages_length, uint8_t *memory,
-                                       size_t memory_length, uint8_t *response,
+                                       uint8_t *messages, size_t messages_length, uint8_t *response,
                                        size_t response_length, const uint8_t *packet, size_t length)
 {
-    return read_packet(t, streams, streams_length, messages, messages_length, memory, memory_length,
-                       response, response_length, packet, length);
+    return read_packet(t, streams, streams_length, messages, messages_length, response,
+                       response_length, packet, length);
 }
 
 void twin_setup(struct twin *t, unsigned device, size_t mtu, size_t room, unsigned narrow)

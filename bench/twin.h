@@ -21,25 +21,23 @@ struct twin {
     struct twin_message messages[8];
 };
 
-enum twin_kind { TWIN_REFUSED, TWIN_HELD, TWIN_DELIVERED, TWIN_MESSAGE, TWIN_DONE = 9 };
+enum twin_kind { TWIN_REFUSED, TWIN_HELD, TWIN_DELIVERED, TWIN_MESSAGE };
 
 struct twin_report {
-    uint64_t kind, number, dropped, response, context, source, cos_or_letter, stream_or_mailbox,
-        length, priority;
+    uint64_t kind, number, dropped, context, source, cos_or_letter, stream_or_mailbox, length,
+        priority;
 };
 
 void twin_setup(struct twin *t, unsigned device, size_t mtu, size_t room, unsigned narrow);
 
 /* With every check of the refusal table. */
 struct twin_report twin_read(struct twin *t, uint8_t *streams, size_t streams_length,
-                             uint8_t *messages, size_t messages_length, uint8_t *memory,
-                             size_t memory_length, uint8_t *response, size_t response_length,
-                             const uint8_t *packet, size_t length);
+                             uint8_t *messages, size_t messages_length, uint8_t *response,
+                             size_t response_length, const uint8_t *packet, size_t length);
 
 /* The same without the test of the state, row 19. */
 struct twin_report twin_read_unchecked(struct twin *t, uint8_t *streams, size_t streams_length,
-                                       uint8_t *messages, size_t messages_length, uint8_t *memory,
-                                       size_t memory_length, uint8_t *response,
+                                       uint8_t *messages, size_t messages_length, uint8_t *response,
                                        size_t response_length, const uint8_t *packet,
                                        size_t length);
 

@@ -12,10 +12,8 @@ enum { DEVICE = 1, MTU = 32, ROOM = 1024, AT_ONCE = 4 };
 static uint64_t state[KAIVEROHM_STATE_WORDS];
 static uint8_t streams[KAIVEROHM_STREAM_MEMORY(ROOM)];
 static uint8_t messages[KAIVEROHM_MESSAGE_MEMORY];
-static uint8_t memory[64]; /* what any board may read and change */
-static uint8_t response[AT_ONCE * KAIVEROHM_RESPONSE_ROOM];
-static const struct kaiverohm_desk desk =
-    KAIVEROHM_DESK(state, streams, messages, memory, response);
+static uint8_t response[AT_ONCE * KAIVEROHM_SLOT_BYTES];
+static const struct kaiverohm_desk desk = KAIVEROHM_DESK(state, streams, messages, response);
 static const struct kaiverohm_settings settings = { .device = DEVICE, .mtu = MTU, .room = ROOM };
 
 /* Header and archive belong together, and the desk is set up. */

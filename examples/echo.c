@@ -9,17 +9,14 @@
 enum { DEVICE = 1, MTU = 32, ROOM = 1024 };
 
 /* All that an endpoint keeps. These may stand anywhere in memory that is the
-   endpoint's alone; an array of uint64_t begins at a multiple of 8. The memory
-   that boards read and change may have any length. */
+   endpoint's alone; an array of uint64_t begins at a multiple of 8. */
 static uint64_t state[KAIVEROHM_STATE_WORDS];
 static uint8_t streams[KAIVEROHM_STREAM_MEMORY(ROOM)];
 static uint8_t messages[KAIVEROHM_MESSAGE_MEMORY];
-static uint8_t memory[64];
-static uint8_t response[KAIVEROHM_RESPONSE_ROOM];
+static uint8_t response[KAIVEROHM_RESPONSE_BYTES];
 
 /* Each is written down once, here; every call takes them from it. */
-static const struct kaiverohm_desk desk =
-    KAIVEROHM_DESK(state, streams, messages, memory, response);
+static const struct kaiverohm_desk desk = KAIVEROHM_DESK(state, streams, messages, response);
 
 /* A field that is not named is 0: device IDs have 16 bits. */
 static const struct kaiverohm_settings settings = { .device = DEVICE, .mtu = MTU, .room = ROOM };
@@ -51,19 +48,13 @@ static int packet_came(const uint8_t *packet, size_t length)
                report.source, report.cos_or_letter, report.stream_or_mailbox);
         print_bytes(&report);
         break;
-    case KAIVEROHM_DONE:
-        printf("%s of %" PRIu64 " bytes at %" PRIu64 ", source %" PRIu64 "\n",
-               report.cos_or_letter == KAIVEROHM_NREAD ? "read" : "write", report.length,
-               report.stream_or_mailbox, report.source);
-        break;
     default: printf("refused: %s\n", kaiverohm_refusal_words(report.number)); break;
     }
     /* A packet, refused or not, may have given an unfinished PDU of its flow up: of the
        same source, priority and cos. */
     if (report.dropped)
         printf("an unfinished PDU was dropped\n");
-    /* A message segment has a response, which goes back to its sender, and so have reads of our
-       memory, with the bytes, and some writes. */
+    /* A message segment has a response, which goes back to its sender. */
     if (report.response)
         printf("a response of %" PRIu64 " bytes is to be sent\n", report.response);
     return report.kind != KAIVEROHM_REFUSED;

@@ -14,10 +14,8 @@ enum { DEVICE = 1, MTU = 32, ROOM = 1024, LONGEST = 3 };
 static uint64_t state[KAIVEROHM_STATE_WORDS];
 static uint8_t streams[KAIVEROHM_STREAM_MEMORY(ROOM)];
 static uint8_t messages[KAIVEROHM_MESSAGE_MEMORY];
-static uint8_t memory[64]; /* what any board may read and change */
-static uint8_t response[KAIVEROHM_RESPONSE_ROOM];
-static const struct kaiverohm_desk desk =
-    KAIVEROHM_DESK(state, streams, messages, memory, response);
+static uint8_t response[KAIVEROHM_RESPONSE_BYTES];
+static const struct kaiverohm_desk desk = KAIVEROHM_DESK(state, streams, messages, response);
 static const struct kaiverohm_settings settings = { .device = DEVICE, .mtu = MTU, .room = ROOM };
 
 /* Header and archive belong together, and the desk is set up. */
@@ -78,7 +76,7 @@ static int came(unsigned now, uint16_t source, uint8_t priority, uint16_t stream
         return 0;
     struct kaiverohm_report r = kaiverohm_desk_read(&desk, packet, written.number);
     printf("%u: board %d, priority %d, stream %d, segment %" PRIu64 ": %s\n", now, source, priority,
-           stream, segment, r.kind < 4 ? words[r.kind] : "done");
+           stream, segment, words[r.kind]);
     if (r.dropped)
         forget(heading);
     for (uint64_t n = 0; n < KAIVEROHM_STREAM_CONTEXTS; n++)

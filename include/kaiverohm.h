@@ -2,11 +2,9 @@
 
    It reads data-streaming packets (type 9) and messages (type 11), joins
    their segments in memory that you lend it, and writes type 9 segments and
-   type 13 responses. It serves requests of other boards, which read and write
-   one more memory of yours (types 2, 5 and 6: NREAD, NWRITE, NWRITE_R, SWRITE).
-   Device IDs have 16 bits or 8, as setup chooses. It keeps nothing between
-   calls: all it knows stands in your buffers. It allocates nothing, waits for
-   nothing and calls nothing but memcpy and memset.
+   type 13 responses. Device IDs have 16 bits or 8, as setup chooses. It keeps
+   nothing between calls: all it knows stands in your buffers. It allocates
+   nothing, waits for nothing and calls nothing but memcpy and memset.
 
    The functions are proved (crates/kaiverohm). The proof covers any bytes in
    any buffer and any number in any argument. It cannot see the C that calls.
@@ -40,10 +38,9 @@
    or statically, a first call takes no more than the others.
 
    'The paper' is the association's document 01, 'The rack endpoint and its
-   rules'. Numbers of refusals are those of its table; 30 to 32 and 47 are those of
-   document 02, 'Change requests after the base'. enum kaiverohm_refusal has their
-   names, kaiverohm_refusal_words their words. 'All stays' means: no byte of any
-   buffer changes.
+   rules'. Numbers of refusals are those of its table: enum kaiverohm_refusal has
+   their names, kaiverohm_refusal_words their words. 'All stays' means: no byte of
+   any buffer changes.
 
    'The state is none' means that row 19 of the table names it: its MTU or R is
    out of range, or an open context has numbers that cannot be. It was never set
@@ -55,12 +52,6 @@
    PDU and does not give it up. A board that sends under one cos at two priorities
    has two flows, and may need two of the 16 contexts. A message is known by source,
    letter and mbox; its segments may come at different priorities.
-
-   The memory that boards read and write is a block of bytes of its own, with the
-   addresses 0, 1, and so on. Any board may read every byte of it and change every
-   byte of it, at any time that a packet is read: lend only what is meant for that
-   (docs/MEMORY.md). No request reaches the state or a room. Between calls you may
-   read it and write it as well.
 
    A caller who keeps one endpoint writes its buffers down once, in a struct
    kaiverohm_desk, and uses the calls at the end of this file.
@@ -83,44 +74,33 @@
 extern "C" {
 #endif
 
-/* In the text a patch of 0 is left out. */
-#define KAIVEROHM_VERSION "0.4"
+#define KAIVEROHM_VERSION "0.3.1"
 #define KAIVEROHM_VERSION_MAJOR 0
-#define KAIVEROHM_VERSION_MINOR 4
-#define KAIVEROHM_VERSION_PATCH 0
+#define KAIVEROHM_VERSION_MINOR 3
+#define KAIVEROHM_VERSION_PATCH 1
 
 /* It rises whenever a function, a struct or a constant of this file changes.
    What is only added leaves it. kaiverohm_interface says the archive's: compare
    the two once, before the first call.
 
-   In interface 4 boards read and write one more memory. Who comes from 3 compiles
-   anew, and
-     - lends that memory, behind the message memory; its length may be 0;
-     - lends 263 bytes of response (KAIVEROHM_RESPONSE_ROOM). 7 were enough, and a
-       buffer of 7 is now refused by 12: so KAIVEROHM_RESPONSE_BYTES is gone;
-     - takes a response's length from the report: it may have data;
-     - takes the responses of a burst where they stand, one behind the other, each
-       from response_at on. There are no slots of 8 bytes any more, and no
-       KAIVEROHM_SLOT_BYTES;
-     - lends one word more for each report of a burst: 11;
-     - knows one kind more, DONE, and the refusals 30, 31 and 32.
-   A state goes on as it is.
-   In interface 3 the priority belongs to the flow. Who comes from 2 also sets each
-   state up anew (one of 148 words is refused by 12, never misread).
+   In interface 3 the priority belongs to the flow. Who comes from 2 compiles anew,
+   sets each state up anew (one of 148 words is refused by 12, never misread), and
+   lends one word more for each report of a burst (KAIVEROHM_REPORT_WORDS is 10).
    Who comes from 1 also hands setup its numbers in a struct kaiverohm_settings and
    gives a struct kaiverohm_heading its field narrow (left out of an initializer, it
    is 0: IDs of 16 bits, as before). */
-#define KAIVEROHM_INTERFACE 4
+#define KAIVEROHM_INTERFACE 3
 
 #define KAIVEROHM_STATE_WORDS 164      /* a state: 164 words of 8 bytes */
 #define KAIVEROHM_STREAM_CONTEXTS 16   /* stream memory: 16 rooms of R bytes */
 #define KAIVEROHM_MESSAGE_CONTEXTS 8   /* message memory: 8 rooms of 4,096 */
 #define KAIVEROHM_MESSAGE_ROOM 4096    /* one room */
 #define KAIVEROHM_MESSAGE_MEMORY 32768 /* all 8 rooms */
-#define KAIVEROHM_RESPONSE_ROOM 263    /* always enough for a type 13 response */
+#define KAIVEROHM_RESPONSE_BYTES 7     /* always enough for a type 13 response */
 #define KAIVEROHM_LARGEST_PDU 65536    /* the bytes of a PDU: 1 to 65,536 */
 #define KAIVEROHM_LARGEST_PACKET 265   /* of what the segment writer writes */
-#define KAIVEROHM_REPORT_WORDS 11      /* a report in a burst: 11 words */
+#define KAIVEROHM_REPORT_WORDS 10      /* a report in a burst: 10 words */
+#define KAIVEROHM_SLOT_BYTES 8         /* for a response in a burst: 8 bytes */
 
 /* The bytes of a packet in a record: 0 to 16,383. */
 #define KAIVEROHM_LARGEST_RECORDED 16383
@@ -144,16 +124,7 @@ enum kaiverohm_kind {
     KAIVEROHM_CLOSED = 5,    /* a context was open, and is closed */
     KAIVEROHM_WAS_FREE = 6,  /* a context was free, and stays so */
     KAIVEROHM_WRITTEN = 7,   /* number: the bytes written */
-    KAIVEROHM_OPEN = 8,      /* a context is open, and stays so */
-    KAIVEROHM_DONE = 9       /* a request for the memory is served */
-};
-
-/* The requests that are served: 16 times the type, and the transaction. */
-enum kaiverohm_request {
-    KAIVEROHM_NREAD = 0x24,    /* type 2: read; the response has the bytes */
-    KAIVEROHM_NWRITE = 0x54,   /* type 5: write, without a response */
-    KAIVEROHM_NWRITE_R = 0x55, /* type 5: write, with a response */
-    KAIVEROHM_SWRITE = 0x60    /* type 6: write whole double-words, without a response */
+    KAIVEROHM_OPEN = 8       /* a context is open, and stays so */
 };
 
 /* Why a burst stopped: crates/c_bursts/specs/Bursts.antt. */
@@ -161,11 +132,11 @@ enum kaiverohm_stop {
     KAIVEROHM_BURST_REFUSED = 0, /* number: 19 or 12. Nothing was read */
     KAIVEROHM_BURST_END = 1,     /* all its packets were read */
     KAIVEROHM_BURST_BAD = 2,     /* the record at next is no record */
-    KAIVEROHM_BURST_FULL = 3,    /* a packet more, but no room for its report or its response */
+    KAIVEROHM_BURST_FULL = 3,    /* a packet more, but no report or no response left */
     KAIVEROHM_BURST_DELIVERY = 4 /* the last packet read delivered something */
 };
 
-/* The refusals, by the numbers of the paper's table; 30 to 32 and 47 by document 02's. */
+/* The refusals, by the numbers of the paper's table. */
 enum kaiverohm_refusal {
     KAIVEROHM_REFUSAL_SHORT = 1,
     KAIVEROHM_REFUSAL_ID_WIDTH = 2,
@@ -192,9 +163,6 @@ enum kaiverohm_refusal {
     KAIVEROHM_REFUSAL_OTHER_MESSAGE = 23,
     KAIVEROHM_REFUSAL_TWICE = 24,
     KAIVEROHM_REFUSAL_MESSAGES_FULL = 25,
-    KAIVEROHM_REFUSAL_OUTSIDE = 30,
-    KAIVEROHM_REFUSAL_RESERVED = 31,
-    KAIVEROHM_REFUSAL_DATA = 32,
     KAIVEROHM_REFUSAL_WIDE_ID = 47
 };
 
@@ -205,7 +173,7 @@ static inline const char *kaiverohm_refusal_words(uint64_t number)
     case KAIVEROHM_REFUSAL_SHORT: return "too short to have a whole head";
     case KAIVEROHM_REFUSAL_ID_WIDTH: return "device IDs of another width";
     case KAIVEROHM_REFUSAL_OTHER_DEVICE: return "for another device";
-    case KAIVEROHM_REFUSAL_TYPE: return "a type that is not 2, 5, 6, 9 or 11";
+    case KAIVEROHM_REFUSAL_TYPE: return "neither type 9 nor type 11";
     case KAIVEROHM_REFUSAL_EXTENDED: return "type 9 with an extended header";
     case KAIVEROHM_REFUSAL_FORM: return "type 9: no data, odd, or O wrong";
     case KAIVEROHM_REFUSAL_SIZE: return "type 9: wrong size for the MTU";
@@ -213,7 +181,7 @@ static inline const char *kaiverohm_refusal_words(uint64_t number)
     case KAIVEROHM_REFUSAL_PAST_ROOM: return "the PDU is longer than a room";
     case KAIVEROHM_REFUSAL_STREAMS_FULL: return "all 16 stream contexts in use";
     case KAIVEROHM_REFUSAL_END_LENGTH: return "end: not as many bytes as it says";
-    case KAIVEROHM_REFUSAL_BUFFER: return "a buffer of the wrong size, or response too short";
+    case KAIVEROHM_REFUSAL_BUFFER: return "a buffer of the wrong size";
     case KAIVEROHM_REFUSAL_NO_CONTEXT: return "no such context";
     case KAIVEROHM_REFUSAL_PDU: return "a PDU of 0 or over 65,536 bytes";
     case KAIVEROHM_REFUSAL_NO_SEGMENT: return "the PDU has no such segment";
@@ -227,9 +195,6 @@ static inline const char *kaiverohm_refusal_words(uint64_t number)
     case KAIVEROHM_REFUSAL_OTHER_MESSAGE: return "other msglen or ssize than before";
     case KAIVEROHM_REFUSAL_TWICE: return "the segment is there already";
     case KAIVEROHM_REFUSAL_MESSAGES_FULL: return "all 8 message contexts in use";
-    case KAIVEROHM_REFUSAL_OUTSIDE: return "a request not wholly inside the memory";
-    case KAIVEROHM_REFUSAL_RESERVED: return "a request's transaction or size is reserved";
-    case KAIVEROHM_REFUSAL_DATA: return "data that a request's size does not allow";
     case KAIVEROHM_REFUSAL_WIDE_ID: return "a device ID over 255 where IDs have 8 bits";
     default: return "no refusal";
     }
@@ -243,26 +208,20 @@ struct kaiverohm_answer {
 
 /* The answer to a packet. Fields that a kind does not name are 0. */
 struct kaiverohm_report {
-    uint64_t kind;              /* refused, held, delivered, message or done */
+    uint64_t kind;              /* refused, held, delivered or message */
     uint64_t number;            /* refused: the refusal */
     uint64_t dropped;           /* any kind: 1 where this packet gave an unfinished
                                    PDU up, of its own source, priority and cos:
                                    refused 6, 7, 9 or 11, or a start or single on
                                    a flow that had one. Else 0 */
     uint64_t response;          /* any kind: bytes of response written. 0 for none; else
-                                   7, or 5 where IDs have 8 bits, and behind them the
-                                   8 to 256 bytes of a served NREAD */
+                                   7, or 5 where IDs have 8 bits */
     uint64_t context;           /* delivered, message: the context, so the room */
-    uint64_t source;            /* delivered, message, done: who sent it */
-    uint64_t cos_or_letter;     /* delivered: cos. message: letter. done: the request,
-                                   one of enum kaiverohm_request */
-    uint64_t stream_or_mailbox; /* delivered: streamID. message: mailbox. done: the
-                                   address of the first byte that it names */
-    uint64_t length;            /* delivered, message: its bytes in the room. done: how
-                                   many bytes it names; a write has changed just these */
+    uint64_t source;            /* delivered, message: who sent it */
+    uint64_t cos_or_letter;     /* delivered: cos. message: letter */
+    uint64_t stream_or_mailbox; /* delivered: streamID. message: mailbox */
+    uint64_t length;            /* delivered, message: its bytes in the room */
     uint64_t priority;          /* delivered: the priority of its flow */
-    uint64_t response_at;       /* any kind, in a burst: the byte of responses where
-                                   its response begins, or would. Else 0 */
 };
 
 /* The answer to a burst. */
@@ -351,34 +310,25 @@ struct kaiverohm_answer kaiverohm_setup(uint64_t *state, size_t state_words,
    state:          164 words, read and written.
    stream_memory:  exactly 16 R bytes, written. Room n begins at n R.
    message_memory: exactly 32,768 bytes, written. Room n begins at 4,096 n.
-   memory:         any number of bytes, 0 too, read and written by requests. Its
-                   first byte has the address 0.
-   response:       263 bytes or more, whatever the packet is. The first 263 may be
-                   written.
+   response:       7 bytes or more. The first 7 may be written.
    packet:         any number of bytes, read.
-   Answers HELD, DELIVERED, MESSAGE, DONE or REFUSED, by the first that holds: 12
-   (the state has another length than 164); 19; 12 (another buffer has the wrong
-   one); 1 (under 5 bytes), 2, 3, 4; 1 (under 7 bytes); then for type 9: 5; 1 (a
-   start, an end or a single, under 9 bytes); 6 to 11; for type 11: 20 to 25; for
-   types 2, 5 and 6: 1 (under 11 bytes, type 6 under 9), 31, 32, 30.
+   Answers HELD, DELIVERED, MESSAGE or REFUSED, by the first that holds: 12 (the
+   state has another length than 164); 19; 12 (another buffer has the wrong one);
+   1 (under 5 bytes), 2, 3, 4; 1 (under 7 bytes); then for type 9: 5; 1 (a start,
+   an end or a single, under 9 bytes); 6 to 11; for type 11: 20 to 25.
    The lengths of a response and of a packet are those with IDs of 16 bits. With
-   IDs of 8 bits each is 2 less: 261 bytes of response or more, of which the first
-   261 may be written; packets under 3, 5, 7 and 9 bytes. 2 is for IDs that are not
-   of our width.
+   IDs of 8 bits each is 2 less: 5 bytes of response or more, of which the first 5
+   may be written; packets under 3, under 5 and under 7 bytes. 2 is for IDs that
+   are not of our width.
      type 9 accepted   its data go into a stream room, and the context's words
                        are written: all 0 where the PDU is whole.
      type 11 accepted  its data go into a message room, the context's words are
                        written, all 0 where the message is whole, and the
                        response, DONE.
-     NREAD served      the response is written, DONE, with the bytes that it names;
-                       of fewer than 8 with 0 beside them. All else stays.
-     writes served     the bytes that it names are written into the memory, and for
-                       NWRITE_R the response, DONE. All else stays.
      refused           19, 12, 1 to 5, 8, 10: all stays. 6, 7, 9, 11: the context
                        of its flow is closed if it was open, all else stays.
                        20 to 25: the response is written, ERROR, or RETRY for
-                       25; all else stays. 30, 31, 32: for NREAD and NWRITE_R the
-                       response is written, ERROR; all else stays.
+                       25; all else stays.
    The flow of a type 9 packet is its source, its priority (byte 0, the upper two
    bits) and its cos, and these are what a delivery says.
    A response is a whole type 13 packet, with IDs of our width. It is the caller
@@ -389,22 +339,20 @@ struct kaiverohm_answer kaiverohm_setup(uint64_t *state, size_t state_words,
 struct kaiverohm_report kaiverohm_read(uint64_t *state, size_t state_words,
                                        uint8_t *stream_memory, size_t stream_length,
                                        uint8_t *message_memory, size_t message_length,
-                                       uint8_t *memory, size_t memory_length,
                                        uint8_t *response, size_t response_length,
                                        const uint8_t *packet, size_t packet_length);
+/* clang-format on */
 
 /* Reads many packets, as kaiverohm_read would one after another. The state
    and the lengths are tested once.
 
-   state, stream_memory, message_memory, memory: as in kaiverohm_read.
-   responses:  263 bytes or more, with IDs of 8 bits 261; under that it is refused
-               by 12. The responses stand there one behind the other, with nothing
-               between them: that of packet k has report.response bytes, from
-               report.response_at on. A packet is read where 263 bytes are left
-               behind the responses before it, with IDs of 8 bits 261. So 263 bytes
-               for each packet are always enough.
-   reports:    11 words for each packet: a struct kaiverohm_report, from 11 k on.
-               An array of them may be lent, as (uint64_t *)array and 11 words
+   state, stream_memory, message_memory: as in kaiverohm_read.
+   responses:  8 bytes for each packet, at either width; under 7 in all is
+               refused by 12, with IDs of 8 bits under 5. Packet k may write the
+               first 7 of the 8 bytes from 8 k on, with IDs of 8 bits the first
+               5; report k says whether it did.
+   reports:    10 words for each packet: a struct kaiverohm_report, from 10 k on.
+               An array of them may be lent, as (uint64_t *)array and 10 words
                for each. Any length is allowed, 0 too: it only bounds how many
                packets are read.
    burst:      records, each a length and that many packet bytes, read. A
@@ -413,16 +361,16 @@ struct kaiverohm_report kaiverohm_read(uint64_t *state, size_t state_words,
                kaiverohm_write_record writes one.
    pause:      0, or another number to stop behind each delivery.
    It reads packets until the end of the burst, a record that is none, the last
-   packet that has 11 words of report and 263 bytes of response, or, with pause, a
-   packet that delivers a PDU or a message. Behind a request it does not pause.
+   packet that has 10 words of report and 8 bytes of response, or, with pause, a
+   packet that delivers a PDU or a message.
    Answers
      END       all were read.
      BAD       the record at next is cut, or its length is none. All before it
                were read. It is BAD also where there is no room: BAD comes
                before FULL.
-     FULL      a whole record stands at next and has no room. Send the responses
-               and call again from there; but where count is 0, with more room:
-               under 11 words of reports no packet is ever read.
+     FULL      a whole record stands at next and has no room. Call again from
+               there; but where count is 0, with more room: under 10 words of
+               reports or 8 bytes of responses no packet is ever read.
      DELIVERY  the last report delivers. Take its bytes out of the room, then
                call again from next, also where no record is left: that call
                says END.
@@ -431,19 +379,15 @@ struct kaiverohm_report kaiverohm_read(uint64_t *state, size_t state_words,
    Words and bytes behind the last report and its response stay.
    Without pause a later packet of the same burst may use the room of a PDU or a
    message that was delivered, since its context is free again: then only the
-   reports and the responses are good. So call with pause where the bytes are
-   wanted.
-   Promise: crates/c_bursts/specs/Bursts.antt, BurstPromise; of the responses,
-   crates/c_promises/specs/OfCalls.antt, BurstResponds. */
+   reports are good. So call with pause where the bytes are wanted.
+   Promise: crates/c_bursts/specs/Bursts.antt, BurstPromise. */
 struct kaiverohm_burst kaiverohm_read_burst(uint64_t *state, size_t state_words,
                                             uint8_t *stream_memory, size_t stream_length,
                                             uint8_t *message_memory, size_t message_length,
-                                            uint8_t *memory, size_t memory_length,
                                             uint8_t *responses, size_t responses_length,
                                             uint64_t *reports, size_t report_words,
                                             const uint8_t *burst, size_t burst_length,
                                             uint64_t pause);
-/* clang-format on */
 
 /* What stream context n holds, or message context n. A held segment's answer
    does not say which context it went to: ask after all 16 and look for its source,
@@ -556,20 +500,17 @@ struct kaiverohm_desk {
     size_t stream_length;
     uint8_t *message_memory; /* KAIVEROHM_MESSAGE_MEMORY bytes */
     size_t message_length;
-    uint8_t *memory; /* any number of bytes, which boards read and write */
-    size_t memory_length;
-    uint8_t *response; /* KAIVEROHM_RESPONSE_ROOM; for bursts as many a packet */
+    uint8_t *response; /* KAIVEROHM_RESPONSE_BYTES; for bursts KAIVEROHM_SLOT_BYTES a packet */
     size_t response_length;
 };
 
-/* What a desk begins with, from five arrays. A pointer in the place of one would
-   count as 8 bytes: of the memory boards then have the first 8, the others are
-   refused by 12. Who lends boards no memory writes the struct out, with a pointer
-   that is not NULL and a length of 0. */
-#define KAIVEROHM_DESK(STATE, STREAMS, MESSAGES, MEMORY, RESPONSE) \
+/* What a desk begins with, from four arrays. A pointer in the place of one would
+   count as 8 bytes: the first three are then refused by 12, and the fourth has
+   room for one response. */
+#define KAIVEROHM_DESK(STATE, STREAMS, MESSAGES, RESPONSE) \
     { \
         (STATE), sizeof(STATE) / sizeof((STATE)[0]), (STREAMS), sizeof(STREAMS), (MESSAGES), \
-            sizeof(MESSAGES), (MEMORY), sizeof(MEMORY), (RESPONSE), sizeof(RESPONSE) \
+            sizeof(MESSAGES), (RESPONSE), sizeof(RESPONSE) \
     }
 
 static inline struct kaiverohm_answer kaiverohm_desk_setup(const struct kaiverohm_desk *desk,
@@ -582,9 +523,8 @@ static inline struct kaiverohm_report
 kaiverohm_desk_read(const struct kaiverohm_desk *desk, const uint8_t *packet, size_t packet_length)
 {
     return kaiverohm_read(desk->state, desk->state_words, desk->stream_memory, desk->stream_length,
-                          desk->message_memory, desk->message_length, desk->memory,
-                          desk->memory_length, desk->response, desk->response_length, packet,
-                          packet_length);
+                          desk->message_memory, desk->message_length, desk->response,
+                          desk->response_length, packet, packet_length);
 }
 
 /* With an array of `count` reports. The responses go into the desk's response. */
@@ -595,8 +535,7 @@ static inline struct kaiverohm_burst kaiverohm_desk_read_burst(const struct kaiv
 {
     return kaiverohm_read_burst(desk->state, desk->state_words, desk->stream_memory,
                                 desk->stream_length, desk->message_memory, desk->message_length,
-                                desk->memory, desk->memory_length, desk->response,
-                                desk->response_length, &reports->kind,
+                                desk->response, desk->response_length, &reports->kind,
                                 KAIVEROHM_REPORT_WORDS * count, burst, burst_length, pause);
 }
 

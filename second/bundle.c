@@ -3,7 +3,7 @@
 #include <stdlib.h>
 #include <string.h>
 
-enum { MOST_SECTIONS = 80 };
+enum { MOST_SECTIONS = 60 };
 
 static struct buffer all_in;
 static struct buffer all_out;
@@ -21,10 +21,8 @@ static unsigned section_count;
 
 void section(const char *name)
 {
-    if (section_count == MOST_SECTIONS) {
-        fputs("too many sections\n", stderr);
+    if (section_count == MOST_SECTIONS)
         exit(1);
-    }
     sections[section_count++].name = name;
 }
 

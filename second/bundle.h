@@ -73,10 +73,6 @@ void bundle_broken(void);
 void bundle_priorities(void);
 void bundle_priority_mixes(void);
 
-/* Memory requests, alone and between other packets. */
-void bundle_memory(void);
-void bundle_memory_mixes(void);
-
 /* With IDs of 8 bits alone. */
 void bundle_widths(void);
 

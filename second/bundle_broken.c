@@ -125,12 +125,12 @@ static void record_lengths(void)
 
 /* ---- The largest logs ---------------------------------------------------- */
 
-/* Records of a type that is refused fill the log up to its size. */
+/* Zero-length records and one record fill the log up to its size. */
 static void fill_up(size_t size)
 {
     while (size - log_size() > 128)
-        put_long(0x18, 0, 0, 100);
-    put_long(0x18, 0, 0, size - log_size() - 1);
+        put_long(0x12, 0, 0, 100);
+    put_long(0x12, 0, 0, size - log_size() - 1);
 }
 
 static void put_shuffled(struct random *random, unsigned msglen, unsigned code)

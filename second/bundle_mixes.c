@@ -161,11 +161,8 @@ static void put_other_width(struct random *random, const struct sender *sender)
         put(widened(packet_of(sender->pdu, sender->next)));
 }
 
-/* What comes between: a segment of a message, or a memory request. */
-typedef struct packet packet_between(struct random *random);
-
 static void allowed_losses(struct random *random, flow_by_number *flow_of, unsigned flows,
-                           unsigned each, packet_between *other)
+                           unsigned each)
 {
     struct sender senders[16];
     struct buffer pdus = { 0 };
@@ -174,7 +171,7 @@ static void allowed_losses(struct random *random, flow_by_number *flow_of, unsig
     while (remaining(senders, flows) > 0) {
         struct sender *sender = &senders[below(random, flows)];
         if (one_in(random, 8))
-            put(other(random));
+            put(random_segment(random));
         put_other_width(random, sender);
         if (has_packet(sender))
             send_next(random, sender, &pdus);
@@ -214,7 +211,7 @@ static void put_damaged(struct random *random, struct packet packet, unsigned ch
 
 /* Lost, damaged and doubled packets, on more flows than contexts. */
 static void damage(struct random *random, flow_by_number *flow_of, unsigned flows, unsigned packets,
-                   unsigned chance, packet_between *other)
+                   unsigned chance)
 {
     struct sender senders[24];
     start_senders(senders, flow_of, flows, packets);
@@ -226,7 +223,7 @@ static void damage(struct random *random, flow_by_number *flow_of, unsigned flow
         put_damaged(random, packet_of(sender->pdu, sender->next), chance);
         sender->next++;
         if (one_in(random, 4))
-            put_damaged(random, other(random), chance);
+            put_damaged(random, random_segment(random), chance);
     }
     finish();
 }
@@ -257,13 +254,13 @@ void bundle_mixes(void)
 
     section("random losses as demand 3 allows them");
     for (unsigned flows = 1; flows <= 16; flows += 3)
-        allowed_losses(&random, by_source_and_cos, flows, 24 / flows + 1, random_segment);
+        allowed_losses(&random, by_source_and_cos, flows, 24 / flows + 1);
 
     section("random losses and damage");
     for (unsigned i = 0; i < 2; i++) {
-        damage(&random, by_source_and_cos, 3, 60, 6, random_segment);
-        damage(&random, by_source_and_cos, 16, 70, 10, random_segment);
-        damage(&random, by_source_and_cos, 24, 70, 12, random_segment);
+        damage(&random, by_source_and_cos, 3, 60, 6);
+        damage(&random, by_source_and_cos, 16, 70, 10);
+        damage(&random, by_source_and_cos, 24, 70, 12);
     }
 
     section("random bytes");
@@ -364,47 +361,12 @@ void bundle_priority_mixes(void)
                 neighbours_and_another(first, i, k);
 
     section("random losses, by priority");
-    allowed_losses(&random, by_priority, 2, 5, random_segment);
-    allowed_losses(&random, by_priority, 4, 3, random_segment);
-    allowed_losses(&random, by_priority, 16, 2, random_segment);
+    allowed_losses(&random, by_priority, 2, 5);
+    allowed_losses(&random, by_priority, 4, 3);
+    allowed_losses(&random, by_priority, 16, 2);
 
     section("random losses and damage, by priority");
-    damage(&random, by_priority, 24, 40, 12, random_segment);
+    damage(&random, by_priority, 24, 40, 12);
     wrong_priorities(&random, 2, 30);
     wrong_priorities(&random, 8, 40);
-}
-
-/* ---- Memory requests between ---------------------------------------------- */
-
-/* A segment of a message, or a memory request. */
-static struct packet random_other(struct random *random)
-{
-    return one_in(random, 3) ? random_segment(random) : random_request(random);
-}
-
-/* Only requests, some of them damaged. */
-static void requests_alone(struct random *random, unsigned count, unsigned chance)
-{
-    begin("memory requests");
-    for (unsigned i = 0; i < count; i++)
-        put_damaged(random, random_request(random), chance);
-    finish();
-}
-
-void bundle_memory_mixes(void)
-{
-    struct random random = seeded(9);
-
-    section("memory: random requests");
-    requests_alone(&random, 60, 30);
-    requests_alone(&random, 60, 6);
-
-    section("memory: random losses as demand 3 allows them");
-    allowed_losses(&random, by_source_and_cos, 1, 8, random_other);
-    allowed_losses(&random, by_source_and_cos, 16, 2, random_other);
-    allowed_losses(&random, by_priority, 4, 4, random_other);
-
-    section("memory: random losses and damage");
-    damage(&random, by_source_and_cos, 3, 40, 6, random_other);
-    damage(&random, by_priority, 24, 50, 12, random_other);
 }

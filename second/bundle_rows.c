@@ -132,26 +132,14 @@ static void row_3(void)
     }
 }
 
-/* Types 2, 5 and 6 pass. As a start of type 2 or 5 has it, transaction 0 is
-   reserved; a start of type 6 has an address far past the memory. Bare ones are
-   too short, or have two bytes of data. */
 static void row_4(void)
 {
     section("row 4");
     for (unsigned type = 0; type < 16; type++) {
-        const struct packet bare = bare_packet(our_tt(), type, 1, at(5) + type);
         if (type == 9 || type == 11)
             continue;
-        if (type == 2 || type == 5) {
-            leaves_all("4: not type 2 or 5", 31, with_type(start(), 0, type));
-            message_refused("4: not type 2 or 5", 1, bare);
-        } else if (type == 6) {
-            leaves_all("4: not type 6", 30, with_type(start(), 0, type));
-            message_refused("4: not type 6", 32, bare);
-        } else {
-            leaves_all("4: another type", 4, with_type(start(), 0, type));
-            message_refused("4: another type", 4, bare);
-        }
+        leaves_all("4: another type", 4, with_type(start(), 0, type));
+        message_refused("4: another type", 4, bare_packet(our_tt(), type, 1, at(5) + type));
     }
 }
 
@@ -544,17 +532,17 @@ static void order_of_heads(void)
     section("two rows at once: rows 1 to 5");
     leaves_all("1 before 2", 1, cut_to(with_flipped(start(), 0, 0x10), at(4)));
     leaves_all("1 before 3", 1, cut_to(for_another(start()), at(4)));
-    leaves_all("1 before 4", 1, bare_packet(our_tt(), 8, 1, at(4)));
+    leaves_all("1 before 4", 1, bare_packet(our_tt(), 5, 1, at(4)));
     leaves_all("2 before 3", 2, with_flipped(for_another(start()), 0, 0x10));
-    leaves_all("2 before 4", 2, bare_packet(2, 8, 1, 20));
+    leaves_all("2 before 4", 2, bare_packet(2, 5, 1, 20));
     leaves_all("2 before 1", 2, cut_to(with_flipped(start(), 0, 0x30), at(5)));
-    leaves_all("2 before 3, 4 and 1", 2, bare_packet(other_tt(), 8, 9, at(5)));
-    leaves_all("3 before 4", 3, bare_packet(our_tt(), 8, 9, 20));
+    leaves_all("2 before 3, 4 and 1", 2, bare_packet(other_tt(), 5, 9, at(5)));
+    leaves_all("3 before 4", 3, bare_packet(our_tt(), 5, 9, 20));
     leaves_all("3 before 1", 3, cut_to(for_another(start()), at(6)));
     leaves_all("3 before 5", 3, for_another(with_flipped(start(), at(6), BIT_XH)));
     leaves_all("3 before 6", 3, for_another(with_flipped(start(), at(6), BIT_O)));
     message_refused("3 before 20", 3, for_another(message_packet(box, 0, 0, 0, 8)));
-    leaves_all("4 before 1", 4, bare_packet(our_tt(), 8, 1, at(5)));
+    leaves_all("4 before 1", 4, bare_packet(our_tt(), 5, 1, at(5)));
     leaves_all("4 before 1", 4, bare_packet(our_tt(), 13, 1, at(6)));
     for (int i = 0; i < 4; i++) {
         struct packet extended = with_flipped(full(kinds[i]), at(6), BIT_XH);

@@ -86,21 +86,10 @@ static void add_id(struct packet *packet, unsigned id)
     add(packet, id & 255);
 }
 
-static void add_word(struct packet *packet, uint64_t value)
-{
-    add_half_word(packet, value >> 16 & 65535);
-    add_half_word(packet, value & 65535);
-}
-
-static void add_bytes(struct packet *packet, unsigned seed, size_t bytes)
-{
-    for (size_t i = 0; i < bytes; i++)
-        add(packet, (unsigned)(seed + 7 * i + 1));
-}
-
 static void add_data(struct packet *packet, size_t bytes)
 {
-    add_bytes(packet, packet->bytes[at(5)], bytes);
+    for (size_t i = 0; i < bytes; i++)
+        add(packet, (unsigned)(packet->bytes[at(5)] + 7 * i + 1));
 }
 
 /* Priority, tt and type; from a source to our device. */
@@ -161,65 +150,6 @@ struct packet message_packet(struct box box, unsigned msglen, unsigned ssize, un
     add(&packet, box.letter << 6 | box.mbox << 4 | msgseg);
     add_data(&packet, bytes);
     return packet;
-}
-
-/* Writes of different boards and to different places have different bytes. */
-static unsigned seed_of(struct asker asker, uint64_t address)
-{
-    return asker.tid + 13 * (unsigned)(address / 8);
-}
-
-/* Address 29, wdptr 1, xamsbs 2. */
-static void add_address(struct packet *packet, uint64_t address, unsigned wdptr)
-{
-    add_word(packet, (address & 0xFFFFFFF8) | wdptr << 2 | (address >> 32 & 3));
-}
-
-struct packet request_packet(struct asker asker, unsigned request, unsigned size, uint64_t address,
-                             size_t bytes)
-{
-    struct packet packet = head_of(asker.priority, request >> 4, asker.source);
-    add(&packet, (request & 15) << 4 | (size & 15));
-    add(&packet, asker.tid);
-    add_address(&packet, address, size >> 4);
-    add_bytes(&packet, seed_of(asker, address), bytes);
-    return packet;
-}
-
-struct packet swrite_packet(struct asker asker, uint64_t address, size_t bytes)
-{
-    struct packet packet = head_of(asker.priority, 6, asker.source);
-    add_address(&packet, address, 0);
-    add_bytes(&packet, seed_of(asker, address), bytes);
-    return packet;
-}
-
-struct packet random_request(struct random *random)
-{
-    static const unsigned requests[] = { NREAD, NREAD, NREAD, NWRITE, NWRITE_R };
-    struct asker asker;
-    asker.priority = below(random, 4);
-    asker.source = below(random, 4);
-    asker.tid = below(random, 256);
-    uint64_t address = 8 * (uint64_t)below(random, 16);
-    if (one_in(random, 8))
-        address = 3840 + 8 * (uint64_t)below(random, 40);
-    if (one_in(random, 16))
-        address |= (uint64_t)below(random, 4) << 32;
-    size_t bytes = 8 * (size_t)between(random, 1, 4);
-    if (one_in(random, 12))
-        bytes = below(random, 40);
-    if (one_in(random, 4))
-        return swrite_packet(asker, address, bytes);
-    unsigned request = requests[below(random, 5)];
-    unsigned size = below(random, 32);
-    if (one_in(random, 10))
-        request = request >> 4 << 4 | below(random, 16);
-    if (!one_in(random, 12) && request >> 4 == 2)
-        bytes = 0;
-    if (!one_in(random, 12) && request >> 4 == 5 && size % 16 < 11)
-        bytes = 8;
-    return request_packet(asker, request, size, address, bytes);
 }
 
 struct packet bare_packet(unsigned tt, unsigned type, unsigned destination, size_t length)
@@ -290,15 +220,4 @@ struct packet widened(struct packet packet)
     for (size_t i = 3; i < packet.length; i++)
         add(&wide, packet.bytes[i]);
     return wide;
-}
-
-struct packet narrowed(struct packet packet)
-{
-    struct packet narrow = { .length = 0 };
-    add(&narrow, packet.bytes[0] & 0xCF);
-    add(&narrow, packet.bytes[2]);
-    add(&narrow, packet.bytes[4]);
-    for (size_t i = 5; i < packet.length; i++)
-        add(&narrow, packet.bytes[i]);
-    return narrow;
 }

@@ -78,29 +78,6 @@ struct box {
 struct packet message_packet(struct box box, unsigned msglen, unsigned ssize, unsigned msgseg,
                              size_t bytes);
 
-/* Who sends a memory request, and which. */
-struct asker {
-    unsigned priority;
-    unsigned source;
-    unsigned tid; /* srcTID */
-};
-
-/* 16 times the type and the transaction. */
-enum { NREAD = 0x24, NWRITE = 0x54, NWRITE_R = 0x55 };
-
-/* Types 2 and 5, with any transaction, for any number of data bytes. The size is
-   16 times wdptr and the code. Of the address 34 bits count, without the last
-   three. */
-struct packet request_packet(struct asker asker, unsigned request, unsigned size, uint64_t address,
-                             size_t bytes);
-
-/* Type 6, likewise. */
-struct packet swrite_packet(struct asker asker, uint64_t address, size_t bytes);
-
-/* A memory request of any size, mostly inside a memory of 4,096 bytes, with a payload
-   that is mostly right. Few places, so that reads often find what was written. */
-struct packet random_request(struct random *random);
-
 /* Byte 0 and two IDs with any fields, and zeros behind them. */
 struct packet bare_packet(unsigned tt, unsigned type, unsigned destination, size_t length);
 
@@ -120,8 +97,7 @@ struct packet from_device(struct packet packet, unsigned source);
 struct packet cut_to(struct packet packet, size_t length);
 struct packet longer_by(struct packet packet, size_t bytes);
 
-/* A packet with IDs of 8 bits as it is with IDs of 16, and the other way round. */
+/* A packet with IDs of 8 bits as it is with IDs of 16. */
 struct packet widened(struct packet packet);
-struct packet narrowed(struct packet packet);
 
 #endif

@@ -5,7 +5,7 @@
    Numbers that differ by the width of the IDs stand here twice, as written out
    by hand. What differs in places alone is tried at both widths (both_widths). */
 
-#include "check.h"
+#include "cases.h"
 
 #include <stdio.h>
 #include <stdlib.h>
@@ -13,7 +13,7 @@
 
 static unsigned checks;
 
-void must(bool holds, const char *what)
+static void must(bool holds, const char *what)
 {
     checks++;
     if (holds)
@@ -22,17 +22,18 @@ void must(bool holds, const char *what)
     exit(1);
 }
 
-bool refused_by(struct second_answer answer, unsigned number)
+static bool refused_by(struct second_answer answer, unsigned number)
 {
     return answer.kind == SECOND_REFUSED && answer.refusal == number && !answer.dropped;
 }
 
-bool same(const void *one, const void *other, size_t count)
+static bool same(const void *one, const void *other, size_t count)
 {
     return count == 0 || memcmp(one, other, count) == 0;
 }
 
-uint8_t *block(size_t length, unsigned value)
+/* A block of exactly this length. */
+static uint8_t *block(size_t length, unsigned value)
 {
     uint8_t *bytes = malloc(length > 0 ? length : 1);
     if (bytes == NULL)
@@ -41,31 +42,24 @@ uint8_t *block(size_t length, unsigned value)
     return bytes;
 }
 
-struct second_lent lend_memory(uint64_t room, size_t memory, unsigned value)
+/* Memories for rooms of R, and a response buffer of 9. */
+static struct second_lent lend(uint64_t room)
 {
     const struct second_lent lent = {
         .stream_memory = block(16 * room, 0xEE),
         .stream_length = 16 * room,
         .message_memory = block(SECOND_MESSAGE_MEMORY, 0xEE),
         .message_length = SECOND_MESSAGE_MEMORY,
-        .memory = block(memory, value),
-        .memory_length = memory,
-        .response = block(RESPONSE_LENT, 0xEE),
-        .response_length = RESPONSE_LENT,
+        .response = block(9, 0xEE),
+        .response_length = 9,
     };
     return lent;
 }
 
-struct second_lent lend(uint64_t room)
-{
-    return lend_memory(room, 64, 0xEE);
-}
-
-void give_back(struct second_lent lent)
+static void give_back(struct second_lent lent)
 {
     free(lent.stream_memory);
     free(lent.message_memory);
-    free(lent.memory);
     free(lent.response);
 }
 
@@ -467,8 +461,8 @@ static void rooms(void)
 
 /* ---- Reading, beside the logs -------------------------------------------- */
 
-struct second_answer read_one(struct second_endpoint *state, struct second_lent lent,
-                              struct packet packet)
+static struct second_answer read_one(struct second_endpoint *state, struct second_lent lent,
+                                     struct packet packet)
 {
     uint8_t *bytes = block(packet.length, 0);
     memcpy(bytes, packet.bytes, packet.length);
@@ -480,11 +474,7 @@ struct second_answer read_one(struct second_endpoint *state, struct second_lent 
 static void row_12(void)
 {
     const struct flow flow = { .priority = 0, .source = 2, .cos = 5 };
-    const struct box box = { .priority = 0, .source = 2, .letter = 1, .mbox = 2 };
-    const struct asker asker = { .priority = 0, .source = 2, .tid = 0x33 };
     const struct packet single = stream_packet(flow, SINGLE, 7, 32);
-    const struct packet message = message_packet(box, 0, 9, 0, 8);
-    const struct packet request = request_packet(asker, NREAD, 0, 0, 0);
     struct second_endpoint state = good_state();
     const struct second_endpoint before = state;
     struct second_lent lent = lend(100);
@@ -499,19 +489,12 @@ static void row_12(void)
     wrong.message_length = 32769;
     must(refused_by(read_one(&state, wrong, single), 12), "12: message memory long");
     wrong = lent;
-    wrong.response_length = eight_bits ? 260 : 262;
+    wrong.response_length = eight_bits ? 4 : 6;
     must(refused_by(read_one(&state, wrong, single), 12), "12: response short");
-    must(refused_by(read_one(&state, wrong, message), 12), "12: of a message");
-    must(refused_by(read_one(&state, wrong, request), 12), "12: of a memory request");
     must(refused_by(read_one(&state, wrong, cut_to(single, 0)), 12), "12 before 1");
-    wrong.response_length = 7;
-    must(refused_by(read_one(&state, wrong, single), 12), "12: room for a short response alone");
     must(same(&state, &before, sizeof state), "12 leaves all");
-    wrong.response_length = eight_bits ? 261 : 263;
+    wrong.response_length = eight_bits ? 5 : 7;
     must(refused_by(read_one(&state, wrong, cut_to(single, 0)), 1), "no more is needed");
-    wrong.memory_length = 0;
-    must(refused_by(read_one(&state, wrong, request), 30), "no length of the memory is 12");
-    must(refused_by(read_one(&state, wrong, cut_to(single, 0)), 1), "none at all");
     wrong.response_length = 0;
     state.mtu = 0;
     must(refused_by(read_one(&state, wrong, single), 19), "19 before 12");
@@ -783,14 +766,14 @@ static void mixed_message(void)
 
 /* ---- Both widths, byte by byte -------------------------------------------- */
 
-static uint8_t kept[SECOND_RESPONSE_ROOM];
+static uint8_t kept[7];
 
 /* Reads one packet at a fresh endpoint, with a response buffer of exactly the
    bytes that the width needs. What stands in it then is kept. */
 static struct second_answer read_fresh(uint16_t device, uint64_t width, const uint8_t *bytes,
                                        size_t length)
 {
-    const size_t response = width ? 261 : 263;
+    const size_t response = width ? 5 : 7;
     struct packet packet = { .length = length };
     struct second_endpoint state;
     struct second_lent lent = lend(64);
@@ -807,43 +790,33 @@ static struct second_answer read_fresh(uint16_t device, uint64_t width, const ui
 
 /* Row 1: every length below the limit, and the limit itself, where another row
    comes to speak: 2, 3 and 4 behind the first limit, 5, 6 and 20 behind the
-   second, 6 behind the third; 31, 32 and 30 behind the limits of memory requests. */
+   second, 6 behind the third. */
 static void limits(void)
 {
     static const struct {
         uint64_t width;
         size_t limit;
         unsigned number;
-        uint8_t bytes[11];
+        uint8_t bytes[9];
     } cases[] = {
         { 0, 5, 2, { 0x09, 0, 1, 0, 2 } },
         { 0, 5, 3, { 0x19, 0, 3, 0, 2 } },
-        { 0, 5, 4, { 0x18, 0, 1, 0, 2 } },
+        { 0, 5, 4, { 0x15, 0, 1, 0, 2 } },
         { 0, 7, 5, { 0x19, 0, 1, 0, 2, 5, 0xC4 } },
         { 0, 7, 6, { 0x19, 0, 1, 0, 2, 5, 0x00 } },
         { 0, 7, 20, { 0x1B, 0, 1, 0, 2, 8, 0x60 } },
         { 0, 9, 6, { 0x19, 0, 1, 0, 2, 5, 0x80, 0, 7 } },
         { 0, 9, 6, { 0x19, 0, 1, 0, 2, 5, 0x40, 0, 7 } },
         { 0, 9, 6, { 0x19, 0, 1, 0, 2, 5, 0xC0, 0, 7 } },
-        { 0, 11, 31, { 0x12, 0, 1, 0, 2, 0xCB, 0x33, 0, 0, 0, 0x10 } },
-        { 0, 11, 30, { 0x12, 0, 1, 0, 2, 0x4B, 0x33, 0, 0, 0, 0x02 } },
-        { 0, 11, 31, { 0x15, 0, 1, 0, 2, 0x5D, 0x33, 0, 0, 0, 0x10 } },
-        { 0, 11, 32, { 0x15, 0, 1, 0, 2, 0x4B, 0x33, 0, 0, 0, 0x10 } },
-        { 0, 9, 32, { 0x16, 0, 1, 0, 2, 0, 0, 0, 0x10 } },
         { 1, 3, 2, { 0x19, 1, 2 } },
         { 1, 3, 3, { 0x09, 3, 2 } },
-        { 1, 3, 4, { 0x08, 1, 2 } },
+        { 1, 3, 4, { 0x05, 1, 2 } },
         { 1, 5, 5, { 0x09, 1, 2, 5, 0xC4 } },
         { 1, 5, 6, { 0x09, 1, 2, 5, 0x00 } },
         { 1, 5, 20, { 0x0B, 1, 2, 8, 0x60 } },
         { 1, 7, 6, { 0x09, 1, 2, 5, 0x80, 0, 7 } },
         { 1, 7, 6, { 0x09, 1, 2, 5, 0x40, 0, 7 } },
         { 1, 7, 6, { 0x09, 1, 2, 5, 0xC0, 0, 7 } },
-        { 1, 9, 31, { 0x02, 1, 2, 0xCB, 0x33, 0, 0, 0, 0x10 } },
-        { 1, 9, 30, { 0x02, 1, 2, 0x4B, 0x33, 0, 0, 0, 0x02 } },
-        { 1, 9, 31, { 0x05, 1, 2, 0x5D, 0x33, 0, 0, 0, 0x10 } },
-        { 1, 9, 32, { 0x05, 1, 2, 0x4B, 0x33, 0, 0, 0, 0x10 } },
-        { 1, 7, 32, { 0x06, 1, 2, 0, 0, 0, 0x10 } },
     };
     for (size_t i = 0; i < sizeof cases / sizeof cases[0]; i++)
         for (size_t length = 0; length <= cases[i].limit; length++) {
@@ -1043,8 +1016,6 @@ static struct packet random_packet(struct random *random, uint64_t mtu)
         packet = message_packet(box, below(random, 4), ssize, below(random, 5),
                                 one_in(random, 4) ? below(random, 30) : 8 * (ssize - 8));
     }
-    if (one_in(random, 3))
-        packet = random_request(random);
     if (eight_bits && one_in(random, 12))
         packet = widened(packet);
     if (one_in(random, 6))
@@ -1058,11 +1029,8 @@ struct outcome {
     const struct second_endpoint *before;
     const struct second_endpoint *after;
     struct second_answer answer;
-    bool rooms_same;
-    const uint8_t *memory_before;
-    const uint8_t *memory;
-    size_t memory_length;
-    const uint8_t *response; /* of RESPONSE_LENT bytes */
+    bool memory_same;
+    const uint8_t *response; /* of 9 bytes */
     const struct packet *packet;
 };
 
@@ -1074,7 +1042,7 @@ static bool closes_by(unsigned refusal)
 static void check_refused(const struct outcome *o)
 {
     bool state_same = same(o->before, o->after, sizeof *o->before);
-    must(o->rooms_same, "no refusal changes a room");
+    must(o->memory_same, "no refusal changes a room");
     if (closes_by(o->answer.refusal))
         must(o->answer.dropped == !state_same, "dropped exactly if a context was closed");
     else
@@ -1094,62 +1062,16 @@ static void check_priority(const struct outcome *o)
     must(o->answer.priority == (o->answer.kind == SECOND_PDU ? priority : 0), "its priority");
 }
 
-/* A packet's byte of document 01, where the endpoint has found its place. */
-static unsigned byte_of(const struct outcome *o, size_t place)
-{
-    return o->packet->bytes[o->before->eight_bits ? place - 2 : place];
-}
-
-/* A memory request is served: nothing else changes, and of the memory only what a
-   write names. */
-static void check_done(const struct outcome *o)
-{
-    const uint64_t from = o->answer.stream_or_mailbox;
-    const uint64_t length = o->answer.length;
-    const unsigned type = o->packet->bytes[0] & 15;
-    const uint8_t *payload = o->packet->bytes + (o->before->eight_bits ? 9 : 11);
-    if (type == 6)
-        payload -= 2;
-    must(same(o->before, o->after, sizeof *o->before) && o->rooms_same, "done: all else stays");
-    must(!o->answer.dropped && length >= 1 && length <= 256, "1 to 256 bytes");
-    must(from + length <= o->memory_length, "they are in the memory");
-    must(o->answer.cos_or_letter == (type == 6 ? 0x60 : 16 * type + byte_of(o, 5) / 16), "request");
-    for (uint64_t i = 0; i < o->memory_length; i++) {
-        bool written = type != 2 && i >= from && i < from + length;
-        uint8_t wanted = written ? payload[i - from / 8 * 8] : o->memory_before[i];
-        if (o->memory[i] != wanted)
-            must(false, "a byte of the memory");
-    }
-}
-
-/* Byte 5 that has to be in the response, transaction and status; -1 for no response. */
+/* The status that has to be in the response; -1 for no response. */
 static int wanted_status(const struct outcome *o)
 {
-    const bool is_refused = o->answer.kind == SECOND_REFUSED;
-    const unsigned request = 16 * (o->packet->bytes[0] & 15) + byte_of(o, 5) / 16;
-    if (o->answer.kind == SECOND_DONE && request == 0x24)
-        return 0x80;
-    if (o->answer.kind == SECOND_DONE)
-        return request == 0x55 ? 0x00 : -1;
-    if (is_refused && o->answer.refusal >= 30)
-        return request == 0x24 || request == 0x55 ? 0x07 : -1;
-    if (is_refused && o->answer.refusal == 25)
-        return 0x13;
-    if (is_refused && o->answer.refusal >= 20)
-        return 0x17;
-    if (is_refused || (o->packet->bytes[0] & 15) == 9)
+    if (o->answer.kind == SECOND_REFUSED && o->answer.refusal == 25)
+        return 3;
+    if (o->answer.kind == SECOND_REFUSED && o->answer.refusal >= 20)
+        return 7;
+    if (o->answer.kind == SECOND_REFUSED || (o->packet->bytes[0] & 15) == 9)
         return -1;
-    return 0x10;
-}
-
-/* Behind it the bytes that are read, in a double-word of zeros where they are few. */
-static void add_read(struct packet *response, const struct outcome *o)
-{
-    const uint64_t from = o->answer.stream_or_mailbox;
-    const uint64_t length = o->answer.length;
-    memset(response->bytes + response->length, 0, 8);
-    memcpy(response->bytes + response->length + from % 8, o->memory_before + from, length);
-    response->length += length < 8 ? 8 : length;
+    return 0;
 }
 
 /* The response to a packet, as the paper has it, of either width. */
@@ -1160,11 +1082,11 @@ static struct packet wanted_response(const struct outcome *o, unsigned status)
     const uint8_t *to = o->packet->bytes;
     if (o->before->eight_bits)
         return (struct packet){
-            .bytes = { of_8_bits[to[0] >> 6], to[2], 1, (uint8_t)status, to[4] },
+            .bytes = { of_8_bits[to[0] >> 6], to[2], 1, (uint8_t)(0x10 | status), to[4] },
             .length = 5,
         };
     return (struct packet){
-        .bytes = { of_16_bits[to[0] >> 6], to[3], to[4], 0, 1, (uint8_t)status, to[6] },
+        .bytes = { of_16_bits[to[0] >> 6], to[3], to[4], 0, 1, (uint8_t)(0x10 | status), to[6] },
         .length = 7,
     };
 }
@@ -1175,13 +1097,10 @@ static void check_response(const struct outcome *o)
     struct packet wanted = { .length = 0 };
     if (status >= 0)
         wanted = wanted_response(o, (unsigned)status);
-    if (status == 0x80)
-        add_read(&wanted, o);
     must(o->answer.response == wanted.length, "as many bytes as the answer says");
     must(same(o->response, wanted.bytes, wanted.length), "the response");
-    for (size_t i = wanted.length; i < RESPONSE_LENT; i++)
-        if (o->response[i] != 0xEE)
-            must(false, "no other byte of it");
+    for (size_t i = wanted.length; i < 9; i++)
+        must(o->response[i] == 0xEE, "no other byte of it");
 }
 
 static void one_random(struct random *random)
@@ -1190,23 +1109,16 @@ static void one_random(struct random *random)
     struct second_endpoint state = random_state(random);
     const struct second_endpoint before = state;
     uint64_t room = state.room > 65536 ? 50 : state.room;
-    static const size_t lengths[] = { 0, 1, 7, 8, 40, 255, 4096, 4096 };
-    size_t memory = lengths[below(random, 8)];
-    struct second_lent lent = lend_memory(room, memory, 0);
+    struct second_lent lent = lend(room);
     struct packet packet = random_packet(random, state.mtu);
-    struct second_lent copy = lend_memory(room, memory, 0);
-    for (size_t i = 0; i < memory; i++)
-        lent.memory[i] = copy.memory[i] = (uint8_t)(1 + i % 255);
+    struct second_lent copy = lend(room);
     struct second_answer answer = read_one(&state, lent, packet);
     const struct outcome outcome = {
         .before = &before,
         .after = &state,
         .answer = answer,
-        .rooms_same = same(lent.stream_memory, copy.stream_memory, 16 * room)
-                      && same(lent.message_memory, copy.message_memory, SECOND_MESSAGE_MEMORY),
-        .memory_before = copy.memory,
-        .memory = lent.memory,
-        .memory_length = memory,
+        .memory_same = same(lent.stream_memory, copy.stream_memory, 16 * room)
+                       && same(lent.message_memory, copy.message_memory, SECOND_MESSAGE_MEMORY),
         .response = lent.response,
         .packet = &packet,
     };
@@ -1214,10 +1126,6 @@ static void one_random(struct random *random)
     must(second_refusal19(&before) || !second_refusal19(&state), "a good state stays good");
     if (answer.kind == SECOND_REFUSED)
         check_refused(&outcome);
-    if (answer.kind == SECOND_DONE)
-        check_done(&outcome);
-    else
-        must(same(lent.memory, copy.memory, memory), "nothing else changes the memory");
     check_priority(&outcome);
     check_response(&outcome);
     give_back(lent);
@@ -1248,7 +1156,6 @@ static void both_widths(void)
     delivered_priority();
     example_8();
     mixed_message();
-    check_memory();
 }
 
 int main(void)

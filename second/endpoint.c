@@ -1,11 +1,6 @@
 #include "endpoint.h"
 
-#include "sizes.h"
-
 _Static_assert(sizeof(struct second_endpoint) == SECOND_STATE_WORDS * 8, "a state is 164 words");
-
-/* The most data of one packet: the largest maximum of table 4-4. */
-enum { LARGEST_PAYLOAD = 256 };
 
 /* ---- Small helpers ---------------------------------------------------- */
 
@@ -18,11 +13,6 @@ static void copy(uint8_t *to, const uint8_t *from, size_t count)
 static unsigned half_word(const uint8_t *bytes)
 {
     return (unsigned)bytes[0] << 8 | bytes[1];
-}
-
-static uint64_t word(const uint8_t *bytes)
-{
-    return (uint64_t)half_word(bytes) << 16 | half_word(bytes + 2);
 }
 
 static void put_half_word(uint8_t *bytes, uint64_t value)
@@ -102,11 +92,10 @@ static uint64_t ssize_bytes(uint64_t code)
     return (uint64_t)8 << (code - 9);
 }
 
-/* 8 to so many bytes, in eights: as a last segment holds them up to ssize, and a
-   payload of double-words up to its maximum. */
-static bool in_eights_up_to(uint64_t most, uint64_t length)
+/* A last segment holds 8 to ssize bytes, in eights. */
+static bool last_length_allowed(uint64_t length, uint64_t ssize)
 {
-    return length >= 8 && length <= most && length % 8 == 0;
+    return length >= 8 && length <= ssize && length % 8 == 0;
 }
 
 /* ---- Row 19: states that every call refuses ---------------------------- */
@@ -143,7 +132,7 @@ static bool bad_message(const struct second_message *c)
         return true;
     if (!marked(c, c->msglen))
         return c->last != 0;
-    return !in_eights_up_to(ssize_bytes(c->ssize), c->last);
+    return !last_length_allowed(c->last, ssize_bytes(c->ssize));
 }
 
 bool second_refusal19(const struct second_endpoint *state)
@@ -211,23 +200,6 @@ static bool is_stream(const struct reading *r)
 static bool is_message(const struct reading *r)
 {
     return type(r) == 11;
-}
-
-/* Type 2: reads. Type 5: writes. Type 6: streaming writes. */
-
-static bool is_read(const struct reading *r)
-{
-    return type(r) == 2;
-}
-
-static bool is_write(const struct reading *r)
-{
-    return type(r) == 5;
-}
-
-static bool is_swrite(const struct reading *r)
-{
-    return type(r) == 6;
 }
 
 /* Type 9: byte 5 cos; byte 6 S, E, three reserved bits, xh, O, P. */
@@ -343,76 +315,10 @@ static unsigned segment(const struct reading *r)
     return msglen(r) == 0 ? 0 : msgseg(r);
 }
 
-/* Types 2 and 5: byte 5 transaction 4, rdsize or wrsize 4; byte 6 srcTID; bytes
-   7-10 address 29, wdptr 1, xamsbs 2. Type 6: bytes 5-8 address 29, one reserved
-   bit, xamsbs 2. */
-
-static unsigned transaction(const struct reading *r)
-{
-    return is_swrite(r) ? 0 : r->packet[at(r, 5)] >> 4;
-}
-
-static bool is_nread(const struct reading *r)
-{
-    return is_read(r) && transaction(r) == 4;
-}
-
-static bool is_nwrite(const struct reading *r)
-{
-    return is_write(r) && transaction(r) == 4;
-}
-
-static bool is_nwrite_r(const struct reading *r)
-{
-    return is_write(r) && transaction(r) == 5;
-}
-
-/* The word in which the address stands. */
-static uint64_t address_word(const struct reading *r)
-{
-    return word(r->packet + at(r, is_swrite(r) ? 5 : 7));
-}
-
-/* 34 bits: xamsbs are the most significant two, the last three are 0. */
-static uint64_t address(const struct reading *r)
-{
-    uint64_t xamsbs = address_word(r) & 3;
-    return xamsbs << 32 | (address_word(r) & 0xFFFFFFF8);
-}
-
-/* The row of table 4-3 or 4-4. Every wdptr and code has one. Not for type 6. */
-static const struct size *size(const struct reading *r)
-{
-    const struct size *row = is_read(r) ? table_4_3 : table_4_4;
-    const unsigned wdptr = address_word(r) >> 2 & 1;
-    const unsigned code = r->packet[at(r, 5)] & 15;
-    while (row->wdptr != wdptr || row->code != code)
-        row++;
-    return row;
-}
-
-static bool names_lanes(const struct reading *r)
-{
-    return !is_swrite(r) && size(r)->form == LANES;
-}
-
-/* The first byte lane that is named. */
-static unsigned first_lane(const struct reading *r)
-{
-    unsigned lane = 0;
-    while (size(r)->lanes[lane] == '0')
-        lane++;
-    return lane;
-}
-
 /* Data begin behind the head. */
 
 static size_t head(const struct reading *r)
 {
-    if (is_read(r) || is_write(r))
-        return at(r, 11);
-    if (is_swrite(r))
-        return at(r, 9);
     if (is_stream(r) && (bit_s(r) || bit_e(r)))
         return at(r, 9);
     return at(r, 7);
@@ -435,20 +341,6 @@ static size_t data_bytes(const struct reading *r)
     if (is_stream(r) && bit_p(r))
         return raw_bytes(r) - 1;
     return raw_bytes(r);
-}
-
-/* The bytes that a memory request names: lanes of the double-word at the address,
-   or all from the address on. A write of whole double-words names as many as it
-   carries. */
-
-static uint64_t first_named(const struct reading *r)
-{
-    return names_lanes(r) ? address(r) + first_lane(r) : address(r);
-}
-
-static uint64_t named_bytes(const struct reading *r)
-{
-    return is_read(r) || names_lanes(r) ? size(r)->bytes : data_bytes(r);
 }
 
 /* ---- Finding contexts: the lower number counts ------------------------- */
@@ -531,7 +423,7 @@ static bool wrong_memory(const struct reading *r)
         return true;
     if (r->lent->message_length != SECOND_MESSAGE_MEMORY)
         return true;
-    return r->lent->response_length < at(r, SECOND_RESPONSE_ROOM);
+    return r->lent->response_length < at(r, SECOND_RESPONSE_BYTES);
 }
 
 /* The lengths of row 1 are those of document 01, at our width. */
@@ -551,9 +443,9 @@ static bool not_ours(const struct reading *r)
     return destination(r) != r->state->device;
 }
 
-static bool other_type(const struct reading *r)
+static bool not_9_or_11(const struct reading *r)
 {
-    return !is_stream(r) && !is_message(r) && !is_read(r) && !is_write(r) && !is_swrite(r);
+    return type(r) != 9 && type(r) != 11;
 }
 
 static bool under_7(const struct reading *r)
@@ -623,7 +515,7 @@ static bool wrong_message_length(const struct reading *r)
     if (!is_message(r))
         return false;
     if (segment(r) == msglen(r))
-        return !in_eights_up_to(ssize_bytes(ssize(r)), data_bytes(r));
+        return !last_length_allowed(data_bytes(r), ssize_bytes(ssize(r)));
     return data_bytes(r) != ssize_bytes(ssize(r));
 }
 
@@ -652,47 +544,9 @@ static bool no_message_free(const struct reading *r)
     return is_message(r) && !message_open(r) && free_message(r) == SECOND_MESSAGE_CONTEXTS;
 }
 
-/* Types 2 and 5 have a head of 11 bytes, type 6 one of 9. */
-static bool no_whole_request(const struct reading *r)
-{
-    if (is_swrite(r))
-        return r->length < at(r, 9);
-    return (is_read(r) || is_write(r)) && r->length < at(r, 11);
-}
-
-/* Tables 4-5 and 4-6, and the sizes. */
-static bool reserved_request(const struct reading *r)
-{
-    if (is_read(r))
-        return !is_nread(r);
-    if (is_write(r))
-        return (!is_nwrite(r) && !is_nwrite_r(r)) || size(r)->form == RESERVED;
-    return false;
-}
-
-static bool wrong_payload(const struct reading *r)
-{
-    if (is_read(r))
-        return data_bytes(r) != 0;
-    if (is_write(r) && names_lanes(r))
-        return data_bytes(r) != 8;
-    if (is_write(r))
-        return !in_eights_up_to(size(r)->bytes, data_bytes(r));
-    return is_swrite(r) && !in_eights_up_to(LARGEST_PAYLOAD, data_bytes(r));
-}
-
-/* Every byte named has to be in the memory; the others of its double-word do not. */
-static bool not_inside(const struct reading *r)
-{
-    if (!is_read(r) && !is_write(r) && !is_swrite(r))
-        return false;
-    return first_named(r) + named_bytes(r) > r->lent->memory_length;
-}
-
 /* ---- The refusal table, in the paper's order --------------------------- */
 
-/* ERROR_IF_ASKED: all, and ERROR where the transaction has a response. */
-enum leaves { ALL, CLOSED, ALL_AND_ERROR, ALL_AND_RETRY, ALL_AND_ERROR_IF_ASKED };
+enum leaves { ALL, CLOSED, ALL_AND_ERROR, ALL_AND_RETRY };
 
 /* clang-format off */
 static const struct row {
@@ -705,7 +559,7 @@ static const struct row {
     {  1, under_5,                 ALL },
     {  2, tt_not_ours,             ALL },
     {  3, not_ours,                ALL },
-    {  4, other_type,              ALL },
+    {  4, not_9_or_11,             ALL },
     {  1, under_7,                 ALL },
     {  5, extended,                ALL },
     {  1, s_or_e_under_9,          ALL },
@@ -721,10 +575,6 @@ static const struct row {
     { 23, another_msglen_or_ssize, ALL_AND_ERROR },
     { 24, already_marked,          ALL_AND_ERROR },
     { 25, no_message_free,         ALL_AND_RETRY },
-    {  1, no_whole_request,        ALL },
-    { 31, reserved_request,        ALL_AND_ERROR_IF_ASKED },
-    { 32, wrong_payload,           ALL_AND_ERROR_IF_ASKED },
-    { 30, not_inside,              ALL_AND_ERROR_IF_ASKED },
 };
 /* clang-format on */
 
@@ -741,36 +591,15 @@ static const struct row *first_row(const struct reading *r)
 
 enum status { DONE = 0, RETRY = 3, ERROR = 7 };
 
-enum transaction { NO_DATA = 0, OF_MESSAGE = 1, WITH_DATA = 8 };
-
-/* Answers how many bytes it has written. The last of them is the request's own:
-   target_info of a message, targetTID of a memory request. */
-static uint64_t respond(const struct reading *r, enum transaction of, enum status status)
+/* Answers how many bytes it has written. */
+static uint64_t respond(const struct reading *r, enum status status)
 {
     uint8_t *out = r->lent->response;
     unsigned above = priority(r) < 3 ? priority(r) + 1 : 3;
     put_head(out, r->state->eight_bits, above, 13, source(r), r->state->device);
-    out[at(r, 5)] = (uint8_t)(of << 4 | status);
+    out[at(r, 5)] = (uint8_t)(1 << 4 | status);
     out[at(r, 6)] = r->packet[at(r, 6)];
     return at(r, SECOND_RESPONSE_BYTES);
-}
-
-/* NWRITE and SWRITE have no response, nor has a reserved transaction. */
-static bool has_response(const struct reading *r)
-{
-    return is_nread(r) || is_nwrite_r(r);
-}
-
-/* DONE with the bytes that are read. A small read sends a double-word, and in it 0
-   beside its lanes. */
-static uint64_t respond_with_data(const struct reading *r)
-{
-    uint8_t *out = r->lent->response + at(r, SECOND_RESPONSE_BYTES);
-    uint64_t bytes = names_lanes(r) ? 8 : named_bytes(r);
-    for (uint64_t i = 0; i < bytes; i++)
-        out[i] = 0;
-    copy(out + (first_named(r) - address(r)), r->lent->memory + first_named(r), named_bytes(r));
-    return respond(r, WITH_DATA, DONE) + bytes;
 }
 
 /* ---- What a packet changes --------------------------------------------- */
@@ -792,11 +621,9 @@ static struct second_answer refuse(struct second_endpoint *state, const struct r
 {
     struct second_answer answer = refused(row->number);
     if (row->leaves == ALL_AND_ERROR)
-        answer.response = respond(r, OF_MESSAGE, ERROR);
+        answer.response = respond(r, ERROR);
     if (row->leaves == ALL_AND_RETRY)
-        answer.response = respond(r, OF_MESSAGE, RETRY);
-    if (row->leaves == ALL_AND_ERROR_IF_ASKED && has_response(r))
-        answer.response = respond(r, NO_DATA, ERROR);
+        answer.response = respond(r, RETRY);
     if (row->leaves == CLOSED && flow_open(r)) {
         answer.dropped = true;
         close_stream(state, flow_context(r));
@@ -927,33 +754,7 @@ static struct second_answer accept_message(struct second_endpoint *state, const 
 {
     struct second_answer answer =
         is_single_message(r) ? accept_single_message(state, r) : accept_multi_message(state, r);
-    answer.response = respond(r, OF_MESSAGE, DONE);
-    return answer;
-}
-
-/* A write's payload lies as its bytes do in memory, from the address on. */
-static void store_named(const struct reading *r)
-{
-    const uint8_t *from = data(r) + (first_named(r) - address(r));
-    copy(r->lent->memory + first_named(r), from, named_bytes(r));
-}
-
-static struct second_answer accept_request(const struct reading *r)
-{
-    struct second_answer answer = {
-        .kind = SECOND_DONE,
-        .source = source(r),
-        .cos_or_letter = 16 * type(r) + transaction(r),
-        .stream_or_mailbox = first_named(r),
-        .length = named_bytes(r),
-    };
-    if (is_nread(r)) {
-        answer.response = respond_with_data(r);
-        return answer;
-    }
-    store_named(r);
-    if (has_response(r))
-        answer.response = respond(r, NO_DATA, DONE);
+    answer.response = respond(r, DONE);
     return answer;
 }
 
@@ -982,9 +783,7 @@ struct second_answer second_read(struct second_endpoint *state, struct second_le
         return accept_start_or_single(state, r);
     if (is_continuation_or_end(r))
         return accept_continuation_or_end(state, r);
-    if (is_message(r))
-        return accept_message(state, r);
-    return accept_request(r);
+    return accept_message(state, r);
 }
 
 /* 47 first, then 18 before 19. Refused by them, it hands back a state of zeros. */

@@ -1,6 +1,6 @@
 /* The endpoint of document 01, written a second time: in C, from the paper,
-   requests M-100, M-103 and M-112 of document 02, document 000 and
-   docs/DECISIONS.md. It shares nothing with the proved code or its definitions.
+   requests M-103 and M-112 of document 02 and docs/DECISIONS.md. It shares
+   nothing with the proved code or its definitions.
 
    Every memory is lent and comes with its length. Nothing is kept between
    calls but the state. Any bytes, any lengths and any numbers in the state
@@ -20,8 +20,7 @@ enum {
     SECOND_MESSAGE_CONTEXTS = 8,
     SECOND_MESSAGE_ROOM = 4096,
     SECOND_MESSAGE_MEMORY = 32768,
-    SECOND_RESPONSE_BYTES = 7,  /* without data; with IDs of 8 bits 5 */
-    SECOND_RESPONSE_ROOM = 263, /* with IDs of 8 bits 261 */
+    SECOND_RESPONSE_BYTES = 7, /* with IDs of 8 bits 5 */
     SECOND_LARGEST_PDU = 65536
 };
 
@@ -63,10 +62,8 @@ struct second_lent {
     size_t stream_length; /* has to be 16 times R */
     uint8_t *message_memory;
     size_t message_length; /* has to be 32,768 */
-    uint8_t *memory;       /* what memory requests read and write, from address 0 on */
-    size_t memory_length;  /* may be anything */
     uint8_t *response;
-    size_t response_length; /* has to be 263 or more; with IDs of 8 bits 261 */
+    size_t response_length; /* has to be 7 or more; with IDs of 8 bits 5 */
 };
 
 enum second_kind {
@@ -77,14 +74,10 @@ enum second_kind {
     SECOND_MESSAGE,   /* reading: a message is delivered */
     SECOND_ABANDONED, /* abandon: the context was open and is closed */
     SECOND_WAS_FREE,  /* abandon: the context was free and stays so */
-    SECOND_WRITTEN,   /* writer: length is the packet's */
-    SECOND_DONE       /* reading: a memory request is served */
+    SECOND_WRITTEN    /* writer: length is the packet's */
 };
 
-/* Fields that a kind does not name are 0. A memory request that is served has its
-   source; its request, 16 times the type and the transaction, as cos_or_letter;
-   the address of the first byte that it names as stream_or_mailbox; and how many
-   bytes it names as length. */
+/* Fields that a kind does not name are 0. */
 struct second_answer {
     enum second_kind kind;
     unsigned refusal;

@@ -124,10 +124,8 @@ struct second_answer log_read(struct log_endpoint *endpoint, const uint8_t *pack
         .stream_length = sizeof endpoint->stream_memory,
         .message_memory = endpoint->message_memory,
         .message_length = sizeof endpoint->message_memory,
-        .memory = endpoint->memory,
-        .memory_length = sizeof endpoint->memory,
         .response = endpoint->response,
-        .response_length = SECOND_RESPONSE_ROOM - (endpoint->state.eight_bits ? 2 : 0),
+        .response_length = sizeof endpoint->response,
     };
     return second_read(&endpoint->state, lent, packet, length);
 }
@@ -152,8 +150,6 @@ void append_answer(struct buffer *out, struct second_answer answer)
 {
     if (answer.kind == SECOND_HELD)
         append_text(out, "held");
-    if (answer.kind == SECOND_DONE)
-        append_text(out, "done");
     if (answer.kind == SECOND_PDU)
         append_delivered(out, "pdu", answer);
     if (answer.kind == SECOND_MESSAGE)

@@ -9,7 +9,6 @@ enum {
     LOG_DEVICE = 1,
     LOG_MTU = 32,
     LOG_ROOM = 2048,
-    LOG_MEMORY = 4096,
     LARGEST_LOG = 65536,
     LARGEST_RECORD = 16383,
 };
@@ -38,8 +37,7 @@ struct log_endpoint {
     struct second_endpoint state;
     uint8_t stream_memory[SECOND_STREAM_CONTEXTS * LOG_ROOM];
     uint8_t message_memory[SECOND_MESSAGE_MEMORY];
-    uint8_t memory[LOG_MEMORY];
-    uint8_t response[SECOND_RESPONSE_ROOM]; /* the last two are not lent with IDs of 8 bits */
+    uint8_t response[SECOND_RESPONSE_BYTES];
 };
 
 void log_setup(struct log_endpoint *endpoint, bool eight_bits);

@@ -62,8 +62,6 @@ static void save_logs(void)
     bundle_broken();
     bundle_priorities();
     bundle_priority_mixes();
-    bundle_memory();
-    bundle_memory_mixes();
     save_bundle("crates/outside_logs/stdin", "crates/outside_logs/stdout", 524288);
 }
 
@@ -74,9 +72,7 @@ static void save_logs_of_8_bits(void)
     bundle_widths();
     bundle_priorities();
     bundle_priority_mixes();
-    bundle_memory();
-    bundle_memory_mixes();
-    save_bundle("crates/outside_narrow/stdin", "crates/outside_narrow/stdout", 327680);
+    save_bundle("crates/outside_narrow/stdin", "crates/outside_narrow/stdout", 262144);
     eight_bits = false;
 }
 

@@ -10,8 +10,7 @@ struct vectors {
     struct buffer out;
 };
 
-/* One clean log, of the width in use: messages and memory requests of every kind, and
-   what has no response. */
+/* One clean log, of the width in use: messages of every kind, and what has no response. */
 struct buffer responses_log(void);
 
 /* That log; each answer's line and the response behind it. */

@@ -1,5 +1,4 @@
-/* Responses to messages and to memory requests: one clean log, an answer and a
-   response for each record. */
+/* Message responses: one clean log, an answer and a response for each record. */
 
 #include "make.h"
 
@@ -138,92 +137,6 @@ static void mixed(void)
     }
 }
 
-/* ---- Memory requests ------------------------------------------------------ */
-
-static struct asker asker_of(unsigned number)
-{
-    const struct box box = box_of(number);
-    const struct asker asker = { box.priority, box.source, 37 * number % 256 };
-    return asker;
-}
-
-/* The size is 16 times wdptr and the code: 11 and below are one double-word. */
-static bool is_small(unsigned size)
-{
-    return size <= 0x0B || (size >= 0x10 && size <= 0x1A);
-}
-
-/* DONE with data: every size, at two places with bytes that differ. ERROR past the
-   memory and for a payload. */
-static void reads(void)
-{
-    for (unsigned i = 0; i < 5; i++)
-        send(swrite_packet(asker_of(i), i < 4 ? 256 * i : 3840, 256));
-    for (unsigned size = 0; size < 32; size++) {
-        const struct asker asker = asker_of(size);
-        send(request_packet(asker, NREAD, size, 8 * size, 0));
-        send(request_packet(asker, NREAD, size, is_small(size) ? 4088 : 3840, 0));
-        send(request_packet(asker, NREAD, size, 4096, 0));
-        send(request_packet(asker, NREAD, size, 8, 8));
-    }
-}
-
-/* DONE without data, and ERROR for a reserved size, no data, and past the memory.
-   NWRITE does the same and has no response. What was written is read back. */
-static void writes(void)
-{
-    for (unsigned size = 0; size < 32; size++) {
-        const struct asker asker = asker_of(size + 5);
-        const uint64_t address = 1024 + 16 * size;
-        send(request_packet(asker, NWRITE_R, size, address, 8));
-        send(request_packet(asker, NREAD, 0x0B, address, 0));
-        send(request_packet(asker, NWRITE, size, address + 8, 8));
-        send(request_packet(asker, NREAD, 0x0B, address + 8, 0));
-        send(request_packet(asker, NWRITE_R, size, address, 0));
-        send(request_packet(asker, NWRITE_R, size, 4096, 8));
-        send(request_packet(asker, NWRITE, size, 4096, 8));
-    }
-    for (size_t bytes = 8; bytes <= 264; bytes *= 2) {
-        const struct asker asker = asker_of((unsigned)bytes / 8 + 3);
-        send(request_packet(asker, NWRITE_R, 0x1F, 2048, bytes));
-        send(swrite_packet(asker, 2304, bytes));
-        send(request_packet(asker, NREAD, 0x1F, 2048, 0));
-        send(request_packet(asker, NREAD, 0x1F, 2304, 0));
-    }
-    send(request_packet(asker_of(9), NWRITE_R, 0x1F, 2048, 264));
-    send(swrite_packet(asker_of(9), 2304, 264));
-}
-
-/* ERROR, or nothing where the transaction is reserved; short heads have no response. */
-static void transactions(void)
-{
-    for (unsigned i = 0; i < 32; i++) {
-        const unsigned request = (i < 16 ? 0x20 : 0x50) | i % 16;
-        const size_t bytes = i < 16 ? 0 : 8;
-        send(request_packet(asker_of(i), request, 0x0B, 16, bytes));
-        send(request_packet(asker_of(i), request, 0x0E, 0x100000008, bytes));
-    }
-    for (size_t length = 5; length <= 11; length++) {
-        send(cut_to(request_packet(asker_of(1), NREAD, 0x0B, 16, 0), at(length)));
-        send(cut_to(request_packet(asker_of(2), NWRITE_R, 0x0B, 16, 0), at(length)));
-        send(cut_to(swrite_packet(asker_of(3), 16, 8), at(length)));
-    }
-}
-
-/* Requests, messages and segments at once. */
-static void requests_mixed(void)
-{
-    struct random random = seeded(10);
-    for (unsigned i = 0; i < 150; i++) {
-        const struct box box = box_of(below(&random, 24));
-        send(random_request(&random));
-        if (one_in(&random, 3))
-            send(message_packet(box, 1, 9, i % 2, 8));
-        if (one_in(&random, 6))
-            send(stream_packet(flow, one_in(&random, 2) ? START : SINGLE, i, 32));
-    }
-}
-
 struct buffer responses_log(void)
 {
     log_bytes = (struct buffer){ 0 };
@@ -234,10 +147,6 @@ struct buffer responses_log(void)
     retries();
     no_response();
     mixed();
-    reads();
-    writes();
-    transactions();
-    requests_mixed();
     return log_bytes;
 }
 

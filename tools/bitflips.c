@@ -207,8 +207,7 @@ struct run {
 
 static uint8_t stream_memory[SECOND_STREAM_CONTEXTS * ROOM];
 static uint8_t message_memory[SECOND_MESSAGE_MEMORY];
-static uint8_t memory[4096];
-static uint8_t response[SECOND_RESPONSE_ROOM];
+static uint8_t response[SECOND_RESPONSE_BYTES];
 
 /* Reads a packet. Every memory here is lent with it. */
 static struct second_answer read_packet(struct second_endpoint *state, const uint8_t *packet,
@@ -219,8 +218,6 @@ static struct second_answer read_packet(struct second_endpoint *state, const uin
         .stream_length = sizeof stream_memory,
         .message_memory = message_memory,
         .message_length = sizeof message_memory,
-        .memory = memory,
-        .memory_length = sizeof memory,
         .response = response,
         .response_length = sizeof response,
     };
@@ -384,7 +381,7 @@ static struct run run(const struct packet *const *order, unsigned count, unsigne
 struct tally {
     char name[96];
     unsigned long runs, outcomes[4], other_hurt, quiet, open, number, all;
-    unsigned char answers[128]; /* which answers the touched packet got */
+    unsigned char answers[64]; /* which answers the touched packet got */
 };
 
 static struct tally rows[200];
@@ -400,15 +397,14 @@ static struct tally *row(const char *name)
     return &rows[row_count++];
 }
 
-/* Refusals have their number; then 60 held, 61 PDU, 62 message, 63 done; +64 dropped. */
+/* Refusals have their number; then 26 held, 27 PDU, 28 message; +32 dropped. */
 static unsigned answer_code(struct second_answer a)
 {
     unsigned code = a.kind == SECOND_REFUSED ? a.refusal
-                    : a.kind == SECOND_HELD  ? 60
-                    : a.kind == SECOND_PDU   ? 61
-                    : a.kind == SECOND_DONE  ? 63
-                                             : 62;
-    return code + (a.dropped ? 64 : 0);
+                    : a.kind == SECOND_HELD  ? 26
+                    : a.kind == SECOND_PDU   ? 27
+                                             : 28;
+    return code + (a.dropped ? 32 : 0);
 }
 
 static void count(struct tally *t, const struct run *r)
@@ -425,16 +421,16 @@ static void count(struct tally *t, const struct run *r)
 
 static void print_answers(const struct tally *t)
 {
-    static const char *words[] = { "held", "pdu", "msg", "done" };
+    static const char *words[] = { "held", "pdu", "msg" };
     const char *between = "";
-    for (unsigned code = 0; code < 64; code++) {
-        if (!t->answers[code] && !t->answers[code + 64])
+    for (unsigned code = 0; code < 32; code++) {
+        if (!t->answers[code] && !t->answers[code + 32])
             continue;
         printf("%s", between);
-        if (code < 60)
+        if (code < 26)
             printf("%u", code);
         else
-            printf("%s", words[code - 60]);
+            printf("%s", words[code - 26]);
         between = ", ";
     }
 }

@@ -1,14 +1,13 @@
 #!/usr/bin/env python3
-"""The pictures of docs/LAYOUTS.md, from the table of fields in layouts.txt; and that page's sizes and examples of memory requests.
+"""The pictures of docs/LAYOUTS.md, from the table of fields in layouts.txt.
 
-    docs/pictures/layouts.py           writes the pictures, and those two parts of the page
-    docs/pictures/layouts.py --check   holds the table against stored packets, and pictures and page against the table
+    docs/pictures/layouts.py           writes the pictures
+    docs/pictures/layouts.py --check   holds the table against stored packets, and the pictures against the table
 
 Each picture has a packet at both widths of the IDs. The check takes packets apart by the table's places: the paper's
 sample, and the second program's cases under crates/outside_segments (both widths), crates/outside_responses and
 crates/outside_logs (16 bits) and crates/outside_narrow (8 bits). It compares every field with what the case says was
-meant, or with the line printed for the packet; of a memory request the response too, with what was written before it.
-It ends with 1 at the first difference.
+meant, or with the line printed for the packet. It ends with 1 at the first difference.
 """
 import collections
 import html
@@ -20,7 +19,6 @@ HERE = pathlib.Path(__file__).resolve().parent
 ROOT = HERE.parent.parent
 sys.path.insert(0, str(ROOT / "tools"))
 import command
-from reporting import requests
 
 Field = collections.namedtuple("Field", "name byte bit width value")
 
@@ -42,7 +40,6 @@ class Layout:
 
     def __init__(self, ids, picture, title):
         self.ids, self.picture, self.title, self.notes, self.fields, self.data = ids, picture, title, [], [], None
-        self.rows = [0, header(ids)]  # the bytes with which a row of the picture begins
 
     def head(self):
         """How many bytes the fields take."""
@@ -77,8 +74,6 @@ def read_table(ids):
                 layouts[name].notes.append(" ".join(words[2:]))
             elif words[0] == "data":
                 layouts[name].data = place_of(words[2], ids)
-            elif words[0] == "row":
-                layouts[name].rows.append(place_of(words[2], ids))
             elif words[0] == "field":
                 layouts[name].fields.append(field_of(words[2:7], ids))
             else:
@@ -125,17 +120,14 @@ def box(field, first, y):
     fill, line = KINDS["fixed" if fixed else "free"]
     below = field.value if fixed else ("" if field.width == 1 else f"{field.width} bits")
     size = min(12 if field.width <= 3 else 15, max(10, int((width - 4) / (0.64 * len(field.name)))))
-    frame = f'<rect x="{x}" y="{y}" width="{width}" height="{ROW}" fill="{fill}" stroke="{line}" stroke-width="1.5"/>'
-    if field.width == 1 and len(field.name) > 2:  # from the bottom to the top
-        middle = f"{x + width / 2 + 4:g} {y + ROW / 2:g}"
-        return [frame, f'<g transform="translate({middle}) rotate(-90)">{text(0, 0, field.name, 10 if len(field.name) < 7 else 9, weight="bold")}</g>']
-    return [frame, text(x + width / 2, y + (22 if below else 31), field.name, size, weight="bold"),
+    return [f'<rect x="{x}" y="{y}" width="{width}" height="{ROW}" fill="{fill}" stroke="{line}" stroke-width="1.5"/>',
+            text(x + width / 2, y + (22 if below else 31), field.name, size, weight="bold"),
             text(x + width / 2, y + 41, below, 12, INK if fixed else SOFT)]
 
 
 def data_box(layout, y):
     """From where data begin to the right edge, which is torn."""
-    x = LEFT + (layout.data - layout.rows[-1]) * 8 * BIT
+    x = LEFT + (layout.data - header(layout.ids)) * 8 * BIT
     end = LEFT + ACROSS * BIT
     fill, line = KINDS["data"]
     step = ROW / 4
@@ -145,24 +137,24 @@ def data_box(layout, y):
             text((x + end) / 2, y + 41, f"from byte {layout.data}", 12, SOFT)]
 
 
-WORDS, PAUSE = 34, 12  # height of the words over a packet; between two rows of one
+WORDS, PAUSE = 34, 12  # height of the words over a packet; between the two rows of one
 
 
 def drawn(layout, y):
     """A packet from y on: how wide its IDs are, byte 0 and the IDs, and under them what is behind. And where it ends."""
-    y += WORDS
+    behind = header(layout.ids)
+    top = y + WORDS
+    under = top + NUMBERS + ROW + PAUSE
     size = f"{layout.head()} bytes" if layout.data is None else f"a head of {layout.head()} bytes"
-    parts = [text(LEFT, y + 22 - WORDS, f"IDs of {8 * layout.ids} bits: {size}", 15, SOFT, "start", "bold")]
-    for first, behind in zip(layout.rows, layout.rows[1:] + [layout.head()]):
-        parts += numbers(first, behind - first, y)
+    parts = [text(LEFT, y + 22, f"IDs of {8 * layout.ids} bits: {size}", 15, SOFT, "start", "bold")]
+    for first, count, at in [(0, behind, top), (behind, layout.head() - behind, under)]:
+        parts += numbers(first, count, at)
         for field in layout.fields:
-            if first <= field.byte < behind:
-                parts += box(field, first, y + NUMBERS)
-        y += NUMBERS + ROW + PAUSE
-    y -= PAUSE
+            if first <= field.byte < first + count:
+                parts += box(field, first, at + NUMBERS)
     if layout.data is not None:
-        parts += data_box(layout, y - ROW)
-    return parts, y
+        parts += data_box(layout, under + NUMBERS)
+    return parts, under + NUMBERS + ROW
 
 
 def picture(layouts):
@@ -312,63 +304,6 @@ def check_message(values, data, answer, where):
 STATUS = {"held": 0, "msg": 0, "refused": 7, "refused 25": 3}
 
 
-# ---- Memory requests
-
-REQUESTS = {2: "read", 5: "write", 6: "streaming"}
-Asked = collections.namedtuple("Asked", "layout values request address judged data")
-
-
-def asked(layouts, packet, memory):
-    """A request by the places of the table, and how the rules answer it; None where its head is not whole."""
-    layout = layouts[REQUESTS[packet[0] % 16]]
-    if len(packet) < layout.head():
-        return None
-    values, _ = take_apart(layout, packet)
-    data = packet[layout.head():]
-    request = 16 * (packet[0] % 16) + values.get("transaction", 0)
-    address = values["xamsbs"] * 2 ** 32 + values["address"] * 8
-    size = values.get("rdsize", values.get("wrsize", 0))
-    return Asked(layout, values, request, address, requests.judged(request, values.get("wdptr", 0), size, address, len(data), len(memory)), data)
-
-
-def answer_to(one):
-    refusal = None if one is None else one.judged.refusal
-    return "refused 1" if one is None else "done" if refusal is None else f"refused {refusal}"
-
-
-def reply_to(layouts, one, memory):
-    """Transaction, status and data of the response, or None; what a write leaves stands in the memory then."""
-    _, first, count = one.judged
-    lane = first - one.address
-    if one.request not in requests.ANSWERED and one.judged.refusal is not None:
-        return None
-    if one.judged.refusal is not None:
-        return 0, 7, b""
-    if one.request == requests.NREAD:
-        return 8, 0, (bytes(lane) + memory[first:first + count]).ljust(8, b"\0")
-    memory[first:first + count] = one.data[lane:lane + count]
-    return (0, 0, b"") if one.request in requests.ANSWERED else None
-
-
-def check_request(layouts, memory, packet, answer, response, where):
-    """A request that rows 2 to 4 let pass, its line, and the bytes sent back (None: not printed). Answers how many fields it compared."""
-    one = asked(layouts, packet, memory)
-    if answer != answer_to(one):
-        fail(f"{where}: by the table {packet.hex()} is to get {answer_to(one)}, the answer is {answer}")
-    reply = reply_to(layouts, one, memory) if one else None
-    if response is not None and (reply is None) != (response == "none"):
-        fail(f"{where}: {packet.hex()} has the response {response}")
-    fields = len(one.layout.fields) if one else 0
-    if reply is None or response is None:
-        return fields
-    ids = one.layout.ids
-    wanted = {"priority": min(one.values["priority"] + 1, 3), "tt": tt_of(ids), "type": 13, "destination": one.values["source"], "source": 1,
-              "transaction": reply[0], "status": reply[1], "targetTID": one.values["srcTID"]}
-    return fields + compare(layouts["reply"], bytes.fromhex(response), wanted, reply[2], where)
-
-
-# ---- Messages and their responses
-
 def check_response(layouts, packet, answer, response, where):
     """A message, the line printed for it, and the bytes sent back. Answers how many fields it compared."""
     values, data = take_apart(layouts["message"], packet)
@@ -384,29 +319,15 @@ def check_response(layouts, packet, answer, response, where):
 
 
 def check_responses(tables):
-    """Messages, memory requests and their responses, with IDs of 16 bits."""
+    """Messages and their responses, with IDs of 16 bits."""
     log = records((ROOT / "crates/outside_responses/stdin").read_bytes())
     lines = command.text(ROOT / "crates/outside_responses/stdout").splitlines()
     packets = fields = 0
-    memory = bytearray(requests.MEMORY)
     for n, (packet, answer, response) in enumerate(zip(log, lines[::2], lines[1::2]), 1):
-        where = f"outside_responses, record {n}"
-        if is_request(tables[2], packet):
-            fields += check_request(tables[2], memory, packet, answer, response, where)
-            packets += 1 + (response != "none")
-        elif response != "none":
-            fields += check_response(tables[2], packet, answer, response, where)
+        if response != "none":
+            fields += check_response(tables[2], packet, answer, response, f"outside_responses, record {n}")
             packets += 2
     return packets, fields
-
-
-def is_request(layouts, packet):
-    """A request that rows 2 to 4 let pass, and the first two of row 1."""
-    ids = layouts["read"].ids
-    if len(packet) < header(ids) + 2:
-        return False
-    values, _ = take_apart(layouts["message"], packet)
-    return values["tt"] == tt_of(ids) and values["destination"] == 1 and values["type"] in REQUESTS
 
 
 def check_printed(layouts, packet, answer, where):
@@ -416,7 +337,7 @@ def check_printed(layouts, packet, answer, where):
         row = "refused 2"
     elif values["destination"] != 1:
         row = "refused 3"
-    elif values["type"] not in (9, 11, *REQUESTS):
+    elif values["type"] not in (9, 11):
         row = "refused 4"
     elif values["type"] == 9 and values["xh"] == 1:
         row = "refused 5"
@@ -453,10 +374,7 @@ def check_logs(tables):
     """Logs with packets right and wrong, and the lines printed for them. Only here tt, type and xh are wrong and reserved bits set."""
     packets = fields = 0
     for where, log, lines in logs_of("outside_logs"):
-        memory = bytearray(requests.MEMORY)
         for line, packet in zip(lines[:-1], records(log)):  # the last line is the log's end
-            if is_request(tables[2], packet):
-                fields += check_request(tables[2], memory, packet, line, None, where)
             if len(packet) >= header(2) + 4:
                 fields += check_printed(tables[2], packet, line, where)
                 packets += 1
@@ -467,134 +385,14 @@ def check_narrow(tables):
     """The same with IDs of 8 bits, and the responses."""
     packets = fields = 0
     for where, log, lines in logs_of("outside_narrow"):
-        memory = bytearray(requests.MEMORY)
         for answer, response, packet in zip(lines[::2], lines[1::2], records(log)):
             if len(packet) >= header(1) + 4:
                 fields += check_printed(tables[1], packet, answer, where)
                 packets += 1
-            if is_request(tables[1], packet):
-                fields += check_request(tables[1], memory, packet, answer, response, where)
-                packets += response != "none"
-            elif response != "none":
+            if response != "none":
                 fields += check_response(tables[1], packet, answer, response, where)
                 packets += 1
     return packets, fields
-
-
-# ---- The parts of docs/LAYOUTS.md that are written here: the sizes, and examples byte by byte
-
-PAGE = ROOT / "docs/LAYOUTS.md"
-Example = collections.namedtuple("Example", "title packet answer response")
-EXAMPLES = [  # for device 1, of device 2, priority 0, srcTID 33; the memory is 4,096 bytes of 0
-    Example("NREAD of 8 bytes at 16", "12 00 01 00 02 4B 33 00 00 00 10", "done", "5D 00 02 00 01 80 33 00 00 00 00 00 00 00 00"),
-    Example("NWRITE_R of the byte AB at 21", "15 00 01 00 02 51 33 00 00 00 14 00 00 00 00 00 AB 00 00", "done", "5D 00 02 00 01 00 33"),
-    Example("SWRITE of 8 bytes at 32", "16 00 01 00 02 00 00 00 20 01 02 03 04 05 06 07 08", "done", None),
-    Example("NREAD at 2^33, past the end", "12 00 01 00 02 4B 33 00 00 00 02", "refused 30", "5D 00 02 00 01 07 33"),
-]
-
-
-def lane_words(lane, count):
-    """Which of the bytes from A on."""
-    if count > 8:
-        return f"{count} bytes from A on"
-    places = [f"A+{i}" if i else "A" for i in (lane, lane + count - 1)]
-    return f"`{'.' * lane}{'#' * count}{'.' * (8 - lane - count)}` {places[0] if count == 1 else ' to '.join(places)}"
-
-
-def sizes():
-    """Tables 4-3 and 4-4 as one."""
-    rows = ["| rdsize, wrsize | wdptr 0 | wdptr 1 |", "|---|---|---|"]
-    for code in range(16):
-        cells = [lane_words(*requests.SIZES[wdptr][code]) + ("; no write: 31" if (wdptr, code) in requests.NO_WRITE else "") for wdptr in (0, 1)]
-        rows.append(f"| {code:04b} | {cells[0]} | {cells[1]} |")
-    return "\n".join(rows)
-
-
-def shown(packet):
-    return packet.hex(" ").upper()
-
-
-def value_words(field, value):
-    if field.name in ("destination", "source"):
-        return f"{field.name} {value}"
-    if field.name == "address":
-        return f"address {value} (times 8: {8 * value})"
-    return f"{field.name} 0x{value:0{field.width // 4}X}" if field.width > 4 else f"{field.name} {value:0{field.width}b}"
-
-
-def rows_of(layout, packet):
-    """A packet byte by byte: fields that share a byte stand in one row."""
-    values, _ = take_apart(layout, packet)
-    first, said = 0, []
-    for field in layout.fields:
-        said.append(value_words(field, values[field.name]))
-        end = field.byte * 8 + field.bit + field.width
-        if end % 8 == 0:
-            yield first, packet[first:end // 8], ", ".join(said)
-            first, said = end // 8, []
-    if packet[first:]:
-        yield first, packet[first:], "data"
-
-
-def bytes_table(layout, packet):
-    rows = ["| byte | holds | is |", "|---|---|---|"]
-    for first, some, words in rows_of(layout, packet):
-        place = f"{first}{'' if len(some) == 1 else f', {first + 1}' if len(some) == 2 else f' to {first + len(some) - 1}'}"
-        rows.append(f"| {place} | `{shown(some)}` | {words} |")
-    return "\n".join(rows)
-
-
-def narrowed(packet):
-    """With IDs of 8 bits: tt 00, and the two high bytes left out."""
-    return bytes([packet[0] & 0xCF, packet[2], packet[4]]) + packet[5:]
-
-
-def named_words(one):
-    _, first, count = one.judged
-    size = "wdptr" in one.values and f"wdptr {one.values['wdptr']} and size {one.values.get('rdsize', one.values.get('wrsize')):04b}: "
-    lane = first - one.address
-    lanes = lane_words(lane, count) if size else f"{count} bytes of data: A to A+{count - 1}"
-    return f"A is {one.address:,}. {size or ''}{lanes}. So it names {f'byte {first:,}' if count == 1 else f'bytes {first:,} to {first + count - 1:,}'}."
-
-
-def example_words(layouts, example, memory):
-    """One example, its packet and its response taken apart; the memory is as the packet leaves it."""
-    packet = bytes.fromhex(example.packet)
-    one = asked(layouts, packet, memory)
-    if answer_to(one) != example.answer:
-        fail(f"{example.title}: {answer_to(one)}")
-    reply = reply_to(layouts, one, memory)
-    parts = [f"**{example.title}**: `{example.packet}`. {named_words(one)}", bytes_table(one.layout, packet)]
-    if example.answer == "done":
-        parts.append(f"`done`: request 0x{one.request:X}, source {one.values['source']}, from {one.judged.first}, length {one.judged.count}.")
-    else:
-        parts.append(f"`{example.answer}`: nothing changes.")
-    if (reply is None) != (example.response is None):
-        fail(f"{example.title}: another response")
-    narrow = f"With IDs of 8 bits the packet is `{shown(narrowed(packet))}`"
-    if reply is None:
-        return parts[:-1] + [f"{parts[-1]} No response. {narrow}."]
-    response = bytes.fromhex(example.response)
-    if response[5] != reply[0] * 16 + reply[1] or response[7:] != reply[2]:
-        fail(f"{example.title}: the response is another")
-    parts[-1] += f" The response is `{example.response}`:"
-    return parts + [bytes_table(layouts["reply"], response), f"{narrow}, and the response `{shown(narrowed(response))}`."]
-
-
-def examples(tables):
-    return "\n\n".join(part for example in EXAMPLES for part in example_words(tables[2], example, bytearray(requests.MEMORY)))
-
-
-def page(tables):
-    """docs/LAYOUTS.md with its two parts as they are to be."""
-    said = command.text(PAGE)
-    for name, part in (("sizes", sizes()), ("examples", examples(tables))):
-        begin, end = f"<!-- {name}: written by docs/pictures/layouts.py -->", "<!-- to here -->"
-        if said.count(begin) != 1:
-            fail(f"{PAGE.name} has no place for the {name}")
-        before, rest = said.split(begin)
-        said = f"{before}{begin}\n\n{part}\n\n{end}{rest[rest.index(end) + len(end):]}"
-    return said
 
 
 def pictures(tables):
@@ -615,8 +413,6 @@ def check(tables):
         if not stored.exists() or command.text(stored) != wanted:
             fail(f"{stored.name} is not what the table gives; docs/pictures/layouts.py writes it")
         count += 1
-    if command.text(PAGE) != page(tables):
-        fail(f"{PAGE.name} has other sizes or examples; docs/pictures/layouts.py writes them")
     print(f"layouts: {packets:,} packets and {fields:,} fields agree with the table, and {count} pictures")
 
 
@@ -628,8 +424,6 @@ def main(argv):
     for stored, wanted in pictures(tables):
         stored.write_text(wanted, encoding="utf-8")
         print(f"wrote {stored.name}")
-    PAGE.write_text(page(tables), encoding="utf-8")
-    print(f"wrote the sizes and examples of {PAGE.name}")
 
 
 command.call(__doc__, main, [], ["--check"])

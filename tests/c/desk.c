@@ -10,15 +10,13 @@
 #include "want.h"
 
 /* An R where the memories differ in size, and a room from a message's room. */
-enum { DEVICE = 0x0102, MTU = KAIVEROHM_SMALLEST_MTU, ROOM = 100, MEMORY = 24, PACKETS = 3 };
+enum { DEVICE = 0x0102, MTU = KAIVEROHM_SMALLEST_MTU, ROOM = 100, PACKETS = 3 };
 
 static uint64_t state[KAIVEROHM_STATE_WORDS];
 static uint8_t streams[KAIVEROHM_STREAM_MEMORY(ROOM)];
 static uint8_t messages[KAIVEROHM_MESSAGE_MEMORY];
-static uint8_t memory[MEMORY];
-static uint8_t response[PACKETS * KAIVEROHM_RESPONSE_ROOM];
-static const struct kaiverohm_desk desk =
-    KAIVEROHM_DESK(state, streams, messages, memory, response);
+static uint8_t response[PACKETS * KAIVEROHM_SLOT_BYTES];
+static const struct kaiverohm_desk desk = KAIVEROHM_DESK(state, streams, messages, response);
 
 static int is(struct kaiverohm_answer a, enum kaiverohm_kind kind, uint64_t number)
 {
@@ -90,7 +88,7 @@ static void heads(void)
     WANT(refused(came(0x29, 9, 5, 0, "", MTU), KAIVEROHM_REFUSAL_ID_WIDTH));
     memcpy(packet, "\x19\x01\x03\x00\x09", 5);
     WANT(refused(kaiverohm_desk_read(&desk, packet, 5), KAIVEROHM_REFUSAL_OTHER_DEVICE));
-    WANT(refused(came(0x18, 9, 5, 0, "", MTU), KAIVEROHM_REFUSAL_TYPE));
+    WANT(refused(came(0x15, 9, 5, 0, "", MTU), KAIVEROHM_REFUSAL_TYPE));
     WANT(refused(came(0x19, 9, 5, 0x04, "", MTU), KAIVEROHM_REFUSAL_EXTENDED));
 }
 
@@ -141,68 +139,6 @@ static void message_segments(void)
     WANT(refused(segment_came(8, 0x19, 0), KAIVEROHM_REFUSAL_MESSAGES_FULL));
 }
 
-/* ---- requests for the memory, whose bytes are 0, 1, 2, .. */
-
-/* From board 9, TID 0x33, at a double-word: transaction and size, the address's last
-   byte with wdptr, then data that count up. */
-static struct kaiverohm_report asked(uint8_t type, uint8_t sizes, uint8_t address, size_t data)
-{
-    const uint8_t head[11] = {
-        type, DEVICE >> 8, DEVICE & 0xff, 0, 9, sizes, 0x33, 0, 0, 0, address
-    };
-    memcpy(packet, head, sizeof head);
-    for (size_t i = 0; i < data; i++)
-        packet[sizeof head + i] = (uint8_t)(0xa1 + i);
-    for (uint8_t i = 0; i < MEMORY; i++)
-        memory[i] = i;
-    return kaiverohm_desk_read(&desk, packet, sizeof head + data);
-}
-
-static int done(struct kaiverohm_report r, enum kaiverohm_request request, uint64_t from,
-                uint64_t length, uint64_t written)
-{
-    return (enum kaiverohm_kind)r.kind == KAIVEROHM_DONE && r.source == 9
-           && (enum kaiverohm_request)r.cos_or_letter == request && r.stream_or_mailbox == from
-           && r.length == length && r.response == written && r.response_at == 0 && r.context == 0
-           && r.priority == 0 && r.number == 0 && r.dropped == 0;
-}
-
-/* Each of the four; what it delivers is in no room. */
-static void requests(void)
-{
-    fresh();
-    struct kaiverohm_report r = asked(0x12, 0x4b, 8, 0);
-    WANT(done(r, KAIVEROHM_NREAD, 8, 8, 15) && kaiverohm_desk_bytes(&desk, &r) == NULL);
-    WANT(memcmp(response, "\x5d\x00\x09\x01\x02\x80\x33\x08\x09\x0a\x0b\x0c\x0d\x0e\x0f", 15) == 0);
-    WANT(done(asked(0x15, 0x45, 16, 8), KAIVEROHM_NWRITE, 16, 3, 0));
-    WANT(memcmp(memory + 15, "\x0f\xa1\xa2\xa3\x13", 5) == 0);
-    WANT(done(asked(0x15, 0x55, 20, 8), KAIVEROHM_NWRITE_R, 21, 3, 7));
-    WANT(memcmp(memory + 20, "\x14\xa6\xa7\xa8", 4) == 0);
-    WANT(memcmp(response, "\x5d\x00\x09\x01\x02\x00\x33", 7) == 0);
-    memcpy(packet, "\x16\x01\x02\x00\x09\x00\x00\x00\x00\xb1\xb2\xb3\xb4\xb5\xb6\xb7\xb8", 17);
-    r = kaiverohm_desk_read(&desk, packet, 17);
-    WANT(done(r, KAIVEROHM_SWRITE, 0, 8, 0) && memory[0] == 0xb1 && memory[7] == 0xb8);
-    WANT(memory[8] == 8);
-}
-
-static void refused_requests(void)
-{
-    fresh();
-    WANT(refused(asked(0x12, 0x4b, MEMORY, 0), KAIVEROHM_REFUSAL_OUTSIDE));
-    WANT(response[5] == 0x07);
-    WANT(refused(asked(0x12, 0x5b, 0, 0), KAIVEROHM_REFUSAL_RESERVED));
-    WANT(refused(asked(0x15, 0x4d, 0, 8), KAIVEROHM_REFUSAL_RESERVED));
-    WANT(refused(asked(0x15, 0x4b, 0, 16), KAIVEROHM_REFUSAL_DATA));
-    WANT(memory[0] == 0);
-    /* no memory at all: any pointer but NULL, and a length of 0 */
-    struct kaiverohm_desk none = desk;
-    none.memory_length = 0;
-    memcpy(packet, "\x12\x01\x02\x00\x09\x40\x33\x00\x00\x00\x00", 11);
-    WANT(refused(kaiverohm_desk_read(&none, packet, 11), KAIVEROHM_REFUSAL_OUTSIDE));
-    none.response_length = KAIVEROHM_RESPONSE_ROOM - 1;
-    WANT(refused(kaiverohm_desk_read(&none, packet, 11), KAIVEROHM_REFUSAL_BUFFER));
-}
-
 static struct kaiverohm_answer written(size_t out, uint64_t mtu, uint8_t priority, size_t pdu,
                                        uint64_t number)
 {
@@ -224,8 +160,7 @@ static void writer(void)
 /* The memories the other way round, a context past the last, and no state. */
 static void faults_of_the_caller(void)
 {
-    const struct kaiverohm_desk swapped =
-        KAIVEROHM_DESK(state, messages, streams, memory, response);
+    const struct kaiverohm_desk swapped = KAIVEROHM_DESK(state, messages, streams, response);
     fresh();
     WANT(refused(kaiverohm_desk_read(&swapped, packet, 0), KAIVEROHM_REFUSAL_BUFFER));
     WANT(kaiverohm_desk_stream_context(&desk, KAIVEROHM_STREAM_CONTEXTS).number
@@ -244,23 +179,20 @@ static void faults_of_the_caller(void)
 static void words(void)
 {
     static const char *const some[] = {
-        "no refusal",  "whole head",   "another width", "another device", "that is not",
+        "no refusal",  "whole head",   "another width", "another device", "nor type",
         "extended",    "O wrong",      "the MTU",       "its flow",       "than a room",
-        "16 stream",   "as it says",   "response too",  "no such c",      "over 65",
+        "16 stream",   "as it says",   "buffer",        "no such c",      "over 65",
         "no such s",   "out is short", "priority",      "the MTU is",     "state",
         "is reserved", "wrong length", "past the last", "than before",    "already",
         "8 message",
     };
-    static const char *const of_requests[] = { "inside", "or size is", "does not allow" };
-    enum { COUNT = sizeof some / sizeof some[0], FIRST = KAIVEROHM_REFUSAL_OUTSIDE };
-    WANT(COUNT == KAIVEROHM_REFUSAL_MESSAGES_FULL + 1 && KAIVEROHM_REFUSAL_DATA == FIRST + 2);
+    enum { COUNT = sizeof some / sizeof some[0] };
+    WANT(COUNT == KAIVEROHM_REFUSAL_MESSAGES_FULL + 1);
     for (uint64_t n = 0; n < COUNT; n++)
         WANT(strstr(kaiverohm_refusal_words(n), some[n]) != NULL);
     for (uint64_t n = COUNT; n < 60; n++)
-        if (n != KAIVEROHM_REFUSAL_WIDE_ID && (n < FIRST || n > FIRST + 2))
+        if (n != KAIVEROHM_REFUSAL_WIDE_ID)
             WANT(strcmp(kaiverohm_refusal_words(n), some[0]) == 0);
-    for (uint64_t n = 0; n < 3; n++)
-        WANT(strstr(kaiverohm_refusal_words(FIRST + n), of_requests[n]) != NULL);
     WANT(strstr(kaiverohm_refusal_words(KAIVEROHM_REFUSAL_WIDE_ID), "over 255") != NULL);
     WANT(strcmp(kaiverohm_refusal_words((UINT64_C(1) << 32) + 1), some[0]) == 0);
     WANT(strcmp(kaiverohm_refusal_words(UINT64_MAX), some[0]) == 0);
@@ -288,7 +220,6 @@ static void made_of_arrays(void)
     WANT(desk.state == state && desk.state_words == KAIVEROHM_STATE_WORDS);
     WANT(desk.stream_memory == streams && desk.stream_length == 16 * ROOM);
     WANT(desk.message_memory == messages && desk.message_length == KAIVEROHM_MESSAGE_MEMORY);
-    WANT(desk.memory == memory && desk.memory_length == MEMORY);
     WANT(desk.response == response && desk.response_length == sizeof response);
     WANT(KAIVEROHM_STREAM_MEMORY(ROOM + 1) == 16 * (ROOM + 1));
     fresh();
@@ -341,7 +272,7 @@ static void message_bytes(void)
     WANT(r.kind == KAIVEROHM_HELD && kaiverohm_desk_bytes(&desk, &r) == NULL);
     r = segment_came(9, 0x19, 0);
     WANT(r.kind == KAIVEROHM_MESSAGE && r.context == 1 && r.length == 16);
-    WANT(r.response == 7 && response[0] == 0x5d && response[2] == 9);
+    WANT(r.response == KAIVEROHM_RESPONSE_BYTES && response[0] == 0x5d && response[2] == 9);
     const uint8_t *bytes = kaiverohm_desk_bytes(&desk, &r);
     WANT(bytes == messages + KAIVEROHM_MESSAGE_ROOM && bytes[0] == 1 && bytes[15] == 8);
     r.kind = KAIVEROHM_HELD;
@@ -401,8 +332,7 @@ static void bursts(void)
     WANT(stopped(burst(reports, PACKETS + 1, 0), KAIVEROHM_BURST_END, PACKETS));
     WANT(refused(reports[0], KAIVEROHM_REFUSAL_SHORT) && reports[1].kind == KAIVEROHM_MESSAGE);
     WANT(reports[2].kind == KAIVEROHM_MESSAGE && reports[3].kind != KAIVEROHM_MESSAGE);
-    WANT(reports[1].response_at == 0 && reports[2].response_at == 7);
-    WANT(response[0] == 0x5d && response[7] == 0x5d && response[14] == 0);
+    WANT(response[0] == 0 && response[8] == 0x5d && response[16] == 0x5d);
     const uint8_t *bytes = kaiverohm_desk_bytes(&desk, &reports[2]);
     WANT(bytes == messages && memcmp(bytes, "\x61\x62\x63\x64\x65\x66\x67\x68", 8) == 0);
     WANT(stopped(burst(reports, PACKETS, 1), KAIVEROHM_BURST_DELIVERY, 2));
@@ -415,26 +345,6 @@ static void bursts(void)
     WANT(stopped(kaiverohm_desk_read_burst(&desk, reports, 0, bad, 1, 0), KAIVEROHM_BURST_BAD, 0));
 }
 
-/* A read at 8 and one at 24, where the memory ends: the second response stands behind
-   the first. Behind a request no burst pauses. */
-#define READ "\x0b\x12\x01\x02\x00\x09\x4b\x33\x00\x00\x00\x08"
-#define NO_READ "\x0b\x12\x01\x02\x00\x09\x4b\x34\x00\x00\x00\x18"
-
-static void bursts_of_requests(void)
-{
-    static const uint8_t records[] = READ NO_READ;
-    struct kaiverohm_report reports[2];
-    fresh();
-    for (uint8_t i = 0; i < MEMORY; i++)
-        memory[i] = i;
-    WANT(stopped(kaiverohm_desk_read_burst(&desk, reports, 2, records, sizeof records - 1, 1),
-                 KAIVEROHM_BURST_END, 2));
-    WANT(done(reports[0], KAIVEROHM_NREAD, 8, 8, 15) && response[7] == 8 && response[14] == 15);
-    WANT(refused(reports[1], KAIVEROHM_REFUSAL_OUTSIDE));
-    WANT(reports[1].response == 7 && reports[1].response_at == 15);
-    WANT(memcmp(response + 15, "\x5d\x00\x09\x01\x02\x07\x34", 7) == 0);
-}
-
 int main(void)
 {
     made_of_arrays();
@@ -442,8 +352,6 @@ int main(void)
     eight_bits();
     segments();
     message_segments();
-    requests();
-    refused_requests();
     writer();
     faults_of_the_caller();
     words();
@@ -454,7 +362,6 @@ int main(void)
     rooms();
     abandons();
     bursts();
-    bursts_of_requests();
     printf("desk: %u checks\n", checks);
     return 0;
 }

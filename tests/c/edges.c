@@ -11,7 +11,6 @@
 #include <sys/mman.h>
 #include <unistd.h>
 
-#include "../../second/sizes.h" /* tables 4-3 and 4-4, as they are printed */
 #include "kaiverohm.h"
 #include "want.h"
 
@@ -25,10 +24,8 @@ enum {
     STREAM_WORDS = 6,  /* of a stream context: open, source, priority, cos, streamID, held */
     MESSAGE_WORDS = 8, /* of a message context */
     OLD_WORDS = 148,   /* of a state without priorities, of interface 2 */
-    REPLY = KAIVEROHM_RESPONSE_ROOM,
-    PLENTY = 3 * REPLY,
-    TYPE13 = 7,    /* a response without data, with IDs of 16 bits */
-    MEMORY = 4096, /* the longest that boards are lent */
+    REPLY = KAIVEROHM_RESPONSE_BYTES,
+    SLOT = KAIVEROHM_SLOT_BYTES,
     REPORT = KAIVEROHM_REPORT_WORDS,
     REPORTS = 3 * REPORT,
     STREAM_MEMORY = KAIVEROHM_STREAM_CONTEXTS * ROOM
@@ -42,16 +39,10 @@ static uint64_t narrow;
 
 static const uint64_t widths[] = { 0, 1, FAR, UINT64_MAX };
 
-/* With IDs of 8 bits packets and responses have 2 bytes less: the room that 12 asks
-   for, and a response without data. */
+/* With IDs of 8 bits packets and responses have 2 bytes less. */
 static size_t reply(void)
 {
     return narrow ? REPLY - 2 : REPLY;
-}
-
-static size_t type13(void)
-{
-    return narrow ? TYPE13 - 2 : TYPE13;
 }
 
 static uint16_t own_id(void)
@@ -75,21 +66,13 @@ static uint8_t *fenced(size_t length)
 
 /* Where each buffer ends. A buffer of n bytes begins n bytes before it. */
 static uint8_t *state_end, *streams_end, *messages_end, *response_end, *packet_end, *reports_end;
-static uint8_t *records_end, *memory_end;
+static uint8_t *records_end;
 
-/* So many bytes are lent for boards to read and write. */
-static size_t memory_length = MEMORY;
-
-enum { STATE = 1, STREAMS = 2, MESSAGES = 4, RESPONSE = 8, MEMORY_BYTES = 16 };
+enum { STATE = 1, STREAMS = 2, MESSAGES = 4, RESPONSE = 8 };
 
 static uint64_t *state(size_t words)
 {
     return (uint64_t *)(void *)(state_end - 8 * words);
-}
-
-static uint8_t *memory(void)
-{
-    return memory_end - memory_length;
 }
 
 static uint64_t *stream_context(size_t n)
@@ -105,7 +88,7 @@ static uint64_t *message_context(size_t n)
 /* The buffers as they stood, with the longest lengths that are lent. */
 static struct {
     uint8_t state[8 * (WORDS + 1)], streams[STREAM_MEMORY + 1],
-        messages[KAIVEROHM_MESSAGE_MEMORY + 1], memory[MEMORY], response[PLENTY];
+        messages[KAIVEROHM_MESSAGE_MEMORY + 1], response[64];
 } kept;
 
 static void keep(void)
@@ -113,7 +96,6 @@ static void keep(void)
     memcpy(kept.state, state_end - sizeof kept.state, sizeof kept.state);
     memcpy(kept.streams, streams_end - sizeof kept.streams, sizeof kept.streams);
     memcpy(kept.messages, messages_end - sizeof kept.messages, sizeof kept.messages);
-    memcpy(kept.memory, memory_end - sizeof kept.memory, sizeof kept.memory);
     memcpy(kept.response, response_end - sizeof kept.response, sizeof kept.response);
 }
 
@@ -127,7 +109,6 @@ static int changed(void)
     return differs(kept.state, state_end, sizeof kept.state, STATE)
            | differs(kept.streams, streams_end, sizeof kept.streams, STREAMS)
            | differs(kept.messages, messages_end, sizeof kept.messages, MESSAGES)
-           | differs(kept.memory, memory_end, sizeof kept.memory, MEMORY_BYTES)
            | differs(kept.response, response_end, sizeof kept.response, RESPONSE);
 }
 
@@ -145,22 +126,11 @@ static int zeros(const void *at, size_t length)
     return all(at, length, 0);
 }
 
-/* What stands in the memory at first: bytes over 127, of which neighbours differ. */
-static uint8_t settled[MEMORY];
-
-static void settle(void)
-{
-    for (size_t i = 0; i < MEMORY; i++)
-        settled[i] = (uint8_t)(0x80 | 5 * i);
-}
-
 static void fresh(void)
 {
     memset(state_end - sizeof kept.state, 0xe7, sizeof kept.state);
     memset(streams_end - sizeof kept.streams, 0xe1, sizeof kept.streams);
     memset(messages_end - sizeof kept.messages, 0xe2, sizeof kept.messages);
-    memset(memory_end - sizeof kept.memory, 0xe6, sizeof kept.memory);
-    memcpy(memory(), settled, memory_length);
     memset(response_end - sizeof kept.response, 0xe3, sizeof kept.response);
     const struct kaiverohm_settings settings = { own_id(), MTU, ROOM, narrow };
     struct kaiverohm_answer a = kaiverohm_setup(state(WORDS), WORDS, settings);
@@ -213,8 +183,8 @@ static struct kaiverohm_report lent(size_t words, size_t streams, size_t message
     memcpy(packet_end - length, packet, length);
     keep();
     return kaiverohm_read(state(words), words, streams_end - streams, streams,
-                          messages_end - messages, messages, memory(), memory_length,
-                          response_end - response, response, packet_end - length, length);
+                          messages_end - messages, messages, response_end - response, response,
+                          packet_end - length, length);
 }
 
 static struct kaiverohm_report read_it(size_t length)
@@ -228,7 +198,7 @@ static void refuses(size_t length, unsigned number, unsigned dropped, int change
     struct kaiverohm_report r = read_it(length);
     want(r.kind == KAIVEROHM_REFUSED && r.number == number && r.dropped == dropped, "refusal",
          line);
-    want(r.response == (number >= 20 ? type13() : 0), "response", line);
+    want(r.response == (number >= 20 ? reply() : 0), "response", line);
     want(r.context == 0 && r.source == 0 && r.cos_or_letter == 0 && r.stream_or_mailbox == 0
              && r.length == 0 && r.priority == 0,
          "fields that a refusal does not name are 0", line);
@@ -245,7 +215,7 @@ static int replied(size_t lent_length, const char *wide)
 {
     const uint8_t *is = response_end - lent_length, *w = (const uint8_t *)wide;
     const uint8_t short_one[] = { w[0] ^ 0x10, w[2], w[4], w[5], w[6] };
-    return memcmp(is, narrow ? short_one : w, type13()) == 0;
+    return memcmp(is, narrow ? short_one : w, reply()) == 0;
 }
 
 /* ---- setup */
@@ -326,34 +296,10 @@ static void lengths(void)
     }
     /* A longer response buffer is as good; the bytes behind the response stay. */
     fresh();
-    struct kaiverohm_report r = lent(WORDS, s, m, PLENTY, MADE("\x1b\x01\x02\x00\x09\x09\x60", 8));
-    WANT(r.kind == KAIVEROHM_MESSAGE && r.response == type13());
-    WANT(replied(PLENTY, "\x5d\x00\x09\x01\x02\x10\x60"));
-    WANT(all(response_end - PLENTY + type13(), PLENTY - type13(), 0xe3));
-}
-
-/* Whatever the packet is, 12 asks for 263 bytes of response, with IDs of 8 bits for
-   261; and it asks for no length of the memory. */
-static void response_rooms(void)
-{
-    static const size_t memories[] = { 0, 1, 7, 8, 255, MEMORY };
-    static const char heads[][12] = { "\x19\x01\x02\x00\x09\x05\x80\x00\x07",
-                                      "\x1b\x01\x02\x00\x09\x09\x60",
-                                      "\x12\x01\x02\x00\x09\x4b\x33",
-                                      "\x15\x01\x02\x00\x09\x4b\x33",
-                                      "\x16\x01\x02\x00\x09",
-                                      "\x18\x01\x02\x00\x09" };
-    for (size_t i = 0; i < sizeof memories / sizeof memories[0]; i++)
-        for (size_t k = 0; k < sizeof heads / sizeof heads[0]; k++) {
-            memory_length = memories[i];
-            fresh();
-            const size_t length = made(heads[k], 11, 8);
-            struct kaiverohm_report r =
-                lent(WORDS, STREAM_MEMORY, KAIVEROHM_MESSAGE_MEMORY, reply() - 1, length);
-            WANT(r.kind == KAIVEROHM_REFUSED && r.number == 12 && changed() == 0);
-            WANT(read_it(length).number != 12);
-        }
-    memory_length = MEMORY;
+    struct kaiverohm_report r = lent(WORDS, s, m, 64, MADE("\x1b\x01\x02\x00\x09\x09\x60", 8));
+    WANT(r.kind == KAIVEROHM_MESSAGE && r.response == reply());
+    WANT(replied(64, "\x5d\x00\x09\x01\x02\x10\x60"));
+    WANT(all(response_end - 64 + reply(), 64 - reply(), 0xe3));
 }
 
 static void states(void)
@@ -518,12 +464,7 @@ static void heads(void)
     REFUSES(MADE("\x0f\x00\x00\x00\x09", 0), 2, 0, 0);
     REFUSES(MADE("\x2b\x00\x00\x00\x09", 0), 2, 0, 0);
     REFUSES(MADE("\x1f\x01\x03\x00\x09", 0), 3, 0, 0);
-    for (unsigned type = 0; type < 16; type++) {
-        int is_read = type == 2 || type == 5 || type == 6 || type == 9 || type == 11;
-        size_t length = MADE("\x10\x01\x02\x00\x09", 0);
-        packet[0] |= (uint8_t)type;
-        REFUSES(length, is_read ? 1 : 4, 0, 0);
-    }
+    REFUSES(MADE("\x15\x01\x02\x00\x09", 0), 4, 0, 0);
     REFUSES(MADE("\x19\x01\x02\x00\x09\x05", 0), 1, 0, 0);
     REFUSES(MADE("\x1b\x01\x02\x00\x09\x00", 0), 1, 0, 0);
     /* 1, under 9 bytes, comes later */
@@ -564,11 +505,8 @@ static void other_widths(void)
 static void limits_of_8_bits(void)
 {
     fresh();
-    REFUSES(raw("\x08\x02", 2), 1, 0, 0);
-    REFUSES(raw("\x08\x02\x09", 3), 4, 0, 0);
-    REFUSES(raw("\x02\x02\x09\x40\x33\x00\x00\x00", 8), 1, 0, 0);
-    REFUSES(raw("\x05\x02\x09\xf0\x33\x00\x00\x00", 8), 1, 0, 0);
-    REFUSES(raw("\x06\x02\x09\x00\x00\x00", 6), 1, 0, 0);
+    REFUSES(raw("\x05\x02", 2), 1, 0, 0);
+    REFUSES(raw("\x05\x02\x09", 3), 4, 0, 0);
     REFUSES(raw("\x09\x02\x09\x05", 4), 1, 0, 0);
     REFUSES(raw("\x09\x02\x09\x05\x00", 5), 6, 0, 0);
     REFUSES(raw("\x09\x02\x09\x05\xc4", 5), 5, 0, 0);
@@ -644,36 +582,31 @@ static void whole_pdu(void)
     WANT(streams_end[-ROOM + 32] == 1 && streams_end[-ROOM + 33] == 0xe1);
 }
 
-static void clear_response(void)
-{
-    memset(response_end - reply(), 0, type13());
-}
-
-static void message_rows(void)
+static void messages(void)
 {
     fresh();
     REFUSES(MADE("\x1b\x01\x02\x00\x09\x18\x02", 7), 20, 0, RESPONSE);
     WANT(replied(reply(), "\x5d\x00\x09\x01\x02\x17\x02"));
-    clear_response();
+    memset(response_end - 7, 0, 7);
     REFUSES(MADE("\x1b\x01\x02\x00\x09\x19\x02", 7), 21, 0, RESPONSE);
-    clear_response();
+    memset(response_end - 7, 0, 7);
     REFUSES(MADE("\x1b\x01\x02\x00\x09\x0e\x02", MOST - 8), 21, 0, RESPONSE);
-    clear_response();
+    memset(response_end - 7, 0, 7);
     REFUSES(MADE("\x1b\x01\x02\x00\x09\x19\x02", 8), 22, 0, RESPONSE);
     /* a message of two segments: 23 before 24 */
     struct kaiverohm_report r = read_it(MADE("\x1b\x01\x02\x00\x09\x19\x00", 8));
-    WANT(r.kind == KAIVEROHM_HELD && r.response == type13());
+    WANT(r.kind == KAIVEROHM_HELD && r.response == reply());
     WANT(changed() == (STATE | MESSAGES | RESPONSE));
-    clear_response();
+    memset(response_end - 7, 0, 7);
     REFUSES(MADE("\x1b\x01\x02\x00\x09\x29\x00", 8), 23, 0, RESPONSE);
-    clear_response();
+    memset(response_end - 7, 0, 7);
     REFUSES(MADE("\x1b\x01\x02\x00\x09\x19\x00", 8), 24, 0, RESPONSE);
     for (unsigned i = 1; i < KAIVEROHM_MESSAGE_CONTEXTS; i++) {
         size_t length = MADE("\x1b\x01\x02\x00\x00\x19\x00", 8);
         set_source(0x10 + i);
         WANT(read_it(length).kind == KAIVEROHM_HELD);
     }
-    clear_response();
+    memset(response_end - 7, 0, 7);
     REFUSES(MADE("\xdb\x01\x02\x00\x0a\x09\x00", 8), 25, 0, RESPONSE);
     WANT(replied(reply(), "\xdd\x00\x0a\x01\x02\x13\x00"));
     r = read_it(MADE("\x1b\x01\x02\x00\x17\x19\x01", 8));
@@ -703,7 +636,7 @@ static void completes(size_t n, uint64_t msglen, uint64_t k, uint64_t lacking)
     uint64_t *c = holds_message(n, msglen, lacking);
     struct kaiverohm_report r = read_it(message_segment(msglen, k));
     WANT(r.kind == KAIVEROHM_MESSAGE && r.context == n && r.length == 8 * (msglen + 1));
-    WANT(r.response == type13() && zeros(c, 8 * MESSAGE_WORDS));
+    WANT(r.response == reply() && zeros(c, 8 * MESSAGE_WORDS));
 }
 
 /* The same with a mark past msglen: as many ones as segments before this one came,
@@ -750,13 +683,13 @@ static void marks_past_msglen(void)
 static struct kaiverohm_burst burst(size_t responses, size_t words, const char *records,
                                     size_t length, uint64_t pause)
 {
-    memset(response_end - PLENTY, 0xe3, PLENTY);
-    memset(reports_end - 8 * 40, 0xe4, 8 * 40);
+    memset(response_end - 64, 0xe3, 64);
+    memset(reports_end - 8 * 32, 0xe4, 8 * 32);
     memcpy(packet_end - length, records, length);
     keep();
     return kaiverohm_read_burst(state(WORDS), WORDS, streams_end - STREAM_MEMORY, STREAM_MEMORY,
                                 messages_end - KAIVEROHM_MESSAGE_MEMORY, KAIVEROHM_MESSAGE_MEMORY,
-                                memory(), memory_length, response_end - responses, responses,
+                                response_end - responses, responses,
                                 (uint64_t *)(void *)(reports_end - 8 * words), words,
                                 packet_end - length, length, pause);
 }
@@ -782,96 +715,65 @@ static const uint64_t *reports(void)
 static void rooms_for_packets(void)
 {
     fresh();
-    BURST(PLENTY, REPORTS, "", 0, KAIVEROHM_BURST_END, 0, 0, 0);
-    BURST(PLENTY, REPORTS, EMPTY EMPTY, 0, KAIVEROHM_BURST_END, 0, 2, 2);
+    BURST(64, REPORTS, "", 0, KAIVEROHM_BURST_END, 0, 0, 0);
+    BURST(64, REPORTS, EMPTY EMPTY, 0, KAIVEROHM_BURST_END, 0, 2, 2);
     /* no room for a single packet: full, and calling again with these helps nothing */
-    BURST(PLENTY, REPORT - 1, EMPTY, 0, KAIVEROHM_BURST_FULL, 0, 0, 0);
+    BURST(SLOT - 1, REPORTS, EMPTY, 0, KAIVEROHM_BURST_FULL, 0, 0, 0);
     WANT(changed() == 0);
-    BURST(PLENTY, 0, EMPTY, 0, KAIVEROHM_BURST_FULL, 0, 0, 0);
-    BURST(PLENTY, 0, "", 0, KAIVEROHM_BURST_END, 0, 0, 0);
+    BURST(64, REPORT - 1, EMPTY, 0, KAIVEROHM_BURST_FULL, 0, 0, 0);
+    BURST(64, 0, EMPTY, 0, KAIVEROHM_BURST_FULL, 0, 0, 0);
+    BURST(64, 0, "", 0, KAIVEROHM_BURST_END, 0, 0, 0);
     /* a record that is none is bad before there is no room for it */
-    BURST(PLENTY, 0, "\x05", 0, KAIVEROHM_BURST_BAD, 0, 0, 0);
+    BURST(64, 0, "\x05", 0, KAIVEROHM_BURST_BAD, 0, 0, 0);
     BURST(REPLY, REPORTS, "\x05", 0, KAIVEROHM_BURST_BAD, 0, 0, 0);
-    BURST(PLENTY, REPORT, EMPTY "\x05", 0, KAIVEROHM_BURST_BAD, 0, 1, 1);
-    BURST(PLENTY, REPORT, EMPTY "\x81\x00", 0, KAIVEROHM_BURST_BAD, 0, 1, 1);
+    BURST(64, REPORT, EMPTY "\x05", 0, KAIVEROHM_BURST_BAD, 0, 1, 1);
+    BURST(64, REPORT, EMPTY "\x81\x00", 0, KAIVEROHM_BURST_BAD, 0, 1, 1);
     /* reports of any length */
     for (size_t words = 0; words <= 3 * REPORT; words++)
-        says(burst(PLENTY, words, EMPTY EMPTY EMPTY, 3, 0),
+        says(burst(64, words, EMPTY EMPTY EMPTY, 3, 0),
              words < 3 * REPORT ? KAIVEROHM_BURST_FULL : KAIVEROHM_BURST_END, 0, words / REPORT,
              words / REPORT, __LINE__);
     /* room for one */
-    BURST(PLENTY, 2 * REPORT - 1, EMPTY EMPTY, 0, KAIVEROHM_BURST_FULL, 0, 1, 1);
-    BURST(REPLY, REPORT, EMPTY, 0, KAIVEROHM_BURST_END, 0, 1, 1);
+    BURST(64, 2 * REPORT - 1, EMPTY EMPTY, 0, KAIVEROHM_BURST_FULL, 0, 1, 1);
+    BURST(2 * SLOT - 1, REPORTS, EMPTY EMPTY, 0, KAIVEROHM_BURST_FULL, 0, 1, 1);
+    BURST(SLOT, REPORT, EMPTY, 0, KAIVEROHM_BURST_END, 0, 1, 1);
     WANT(changed() == 0);
-}
-
-/* A packet without a response uses none of the responses; behind one that has a
-   response there must be as many bytes again as 12 asks for. */
-static void rooms_for_responses(void)
-{
-    fresh();
-    BURST(REPLY, REPORTS, EMPTY EMPTY EMPTY, 0, KAIVEROHM_BURST_END, 0, 3, 3);
-    BURST(REPLY, REPORTS, EMPTY MESSAGE, 0, KAIVEROHM_BURST_END, 0, 2, 17);
-    BURST(TYPE13 + REPLY - 1, REPORTS, MESSAGE EMPTY, 0, KAIVEROHM_BURST_FULL, 0, 1, 16);
-    BURST(TYPE13 + REPLY, REPORTS, MESSAGE EMPTY, 0, KAIVEROHM_BURST_END, 0, 2, 17);
-    BURST(2 * TYPE13 + REPLY - 1, REPORTS, MESSAGE MESSAGE MESSAGE, 0, KAIVEROHM_BURST_FULL, 0, 2,
-          32);
-    BURST(2 * TYPE13 + REPLY, REPORTS, MESSAGE MESSAGE MESSAGE, 0, KAIVEROHM_BURST_END, 0, 3, 48);
-    /* bad comes before it */
-    BURST(TYPE13 + REPLY - 1, REPORTS, MESSAGE "\x05", 0, KAIVEROHM_BURST_BAD, 0, 1, 16);
 }
 
 static void lengths_of_records(void)
 {
-    BURST(PLENTY, REPORTS, EMPTY "\x80", 0, KAIVEROHM_BURST_BAD, 0, 1, 1);
-    BURST(PLENTY, REPORTS, EMPTY "\x81\x00\x61\x62\x63", 0, KAIVEROHM_BURST_BAD, 0, 1, 1);
-    BURST(PLENTY, REPORTS, EMPTY "\x81\x81\x01", 0, KAIVEROHM_BURST_BAD, 0, 1, 1);
-    BURST(PLENTY, REPORTS, EMPTY "\x02x", 0, KAIVEROHM_BURST_BAD, 0, 1, 1);
+    BURST(64, REPORTS, EMPTY "\x80", 0, KAIVEROHM_BURST_BAD, 0, 1, 1);
+    BURST(64, REPORTS, EMPTY "\x81\x00\x61\x62\x63", 0, KAIVEROHM_BURST_BAD, 0, 1, 1);
+    BURST(64, REPORTS, EMPTY "\x81\x81\x01", 0, KAIVEROHM_BURST_BAD, 0, 1, 1);
+    BURST(64, REPORTS, EMPTY "\x02x", 0, KAIVEROHM_BURST_BAD, 0, 1, 1);
     static char longest[2 + 16383 + 1];
     memcpy(longest, "\xff\x7f", 2);
-    says(burst(PLENTY, REPORTS, longest, 2 + 16383, 0), KAIVEROHM_BURST_END, 0, 1, 2 + 16383,
-         __LINE__);
-    says(burst(PLENTY, REPORTS, longest, 2 + 16382, 0), KAIVEROHM_BURST_BAD, 0, 0, 0, __LINE__);
+    says(burst(64, REPORTS, longest, 2 + 16383, 0), KAIVEROHM_BURST_END, 0, 1, 2 + 16383, __LINE__);
+    says(burst(64, REPORTS, longest, 2 + 16382, 0), KAIVEROHM_BURST_BAD, 0, 0, 0, __LINE__);
     memcpy(longest, "\x80\x01", 2);
-    says(burst(PLENTY, REPORTS, longest, 2 + 128, 0), KAIVEROHM_BURST_END, 0, 1, 2 + 128, __LINE__);
+    says(burst(64, REPORTS, longest, 2 + 128, 0), KAIVEROHM_BURST_END, 0, 1, 2 + 128, __LINE__);
 }
 
 /* pause is any number but 0; a delivery at the end is a delivery */
 static void pauses(void)
 {
-    BURST(PLENTY, REPORTS, MESSAGE MESSAGE EMPTY, 0, KAIVEROHM_BURST_END, 0, 3, 33);
-    BURST(PLENTY, REPORTS, MESSAGE MESSAGE, 1, KAIVEROHM_BURST_DELIVERY, 0, 1, 16);
-    BURST(PLENTY, REPORTS, MESSAGE MESSAGE, UINT64_C(1) << 63, KAIVEROHM_BURST_DELIVERY, 0, 1, 16);
-    BURST(PLENTY, REPORTS, EMPTY MESSAGE, 256, KAIVEROHM_BURST_DELIVERY, 0, 2, 17);
+    BURST(64, REPORTS, MESSAGE MESSAGE EMPTY, 0, KAIVEROHM_BURST_END, 0, 3, 33);
+    BURST(64, REPORTS, MESSAGE MESSAGE, 1, KAIVEROHM_BURST_DELIVERY, 0, 1, 16);
+    BURST(64, REPORTS, MESSAGE MESSAGE, UINT64_C(1) << 63, KAIVEROHM_BURST_DELIVERY, 0, 1, 16);
+    BURST(64, REPORTS, EMPTY MESSAGE, 256, KAIVEROHM_BURST_DELIVERY, 0, 2, 17);
 }
 
-/* What stays: all behind the last report and its response. */
+/* What stays: all behind the last report and its response, the eighth byte, a
+   slot without a response. */
 static void what_a_burst_leaves(void)
 {
-    enum { LENT = REPLY + 2 * TYPE13 + 3 };
-    BURST(LENT, REPORTS, EMPTY MESSAGE, 0, KAIVEROHM_BURST_END, 0, 2, 17);
-    const uint64_t *r = reports(), *second = r + REPORT;
-    WANT(r[0] == KAIVEROHM_REFUSED && r[1] == 1 && zeros(r + 2, 8 * (REPORT - 2)));
-    WANT(second[0] == KAIVEROHM_MESSAGE && second[3] == TYPE13 && second[5] == 9 && second[8] == 8);
-    WANT(second[9] == 0 && second[10] == 0);
-    WANT(all(r + 2 * REPORT, 8 * REPORT, 0xe4) && all(r - 1, 8, 0xe4));
-    WANT(memcmp(response_end - LENT, "\x5d\x00\x09\x01\x02\x10\x60", TYPE13) == 0);
-    WANT(all(response_end - LENT - 1, 1, 0xe3));
-    WANT(all(response_end - LENT + TYPE13, LENT - TYPE13, 0xe3));
-}
-
-/* One behind the other, nothing between them, each where its report says. */
-static void responses_of_a_burst(void)
-{
-    enum { LENT = REPLY + 2 * TYPE13 + 3 };
-    BURST(LENT, REPORTS, MESSAGE EMPTY MESSAGE, 0, KAIVEROHM_BURST_END, 0, 3, 33);
+    BURST(24, REPORTS, EMPTY MESSAGE, 0, KAIVEROHM_BURST_END, 0, 2, 17);
     const uint64_t *r = reports();
-    WANT(r[3] == TYPE13 && r[10] == 0);
-    WANT(r[REPORT + 3] == 0 && r[REPORT + 10] == TYPE13);
-    WANT(r[2 * REPORT + 3] == TYPE13 && r[2 * REPORT + 10] == TYPE13);
-    WANT(memcmp(response_end - LENT, "\x5d\x00\x09\x01\x02\x10\x60", TYPE13) == 0);
-    WANT(memcmp(response_end - LENT + TYPE13, "\x5d\x00\x09\x01\x02\x10\x60", TYPE13) == 0);
-    WANT(all(response_end - LENT + 2 * TYPE13, LENT - 2 * TYPE13, 0xe3));
+    WANT(r[0] == KAIVEROHM_REFUSED && r[1] == 1 && zeros(r + 2, 8 * (REPORT - 2)));
+    WANT(r[10] == KAIVEROHM_MESSAGE && r[13] == 7 && r[15] == 9 && r[18] == 8 && r[19] == 0);
+    WANT(all(r + 2 * REPORT, 8 * REPORT, 0xe4) && all(r - 1, 8, 0xe4));
+    WANT(memcmp(response_end - 16, "\x5d\x00\x09\x01\x02\x10\x60", 7) == 0);
+    WANT(all(response_end - 25, 9, 0xe3) && all(response_end - 9, 9, 0xe3));
 }
 
 /* 12 for the responses, 19 before it */
@@ -882,7 +784,7 @@ static void refused_bursts(void)
     state(WORDS)[2] = 0;
     BURST(REPLY - 1, REPORTS, MESSAGE, 0, KAIVEROHM_BURST_REFUSED, 19, 0, 0);
     WANT(changed() == 0);
-    BURST(PLENTY, REPORTS, "\x05", 0, KAIVEROHM_BURST_REFUSED, 19, 0, 0);
+    BURST(64, REPORTS, "\x05", 0, KAIVEROHM_BURST_REFUSED, 19, 0, 0);
 }
 
 /* The other lengths, each one off. */
@@ -892,55 +794,49 @@ static void lengths_of_bursts(void)
         int more = i % 2 ? 1 : -1;
         size_t words = WORDS + (i / 2 == 0 ? (size_t)more : 0);
         size_t streams = STREAM_MEMORY + (i / 2 == 1 ? (size_t)more : 0);
-        size_t messages = KAIVEROHM_MESSAGE_MEMORY + (i / 2 == 2 ? (size_t)more : 0);
+        size_t memory = KAIVEROHM_MESSAGE_MEMORY + (i / 2 == 2 ? (size_t)more : 0);
         fresh();
         if (i / 2 == 0) /* another length comes before a state that is none */
             memset(state_end - sizeof kept.state, 0, sizeof kept.state);
         keep();
         struct kaiverohm_burst b = kaiverohm_read_burst(
-            state(words), words, streams_end - streams, streams, messages_end - messages, messages,
-            memory(), memory_length, response_end - REPLY, REPLY,
-            (uint64_t *)(void *)(reports_end - 8 * REPORT), REPORT, packet_end, 0, 0);
+            state(words), words, streams_end - streams, streams, messages_end - memory, memory,
+            response_end - SLOT, SLOT, (uint64_t *)(void *)(reports_end - 8 * REPORT), REPORT,
+            packet_end, 0, 0);
         says(b, KAIVEROHM_BURST_REFUSED, 12, 0, 0, __LINE__);
         WANT(changed() == 0);
     }
 }
 
-/* With IDs of 8 bits a message's response has 5 bytes, and 12 asks for 2 less. */
-#define SHORT_MESSAGE "\x0d\x0b\x02\x09\x09\x60\x61\x62\x63\x64\x65\x66\x67\x68"
-
+/* With IDs of 8 bits: 5 bytes in all are enough for no refusal, 8 for a packet. */
 static void bursts_of_8_bits(void)
 {
-    enum { SHORT13 = TYPE13 - 2 };
-    const size_t room = reply();
+    static const char one[] = "\x0d\x0b\x02\x09\x09\x60\x61\x62\x63\x64\x65\x66\x67\x68";
     fresh();
-    BURST(room - 1, REPORTS, SHORT_MESSAGE, 0, KAIVEROHM_BURST_REFUSED, 12, 0, 0);
+    BURST(4, REPORTS, one, 0, KAIVEROHM_BURST_REFUSED, 12, 0, 0);
     WANT(changed() == 0);
     BURST(0, REPORTS, "", 0, KAIVEROHM_BURST_REFUSED, 12, 0, 0);
-    BURST(room, REPORTS, "", 0, KAIVEROHM_BURST_END, 0, 0, 0);
-    BURST(room, REPORTS, SHORT_MESSAGE, 0, KAIVEROHM_BURST_END, 0, 1, 14);
+    BURST(5, REPORTS, "", 0, KAIVEROHM_BURST_END, 0, 0, 0);
+    BURST(5, REPORTS, one, 0, KAIVEROHM_BURST_FULL, 0, 0, 0);
+    BURST(SLOT - 1, REPORTS, one, 0, KAIVEROHM_BURST_FULL, 0, 0, 0);
+    WANT(changed() == 0);
+    BURST(SLOT, REPORTS, one, 0, KAIVEROHM_BURST_END, 0, 1, 14);
+    WANT(memcmp(response_end - SLOT, "\x4d\x09\x02\x10\x60\xe3\xe3\xe3", SLOT) == 0);
     const uint64_t *r = reports();
-    WANT(memcmp(response_end - room, "\x4d\x09\x02\x10\x60", SHORT13) == 0);
-    WANT(r[0] == KAIVEROHM_MESSAGE && r[3] == SHORT13 && r[5] == 9 && r[8] == 8 && r[10] == 0);
-    BURST(SHORT13 + room - 1, REPORTS, SHORT_MESSAGE SHORT_MESSAGE, 0, KAIVEROHM_BURST_FULL, 0, 1,
-          14);
-    BURST(SHORT13 + room, REPORTS, SHORT_MESSAGE SHORT_MESSAGE, 0, KAIVEROHM_BURST_END, 0, 2, 28);
-    WANT(r[REPORT + 3] == SHORT13 && r[REPORT + 10] == SHORT13);
-    WANT(memcmp(response_end - room, "\x4d\x09\x02\x10\x60", SHORT13) == 0);
-    /* a packet of the other width has a report, and uses none of the responses */
-    BURST(room + 1, REPORTS, MESSAGE SHORT_MESSAGE, 0, KAIVEROHM_BURST_END, 0, 2, 30);
+    WANT(r[0] == KAIVEROHM_MESSAGE && r[3] == 5 && r[5] == 9 && r[8] == 8);
+    /* a packet of the other width has a report, and its slot stays */
+    BURST(2 * SLOT, REPORTS, MESSAGE "\x0d\x0b\x02\x09\x09\x60\x61\x62\x63\x64\x65\x66\x67\x68", 0,
+          KAIVEROHM_BURST_END, 0, 2, 30);
     WANT(r[0] == KAIVEROHM_REFUSED && r[1] == 2 && r[3] == 0 && r[REPORT] == KAIVEROHM_MESSAGE);
-    WANT(r[REPORT + 10] == 0 && response_end[-(ptrdiff_t)room - 1] == 0x4d);
+    WANT(all(response_end - 2 * SLOT, SLOT, 0xe3) && response_end[-SLOT] == 0x4d);
 }
 
 static void bursts(void)
 {
     rooms_for_packets();
-    rooms_for_responses();
     lengths_of_records();
     pauses();
     what_a_burst_leaves();
-    responses_of_a_burst();
     refused_bursts();
     lengths_of_bursts();
 }
@@ -1379,28 +1275,25 @@ static size_t three_records(uint8_t *records, size_t *third)
     return length;
 }
 
-/* A report of a burst has eleven words, the priority before the last. Without room
-   for all eleven the burst is full, and the ten are left. */
+/* A report of a burst has ten words, the priority last. Without room for all ten
+   the burst is full, and the nine are left. */
 static void priorities_of_a_burst(void)
 {
     uint8_t records[3 * 64];
     size_t third, length = three_records(records, &third);
     const char *bytes = (const char *)records;
     const uint64_t *r = reports();
-    const struct kaiverohm_report delivered = {
-        KAIVEROHM_DELIVERED, 0, 0, 0, 0, 9, 5, 7, PDU, 2, type13()
-    };
+    const struct kaiverohm_report delivered = { KAIVEROHM_DELIVERED, 0, 0, 0, 0, 9, 5, 7, PDU, 2 };
     fresh();
-    says(burst(PLENTY, REPORTS, bytes, length, 0), KAIVEROHM_BURST_END, 0, 3, length, __LINE__);
+    says(burst(64, REPORTS, bytes, length, 0), KAIVEROHM_BURST_END, 0, 3, length, __LINE__);
     WANT(r[0] == KAIVEROHM_HELD && zeros(r + 1, 8 * (REPORT - 1)));
-    WANT(r[REPORT] == KAIVEROHM_MESSAGE && r[REPORT + 5] == 9 && r[REPORT + 8] == 8);
-    WANT(r[REPORT + 9] == 0 && r[REPORT + 10] == 0);
-    WANT(memcmp(r + 2 * REPORT, &delivered, sizeof delivered) == 0);
+    WANT(r[10] == KAIVEROHM_MESSAGE && r[15] == 9 && r[18] == 8 && r[19] == 0);
+    WANT(memcmp(r + 20, &delivered, sizeof delivered) == 0);
     fresh();
-    says(burst(PLENTY, REPORTS - 1, bytes, length, 0), KAIVEROHM_BURST_FULL, 0, 2, third, __LINE__);
+    says(burst(64, REPORTS - 1, bytes, length, 0), KAIVEROHM_BURST_FULL, 0, 2, third, __LINE__);
     r++; /* it begins one word later */
-    WANT(r[0] == KAIVEROHM_HELD && r[REPORT] == KAIVEROHM_MESSAGE && r[REPORT + 9] == 0);
-    WANT(all(r + 2 * REPORT, 8 * (REPORT - 1), 0xe4) && r[-1] == UINT64_C(0xe4e4e4e4e4e4e4e4));
+    WANT(r[0] == KAIVEROHM_HELD && r[10] == KAIVEROHM_MESSAGE && r[19] == 0);
+    WANT(all(r + 20, 8 * (REPORT - 1), 0xe4) && r[-1] == UINT64_C(0xe4e4e4e4e4e4e4e4));
 }
 
 /* A state of interface 2 with a PDU open: 12 from every call, no room, all stays. */
@@ -1416,9 +1309,9 @@ static void old_state(void)
     struct kaiverohm_report r = lent(words, STREAM_MEMORY, m, reply(), START("\x09"));
     WANT(r.kind == KAIVEROHM_REFUSED && r.number == 12);
     says(kaiverohm_read_burst(s, words, streams_end - STREAM_MEMORY, STREAM_MEMORY,
-                              messages_end - m, m, memory(), memory_length, response_end - REPLY,
-                              REPLY, (uint64_t *)(void *)(reports_end - 8 * REPORT), REPORT,
-                              packet_end, 0, 0),
+                              messages_end - m, m, response_end - SLOT, SLOT,
+                              (uint64_t *)(void *)(reports_end - 8 * REPORT), REPORT, packet_end, 0,
+                              0),
          KAIVEROHM_BURST_REFUSED, 12, 0, 0, __LINE__);
     WANT(kaiverohm_setup(s, words, settings).number == 12);
     WANT(kaiverohm_stream_context(s, words, 0).number == 12);
@@ -1428,463 +1321,6 @@ static void old_state(void)
     STREAM_ROOM(words, STREAM_MEMORY, 0, 1, 0, 0);
     MESSAGE_ROOM(words, m, 0, 1, 0, 0);
     WANT(changed() == 0);
-}
-
-/* ---- requests for the memory */
-
-enum { ERROR = 1, SILENT = 0, AT = 16 };
-
-#define OUTSIDE (UINT64_C(1) << 33)
-
-/* Of board 9, TID 0x33. Byte 5 is transaction and size; type 6 has neither it nor a TID. */
-static size_t request(unsigned type, unsigned fifth, unsigned wdptr, uint64_t address, size_t data)
-{
-    const uint64_t word = (address & 0xfffffff8) | wdptr << 2 | (address >> 32 & 3);
-    char head[11] = { (char)(0x10 | type), 1, 2, 0, 9, (char)fifth, 0x33 };
-    size_t at = type == 6 ? 5 : 7;
-    for (int shift = 24; shift >= 0; shift -= 8)
-        head[at++] = (char)(word >> shift);
-    return made(head, at, data);
-}
-
-/* What is refused leaves all but the response, which is ERROR or none. */
-static void refuses_request(size_t length, unsigned number, int told, int line)
-{
-    fresh();
-    const size_t written = told ? type13() : 0;
-    reports_so(read_it(length),
-               (struct kaiverohm_report){
-                   .kind = KAIVEROHM_REFUSED, .number = number, .response = written },
-               line);
-    want(changed() == (told ? RESPONSE : 0), "what a refused request leaves", line);
-    want(!told || replied(reply(), "\x5d\x00\x09\x01\x02\x07\x33"), "ERROR", line);
-    want(all(response_end - reply() + written, reply() - written, 0xe3), "behind it", line);
-    want(memcmp(packet_end - length, packet, length) == 0, "the packet", line);
-}
-
-#define REFUSES_REQUEST(length, number, told) refuses_request(length, number, told, __LINE__)
-
-/* A report of what is served, and just these buffers are changed. */
-static void serves(size_t length, unsigned name, uint64_t from, size_t count, size_t written,
-                   int changes, int line)
-{
-    fresh();
-    reports_so(read_it(length),
-               (struct kaiverohm_report){ .kind = KAIVEROHM_DONE,
-                                          .response = written,
-                                          .source = 9,
-                                          .cos_or_letter = name,
-                                          .stream_or_mailbox = from,
-                                          .length = count },
-               line);
-    want(changed() == changes, "what a served request leaves", line);
-    want(memcmp(packet_end - length, packet, length) == 0, "the packet", line);
-}
-
-/* The first byte that a row of the tables names, from the double-word on. */
-static size_t first_of(const struct size *row)
-{
-    return row->form == LANES ? (size_t)(strchr(row->lanes, '1') - row->lanes) : 0;
-}
-
-/* Row 1, and nothing else of the packet is looked at. */
-static void requests_too_short(void)
-{
-    static const unsigned fifth[] = { 0x40, 0x5d, 0x4f, 0xc0, 0x00 };
-    for (size_t i = 0; i < sizeof fifth / sizeof fifth[0]; i++)
-        for (size_t less = 1; less <= 9; less++) {
-            REFUSES_REQUEST(request(2, fifth[i], 1, OUTSIDE, 0) - less, 1, SILENT);
-            REFUSES_REQUEST(request(5, fifth[i], 1, OUTSIDE, 0) - less, 1, SILENT);
-            if (less <= 7)
-                REFUSES_REQUEST(request(6, 0, 1, OUTSIDE, 0) - less, 1, SILENT);
-        }
-}
-
-/* Row 31 of a transaction: with any size, any data, any address, and no response. */
-static void reserved_transactions(unsigned type)
-{
-    for (unsigned transaction = 0; transaction < 16; transaction++)
-        for (unsigned size = 0; size < 32; size++) {
-            const unsigned fifth = transaction << 4 | size % 16;
-            if (transaction == 4 || (type == 5 && transaction == 5))
-                continue;
-            REFUSES_REQUEST(request(type, fifth, size / 16, 0, type == 5 ? 8 : 0), 31, SILENT);
-            if (size % 5 == 0)
-                REFUSES_REQUEST(request(type, fifth, size / 16, OUTSIDE, size), 31, SILENT);
-        }
-}
-
-/* The transactions of a write: NWRITE has no response, NWRITE_R has. */
-enum { WITHOUT = 0x40, WITH = 0x50 };
-
-static int told(unsigned transaction)
-{
-    return transaction == WITH ? ERROR : SILENT;
-}
-
-/* Row 31 of a size that no write has. */
-static void reserved_size(const struct size *row, unsigned transaction)
-{
-    static const size_t data[] = { 0, 1, 8, 256, 264 };
-    for (size_t i = 0; i < sizeof data / sizeof data[0]; i++) {
-        const unsigned fifth = transaction | row->code;
-        REFUSES_REQUEST(request(5, fifth, row->wdptr, 0, data[i]), 31, told(transaction));
-        REFUSES_REQUEST(request(5, fifth, row->wdptr, OUTSIDE, data[i]), 31, told(transaction));
-    }
-}
-
-static int allows(const struct size *row, size_t data)
-{
-    if (row->form == LANES)
-        return data == 8;
-    return data >= 8 && data <= row->bytes && data % 8 == 0;
-}
-
-/* Row 32: any other number of data bytes, also where row 30 holds. */
-static void data_not_allowed(const struct size *row, unsigned transaction)
-{
-    static const size_t some[] = { 0,  1,  4,  7,  8,   9,   15,  16,  17,  24,  32,
-                                   40, 64, 72, 96, 128, 136, 255, 256, 257, 264, 65536 };
-    for (size_t i = 0; i < sizeof some / sizeof some[0]; i++) {
-        const uint64_t address = i % 2 ? OUTSIDE : 0;
-        if (!allows(row, some[i]))
-            REFUSES_REQUEST(request(5, transaction | row->code, row->wdptr, address, some[i]), 32,
-                            told(transaction));
-    }
-}
-
-/* What a write names is written from there on, and no other byte. */
-static void wrote(size_t first, size_t count, int line)
-{
-    const uint8_t *before = kept.memory + MEMORY - memory_length;
-    want(memcmp(memory(), before, AT + first) == 0, "before it", line);
-    const size_t data = (narrow ? 9 : 11) - (packet[0] % 16 == 6 ? 2 : 0);
-    want(memcmp(memory() + AT + first, packet + data + first, count) == 0, "what it wrote", line);
-    const size_t behind = AT + first + count;
-    want(memcmp(memory() + behind, before + behind, memory_length - behind) == 0, "behind", line);
-}
-
-/* The last byte that it names is the memory's last, or there is one behind it; then one
-   less. */
-static void writes_to_the_end(const struct size *row, unsigned transaction, size_t data)
-{
-    const size_t first = first_of(row), count = row->form == LANES ? row->bytes : data;
-    const size_t length = request(5, transaction | row->code, row->wdptr, AT, data);
-    for (size_t more = 0; more < 2; more++) {
-        memory_length = AT + first + count + more;
-        serves(length, transaction == WITH ? KAIVEROHM_NWRITE_R : KAIVEROHM_NWRITE, AT + first,
-               count, transaction == WITH ? type13() : 0,
-               transaction == WITH ? MEMORY_BYTES | RESPONSE : MEMORY_BYTES, __LINE__);
-        wrote(first, count, __LINE__);
-        if (transaction == WITH)
-            WANT(replied(reply(), "\x5d\x00\x09\x01\x02\x00\x33"));
-        WANT(all(response_end - reply() + type13(), reply() - type13(), 0xe3));
-    }
-    memory_length = AT + first + count - 1;
-    REFUSES_REQUEST(length, 30, told(transaction));
-    memory_length = MEMORY;
-}
-
-/* The response has the double-word, 0 beside the lanes, or all the bytes. */
-static void brought(size_t first, size_t count, int line)
-{
-    const size_t data = count < 8 ? 8 : count;
-    const uint8_t *at = response_end - reply() + type13();
-    want(replied(reply(), "\x5d\x00\x09\x01\x02\x80\x33"), "DONE", line);
-    want(zeros(at, first), "0 in front of the lanes", line);
-    want(memcmp(at + first, memory() + AT + first, count) == 0, "the bytes of the memory", line);
-    want(zeros(at + first + count, data - first - count), "0 behind the lanes", line);
-    want(all(at + data, reply() - type13() - data, 0xe3), "behind the response", line);
-}
-
-static void reads_to_the_end(const struct size *row)
-{
-    const size_t first = first_of(row), count = row->bytes, data = count < 8 ? 8 : count;
-    const size_t length = request(2, 0x40 | row->code, row->wdptr, AT, 0);
-    for (size_t more = 0; more < 2; more++) {
-        memory_length = AT + first + count + more;
-        serves(length, KAIVEROHM_NREAD, AT + first, count, type13() + data, RESPONSE, __LINE__);
-        brought(first, count, __LINE__);
-    }
-    memory_length = AT + first + count - 1;
-    REFUSES_REQUEST(length, 30, ERROR);
-    memory_length = MEMORY;
-    for (size_t extra = 1; extra < 20; extra++)
-        REFUSES_REQUEST(request(2, 0x40 | row->code, row->wdptr, extra % 2 ? OUTSIDE : 0, extra),
-                        32, ERROR);
-}
-
-/* SWRITE has 1 to 32 double-words. The bit in wdptr's place is not looked at. */
-static void streaming_writes(unsigned bit)
-{
-    for (size_t data = 0; data < 280; data++) {
-        const size_t length = request(6, 0, bit, AT, data);
-        if (data == 0 || data % 8 != 0 || data > 256) {
-            memory_length = data % 2 ? MEMORY : 0;
-            REFUSES_REQUEST(length, 32, SILENT);
-            continue;
-        }
-        memory_length = AT + data;
-        serves(length, KAIVEROHM_SWRITE, AT, data, 0, MEMORY_BYTES, __LINE__);
-        wrote(0, data, __LINE__);
-        memory_length--;
-        REFUSES_REQUEST(length, 30, SILENT);
-    }
-    memory_length = MEMORY;
-}
-
-/* All 34 bits of an address count: those that xamsbs has, and the highest of the word. */
-static void far_addresses(void)
-{
-    static const uint64_t far[] = { MEMORY,
-                                    UINT64_C(1) << 31,
-                                    UINT64_C(1) << 32,
-                                    (UINT64_C(1) << 33) + 8,
-                                    UINT64_C(3) << 32,
-                                    (UINT64_C(1) << 34) - 8 };
-    for (size_t i = 0; i < sizeof far / sizeof far[0]; i++) {
-        REFUSES_REQUEST(request(2, 0x40, 0, far[i], 0), 30, ERROR);
-        REFUSES_REQUEST(request(2, 0x4f, 1, far[i], 0), 30, ERROR);
-        REFUSES_REQUEST(request(5, 0x4b, 0, far[i], 8), 30, SILENT);
-        REFUSES_REQUEST(request(5, 0x5f, 1, far[i], 256), 30, ERROR);
-        REFUSES_REQUEST(request(6, 0, 0, far[i], 8), 30, SILENT);
-    }
-}
-
-/* 'Wholly inside' counts the bytes that are named. */
-static void small_memories(void)
-{
-    memory_length = 3;
-    serves(request(2, 0x42, 0, 0, 0), KAIVEROHM_NREAD, 2, 1, type13() + 8, RESPONSE, __LINE__);
-    WANT(response_end[-(ptrdiff_t)reply() + (ptrdiff_t)type13() + 2] == memory()[2]);
-    serves(request(5, 0x42, 0, 0, 8), KAIVEROHM_NWRITE, 2, 1, 0, MEMORY_BYTES, __LINE__);
-    WANT(memory()[2] == 3);
-    REFUSES_REQUEST(request(2, 0x43, 0, 0, 0), 30, ERROR);
-    REFUSES_REQUEST(request(2, 0x4b, 0, 0, 0), 30, ERROR);
-    REFUSES_REQUEST(request(6, 0, 0, 0, 8), 30, SILENT);
-    memory_length = 0;
-    for (unsigned size = 0; size < 32; size++)
-        REFUSES_REQUEST(request(2, 0x40 | size % 16, size / 16, 0, 0), 30, ERROR);
-    REFUSES_REQUEST(request(5, 0x40, 0, 0, 8), 30, SILENT);
-    REFUSES_REQUEST(request(5, 0x50, 0, 0, 8), 30, ERROR);
-    REFUSES_REQUEST(request(6, 0, 0, 0, 8), 30, SILENT);
-    memory_length = MEMORY;
-}
-
-/* The response's priority is one above, at most 3. */
-static void priorities_of_requests(void)
-{
-    for (unsigned priority = 0; priority < 4; priority++) {
-        const unsigned above = priority < 3 ? priority + 1 : 3;
-        fresh();
-        read_it(at_priority(priority, request(2, 0x4b, 0, 8, 0)));
-        WANT(response_end[-(ptrdiff_t)reply()] >> 6 == above);
-        read_it(at_priority(priority, request(5, 0x5b, 0, OUTSIDE, 8)));
-        WANT(response_end[-(ptrdiff_t)reply()] >> 6 == above);
-    }
-}
-
-/* A PDU and a message under way are none of a request's business. */
-static void requests_between(void)
-{
-    const struct scan s = { 9, 0, 7 };
-    fresh();
-    begins(s, 0, __LINE__);
-    read_it(MADE("\x1b\x01\x02\x00\x09\x19\x60", 8));
-    WANT(read_it(request(5, 0x4f, 1, 0, 256)).kind == KAIVEROHM_DONE && changed() == MEMORY_BYTES);
-    WANT(read_it(request(2, 0x4f, 1, 0, 0)).kind == KAIVEROHM_DONE && changed() == RESPONSE);
-    WANT(read_it(request(2, 0x4f, 1, OUTSIDE, 0)).number == 30 && changed() == RESPONSE);
-    holds_start(0, s, __LINE__);
-    delivers(0, s, __LINE__);
-    WANT(changed() == (STATE | STREAMS));
-    WANT(read_it(MADE("\x1b\x01\x02\x00\x09\x19\x61", 8)).kind == KAIVEROHM_MESSAGE);
-    WANT(changed() == (STATE | MESSAGES | RESPONSE));
-}
-
-/* Every row of the tables, read and written. */
-static void requests(void)
-{
-    requests_too_short();
-    reserved_transactions(2);
-    reserved_transactions(5);
-    for (size_t i = 0; i < 32; i++) {
-        reads_to_the_end(&table_4_3[i]);
-        for (unsigned transaction = WITHOUT; transaction <= WITH; transaction += WITH - WITHOUT) {
-            const struct size *row = &table_4_4[i];
-            if (row->form == RESERVED) {
-                reserved_size(row, transaction);
-                continue;
-            }
-            data_not_allowed(row, transaction);
-            for (size_t data = 8; allows(row, data); data += 8)
-                writes_to_the_end(row, transaction, data);
-        }
-    }
-    streaming_writes(0);
-    streaming_writes(1);
-    far_addresses();
-    small_memories();
-    priorities_of_requests();
-    requests_between();
-}
-
-/* ---- four requests byte by byte, by single calls and in a burst: device 1, board 2,
-   TID 0x33, priority 0, a memory of zeros. Responses with IDs of 16 bits */
-
-static const struct {
-    const char *packet;
-    size_t length;
-    const char *response;
-    size_t written;
-    struct kaiverohm_report report;
-} vectors[] = {
-    { "\x12\x00\x01\x00\x02\x4b\x33\x00\x00\x00\x10",
-      11,
-      "\x5d\x00\x02\x00\x01\x80\x33\x00\x00\x00\x00\x00\x00\x00\x00",
-      15,
-      { .kind = KAIVEROHM_DONE,
-        .source = 2,
-        .cos_or_letter = KAIVEROHM_NREAD,
-        .stream_or_mailbox = 0x10,
-        .length = 8 } },
-    { "\x15\x00\x01\x00\x02\x51\x33\x00\x00\x00\x14\x00\x00\x00\x00\x00\xab\x00\x00",
-      19,
-      "\x5d\x00\x02\x00\x01\x00\x33",
-      7,
-      { .kind = KAIVEROHM_DONE,
-        .source = 2,
-        .cos_or_letter = KAIVEROHM_NWRITE_R,
-        .stream_or_mailbox = 0x15,
-        .length = 1 } },
-    { "\x16\x00\x01\x00\x02\x00\x00\x00\x20\x01\x02\x03\x04\x05\x06\x07\x08",
-      17,
-      "",
-      0,
-      { .kind = KAIVEROHM_DONE,
-        .source = 2,
-        .cos_or_letter = KAIVEROHM_SWRITE,
-        .stream_or_mailbox = 0x20,
-        .length = 8 } },
-    { "\x12\x00\x01\x00\x02\x4b\x33\x00\x00\x00\x02",
-      11,
-      "\x5d\x00\x02\x00\x01\x07\x33",
-      7,
-      { .kind = KAIVEROHM_REFUSED, .number = 30 } },
-};
-
-enum { VECTORS = sizeof vectors / sizeof vectors[0] };
-
-static void begin_vectors(void)
-{
-    fresh();
-    state(WORDS)[0] = 1;
-    memset(memory(), 0, memory_length);
-}
-
-/* Vector k with the response at a place, from where it was lent on. */
-static void vector_answered(size_t k, struct kaiverohm_report r, const uint8_t *lent_from,
-                            uint64_t at)
-{
-    const uint8_t *w = (const uint8_t *)vectors[k].response;
-    const size_t cut = narrow && vectors[k].written ? 2 : 0;
-    struct kaiverohm_report wanted = vectors[k].report;
-    wanted.response = vectors[k].written - cut;
-    wanted.response_at = at;
-    reports_so(r, wanted, __LINE__);
-    if (cut) {
-        const uint8_t short_head[] = { w[0] ^ 0x10, w[2], w[4] };
-        WANT(memcmp(lent_from + at, short_head, 3) == 0);
-        WANT(memcmp(lent_from + at + 3, w + 5, vectors[k].written - 5) == 0);
-    } else
-        WANT(memcmp(lent_from + at, w, vectors[k].written) == 0);
-}
-
-/* What the second and the third have written is there, and nothing else. */
-static int vectors_wrote(void)
-{
-    return zeros(memory(), 0x15) && memory()[0x15] == 0xab && zeros(memory() + 0x16, 10)
-           && memcmp(memory() + 0x20, "\x01\x02\x03\x04\x05\x06\x07\x08", 8) == 0
-           && zeros(memory() + 0x28, memory_length - 0x28);
-}
-
-static size_t vector(size_t k)
-{
-    memcpy(packet, vectors[k].packet, vectors[k].length);
-    return at_our_width(vectors[k].length);
-}
-
-static void vectors_by_calls(void)
-{
-    begin_vectors();
-    for (size_t k = 0; k < VECTORS; k++) {
-        memset(response_end - PLENTY, 0xe3, PLENTY);
-        struct kaiverohm_report r = read_it(vector(k));
-        vector_answered(k, r, response_end - reply(), 0);
-        WANT(all(response_end - reply() + r.response, reply() - r.response, 0xe3));
-    }
-    WANT(vectors_wrote());
-}
-
-/* Each report where it belongs, however many of them a call has room for. */
-static void vectors_in_bursts(size_t at_once)
-{
-    uint8_t records[VECTORS * 20];
-    size_t ends[VECTORS], length = 0, done = 0;
-    for (size_t k = 0; k < VECTORS; k++) {
-        const size_t bytes = vector(k);
-        length += kaiverohm_write_record(records + length, 20, packet, bytes).number;
-        ends[k] = length;
-    }
-    begin_vectors();
-    for (size_t from = 0; done < VECTORS; from = ends[done - 1]) {
-        const size_t left = VECTORS - done, count = left < at_once ? left : at_once;
-        const struct kaiverohm_burst b =
-            burst(PLENTY, at_once * REPORT, (const char *)records + from, length - from, 1);
-        says(b, left > at_once ? KAIVEROHM_BURST_FULL : KAIVEROHM_BURST_END, 0, count,
-             ends[done + count - 1] - from, __LINE__);
-        uint64_t used = 0;
-        for (size_t i = 0; i < count; i++) {
-            struct kaiverohm_report r;
-            memcpy(&r, reports_end - 8 * REPORT * (at_once - i), sizeof r);
-            vector_answered(done + i, r, response_end - PLENTY, used);
-            used += r.response;
-        }
-        WANT(all(response_end - PLENTY + used, PLENTY - used, 0xe3));
-        done += count;
-    }
-    WANT(vectors_wrote());
-}
-
-/* Two reads of 256 bytes: behind the first there must be as much again. */
-static void reads_in_a_burst(void)
-{
-    uint8_t records[2 * 13];
-    const size_t bytes = request(2, 0x4f, 1, 0, 0), one = bytes + 1;
-    for (size_t k = 0; k < 2; k++)
-        kaiverohm_write_record(records + k * one, one, packet, bytes);
-    const char *both = (const char *)records;
-    const uint64_t *r = reports();
-    fresh();
-    says(burst(reply() - 1, REPORTS, both, one, 0), KAIVEROHM_BURST_REFUSED, 12, 0, 0, __LINE__);
-    WANT(changed() == 0);
-    says(burst(2 * reply() - 1, REPORTS, both, 2 * one, 0), KAIVEROHM_BURST_FULL, 0, 1, one,
-         __LINE__);
-    WANT(r[3] == reply() && r[10] == 0 && all(r + REPORT, 8 * REPORT, 0xe4));
-    WANT(all(response_end - reply() + 1, reply() - 1, 0xe3));
-    says(burst(2 * reply(), REPORTS, both, 2 * one, 0), KAIVEROHM_BURST_END, 0, 2, 2 * one,
-         __LINE__);
-    WANT(r[REPORT] == KAIVEROHM_DONE && r[REPORT + 3] == reply() && r[REPORT + 10] == reply());
-    for (size_t k = 1; k <= 2; k++) {
-        WANT(replied(k * reply(), "\x5d\x00\x09\x01\x02\x80\x33"));
-        WANT(memcmp(response_end - k * reply() + type13(), memory(), 256) == 0);
-    }
-}
-
-static void requests_in_bursts(void)
-{
-    for (size_t at_once = 1; at_once <= 3; at_once++)
-        vectors_in_bursts(at_once);
-    reads_in_a_burst();
 }
 
 /* ---- the segment writer */
@@ -2034,10 +1470,10 @@ static void records_read_back(void)
         struct kaiverohm_answer a =
             kaiverohm_write_record(bytes, sizeof bytes, packet_end - length, length);
         memcpy(bytes + a.number, bytes, a.number);
-        says(burst(PLENTY, REPORTS, (const char *)bytes, 2 * a.number, 0), KAIVEROHM_BURST_END, 0,
-             2, 2 * a.number, __LINE__);
-        says(burst(PLENTY, REPORTS, (const char *)bytes, 2 * a.number - 1, 0), KAIVEROHM_BURST_BAD,
-             0, 1, a.number, __LINE__);
+        says(burst(64, REPORTS, (const char *)bytes, 2 * a.number, 0), KAIVEROHM_BURST_END, 0, 2,
+             2 * a.number, __LINE__);
+        says(burst(64, REPORTS, (const char *)bytes, 2 * a.number - 1, 0), KAIVEROHM_BURST_BAD, 0,
+             1, a.number, __LINE__);
     }
 }
 
@@ -2046,7 +1482,6 @@ static void at_this_width(void)
 {
     setups();
     lengths();
-    response_rooms();
     states();
     wide_stream_numbers();
     wide_message_numbers();
@@ -2056,15 +1491,12 @@ static void at_this_width(void)
     rows_8_9_and_11();
     row_10();
     whole_pdu();
-    message_rows();
+    messages();
     marks_past_msglen();
     abandons();
     priorities();
     priorities_of_a_burst();
     old_state();
-    requests();
-    vectors_by_calls();
-    requests_in_bursts();
     writer();
     writer_47();
     if (narrow) {
@@ -2075,14 +1507,12 @@ static void at_this_width(void)
 
 int main(void)
 {
-    settle();
     state_end = fenced(sizeof kept.state) + sizeof kept.state;
     streams_end = fenced(sizeof kept.streams) + sizeof kept.streams;
     messages_end = fenced(sizeof kept.messages) + sizeof kept.messages;
-    memory_end = fenced(sizeof kept.memory) + sizeof kept.memory;
     response_end = fenced(sizeof kept.response) + sizeof kept.response;
     packet_end = fenced(MOST) + MOST;
-    reports_end = fenced(8 * 40) + 8 * 40;
+    reports_end = fenced(400) + 400;
     records_end = fenced(RECORD + 8) + RECORD + 8;
     for (size_t i = 0; i < sizeof widths / sizeof widths[0]; i++) {
         narrow = widths[i];

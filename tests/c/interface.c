@@ -25,7 +25,6 @@ _Static_assert(offsetof(struct kaiverohm_report, cos_or_letter) == 48, "report")
 _Static_assert(offsetof(struct kaiverohm_report, stream_or_mailbox) == 56, "report");
 _Static_assert(offsetof(struct kaiverohm_report, length) == 64, "report");
 _Static_assert(offsetof(struct kaiverohm_report, priority) == 72, "report");
-_Static_assert(offsetof(struct kaiverohm_report, response_at) == 80, "report");
 
 _Static_assert(sizeof(struct kaiverohm_burst) == 32, "burst");
 _Static_assert(offsetof(struct kaiverohm_burst, stop) == 0, "burst");
@@ -71,41 +70,36 @@ _Static_assert(offsetof(struct kaiverohm_settings, mtu) == 8, "settings");
 _Static_assert(offsetof(struct kaiverohm_settings, room) == 16, "settings");
 _Static_assert(offsetof(struct kaiverohm_settings, narrow) == 24, "settings");
 
-_Static_assert(sizeof(struct kaiverohm_desk) == 80, "desk");
+_Static_assert(sizeof(struct kaiverohm_desk) == 64, "desk");
 _Static_assert(offsetof(struct kaiverohm_desk, state) == 0, "desk");
 _Static_assert(offsetof(struct kaiverohm_desk, state_words) == 8, "desk");
 _Static_assert(offsetof(struct kaiverohm_desk, stream_memory) == 16, "desk");
 _Static_assert(offsetof(struct kaiverohm_desk, stream_length) == 24, "desk");
 _Static_assert(offsetof(struct kaiverohm_desk, message_memory) == 32, "desk");
 _Static_assert(offsetof(struct kaiverohm_desk, message_length) == 40, "desk");
-_Static_assert(offsetof(struct kaiverohm_desk, memory) == 48, "desk");
-_Static_assert(offsetof(struct kaiverohm_desk, memory_length) == 56, "desk");
-_Static_assert(offsetof(struct kaiverohm_desk, response) == 64, "desk");
-_Static_assert(offsetof(struct kaiverohm_desk, response_length) == 72, "desk");
+_Static_assert(offsetof(struct kaiverohm_desk, response) == 48, "desk");
+_Static_assert(offsetof(struct kaiverohm_desk, response_length) == 56, "desk");
 
 _Static_assert(KAIVEROHM_STATE_WORDS == 164, "sizes");
 _Static_assert(KAIVEROHM_STREAM_CONTEXTS == 16 && KAIVEROHM_MESSAGE_CONTEXTS == 8, "sizes");
 _Static_assert(KAIVEROHM_MESSAGE_ROOM == 4096 && KAIVEROHM_MESSAGE_MEMORY == 32768, "sizes");
-_Static_assert(KAIVEROHM_RESPONSE_ROOM == 263, "sizes");
+_Static_assert(KAIVEROHM_RESPONSE_BYTES == 7 && KAIVEROHM_SLOT_BYTES == 8, "sizes");
 _Static_assert(KAIVEROHM_LARGEST_PDU == 65536 && KAIVEROHM_LARGEST_PACKET == 265, "sizes");
-_Static_assert(KAIVEROHM_LARGEST_RECORDED == 16383 && KAIVEROHM_REPORT_WORDS == 11, "sizes");
+_Static_assert(KAIVEROHM_LARGEST_RECORDED == 16383 && KAIVEROHM_REPORT_WORDS == 10, "sizes");
 _Static_assert(KAIVEROHM_SMALLEST_MTU == 32 && KAIVEROHM_LARGEST_MTU == 256, "sizes");
 _Static_assert(KAIVEROHM_MTU_STEP == 4 && KAIVEROHM_LARGEST_ROOM == 65536, "sizes");
 
 _Static_assert(KAIVEROHM_REFUSED == 0 && KAIVEROHM_HELD == 1 && KAIVEROHM_DELIVERED == 2, "kinds");
 _Static_assert(KAIVEROHM_MESSAGE == 3 && KAIVEROHM_READY == 4 && KAIVEROHM_CLOSED == 5, "kinds");
 _Static_assert(KAIVEROHM_WAS_FREE == 6 && KAIVEROHM_WRITTEN == 7, "kinds");
-_Static_assert(KAIVEROHM_OPEN == 8 && KAIVEROHM_DONE == 9, "kinds");
-_Static_assert(KAIVEROHM_NREAD == 0x24 && KAIVEROHM_NWRITE == 0x54, "requests");
-_Static_assert(KAIVEROHM_NWRITE_R == 0x55 && KAIVEROHM_SWRITE == 0x60, "requests");
 _Static_assert(KAIVEROHM_BURST_REFUSED == 0 && KAIVEROHM_BURST_END == 1, "stops");
 _Static_assert(KAIVEROHM_BURST_BAD == 2 && KAIVEROHM_BURST_FULL == 3, "stops");
 _Static_assert(KAIVEROHM_BURST_DELIVERY == 4, "stops");
 
-/* All of this is interface 4. Where a line above or below has to change, and not
+/* All of this is interface 3. Where a line above or below has to change, and not
    only one to be added, the number rises, here, in the header and in
    crates/kaiverohm. */
-_Static_assert(KAIVEROHM_INTERFACE == 4, "interface");
+_Static_assert(KAIVEROHM_INTERFACE == 3, "interface");
 
 /* The types once more, as crates/kaiverohm/src/lib.rt has them: a pointer and
    a length for each slice. The compiler refuses a header that has others. */
@@ -113,11 +107,10 @@ uint64_t kaiverohm_interface(void);
 uint64_t kaiverohm_state_length(void);
 struct kaiverohm_answer kaiverohm_setup(uint64_t *, size_t, struct kaiverohm_settings);
 struct kaiverohm_report kaiverohm_read(uint64_t *, size_t, uint8_t *, size_t, uint8_t *, size_t,
-                                       uint8_t *, size_t, uint8_t *, size_t, const uint8_t *,
-                                       size_t);
+                                       uint8_t *, size_t, const uint8_t *, size_t);
 struct kaiverohm_burst kaiverohm_read_burst(uint64_t *, size_t, uint8_t *, size_t, uint8_t *,
-                                            size_t, uint8_t *, size_t, uint8_t *, size_t,
-                                            uint64_t *, size_t, const uint8_t *, size_t, uint64_t);
+                                            size_t, uint8_t *, size_t, uint64_t *, size_t,
+                                            const uint8_t *, size_t, uint64_t);
 struct kaiverohm_open_stream kaiverohm_stream_context(const uint64_t *, size_t, uint64_t);
 struct kaiverohm_open_message kaiverohm_message_context(const uint64_t *, size_t, uint64_t);
 struct kaiverohm_answer kaiverohm_abandon_stream(uint64_t *, size_t, uint64_t);
@@ -138,8 +131,7 @@ enum { MTU = 32, ROOM = 1024, WORDS = KAIVEROHM_STATE_WORDS };
 static uint64_t state[WORDS];
 static uint8_t streams[KAIVEROHM_STREAM_MEMORY(ROOM)];
 static uint8_t messages[KAIVEROHM_MESSAGE_MEMORY];
-static uint8_t memory[64];
-static uint8_t response[KAIVEROHM_RESPONSE_ROOM];
+static uint8_t response[KAIVEROHM_RESPONSE_BYTES];
 
 /* A PDU, its two packets of 41 and 17 bytes, and a message of one segment: 15 bytes. */
 static uint8_t pdu[40], start[64], end[64];
@@ -159,14 +151,12 @@ static int is(struct kaiverohm_answer a, uint64_t kind, uint64_t number)
 #define TEXT_OF(number) #number
 #define TEXT(number) TEXT_OF(number)
 
-/* A patch of 0 is left out of the text. */
 static void versions(void)
 {
-    static const char two[] = TEXT(KAIVEROHM_VERSION_MAJOR) "." TEXT(KAIVEROHM_VERSION_MINOR);
-    static const char three[] = TEXT(KAIVEROHM_VERSION_MAJOR) "." TEXT(
+    static const char spelled[] = TEXT(KAIVEROHM_VERSION_MAJOR) "." TEXT(
         KAIVEROHM_VERSION_MINOR) "." TEXT(KAIVEROHM_VERSION_PATCH);
     WANT(kaiverohm_interface() == KAIVEROHM_INTERFACE);
-    WANT(strcmp(KAIVEROHM_VERSION, KAIVEROHM_VERSION_PATCH ? three : two) == 0);
+    WANT(strcmp(KAIVEROHM_VERSION, spelled) == 0);
 }
 
 /* The settings arrive field by field. */
@@ -221,8 +211,8 @@ static void writer(void)
 
 static struct kaiverohm_report read_one(const uint8_t *packet, size_t length)
 {
-    return kaiverohm_read(state, WORDS, streams, sizeof streams, messages, sizeof messages, memory,
-                          sizeof memory, response, sizeof response, packet, length);
+    return kaiverohm_read(state, WORDS, streams, sizeof streams, messages, sizeof messages,
+                          response, sizeof response, packet, length);
 }
 
 /* A report with its fields: two starts, so one PDU is dropped; then the end. */
@@ -265,25 +255,6 @@ static void message_of_one(void)
     WANT(r.kind == KAIVEROHM_REFUSED && r.number == 1 && r.response == 0);
 }
 
-/* A write of 8 bytes and a read of two of them: the memory is lent, and none of the
-   other buffers is taken for it. */
-static void requests(void)
-{
-    static const uint8_t nwrite[] = "\x15\xff\xfe\x12\x34\x4b\x77\x00\x00\x00\x38"
-                                    "\x21\x22\x23\x24\x25\x26\x27\x28";
-    static const uint8_t nread[] = "\x92\xff\xfe\x12\x34\x46\x77\x00\x00\x00\x3c";
-    memset(memory, 0x5b, sizeof memory);
-    struct kaiverohm_report r = read_one(nwrite, 19);
-    WANT(r.kind == KAIVEROHM_DONE && r.number == 0 && r.dropped == 0 && r.response == 0);
-    WANT(r.context == 0 && r.source == 0x1234 && r.cos_or_letter == KAIVEROHM_NWRITE);
-    WANT(r.stream_or_mailbox == 56 && r.length == 8 && r.priority == 0 && r.response_at == 0);
-    WANT(memcmp(memory + 55, "\x5b\x21\x22\x23\x24\x25\x26\x27\x28", 9) == 0);
-    r = read_one(nread, 11);
-    WANT(r.kind == KAIVEROHM_DONE && r.response == 15 && r.cos_or_letter == KAIVEROHM_NREAD);
-    WANT(r.stream_or_mailbox == 62 && r.length == 2);
-    WANT(memcmp(response, "\xdd\x12\x34\xff\xfe\x80\x77\0\0\0\0\0\0\x27\x28", 15) == 0);
-}
-
 /* What is open: a start of 32 bytes; the last of three segments, letter 1, mbox 2. */
 static void contexts(void)
 {
@@ -320,7 +291,7 @@ static void abandons(void)
 static uint8_t records[256];
 static size_t records_length;
 static struct kaiverohm_report reports[3];
-static uint8_t responses[3 * KAIVEROHM_RESPONSE_ROOM];
+static uint8_t responses[3 * KAIVEROHM_SLOT_BYTES];
 
 static void record(const uint8_t *packet, size_t length)
 {
@@ -333,9 +304,8 @@ static void record(const uint8_t *packet, size_t length)
 static struct kaiverohm_burst read_records(size_t words, uint64_t pause)
 {
     return kaiverohm_read_burst(state, words, streams, sizeof streams, messages, sizeof messages,
-                                memory, sizeof memory, responses, sizeof responses,
-                                (uint64_t *)reports, 3 * KAIVEROHM_REPORT_WORDS, records,
-                                records_length, pause);
+                                responses, sizeof responses, (uint64_t *)reports,
+                                3 * KAIVEROHM_REPORT_WORDS, records, records_length, pause);
 }
 
 static void burst(void)
@@ -353,9 +323,9 @@ static void burst(void)
     WANT(reports[0].kind == KAIVEROHM_HELD && reports[0].response == 0 && reports[0].priority == 0);
     WANT(reports[1].kind == KAIVEROHM_MESSAGE && reports[1].stream_or_mailbox == 62
          && reports[1].priority == 0);
-    WANT(reports[1].response == 7 && reports[1].response_at == 0
-         && memcmp(responses, "\x5d\x12\x34\xff\xfe\x10\x6f\0", 8) == 0);
-    WANT(reports[2].response == 0 && reports[2].response_at == 7);
+    WANT(reports[1].response == 7
+         && memcmp(responses + 8, "\x5d\x12\x34\xff\xfe\x10\x6f\0", 8) == 0);
+    WANT(responses[0] == 0 && responses[16] == 0);
     WANT(reports[2].kind == KAIVEROHM_DELIVERED && reports[2].length == sizeof pdu
          && reports[2].priority == 2);
     b = read_records(WORDS, 1);
@@ -382,8 +352,8 @@ static void eight_bits(void)
     struct kaiverohm_burst b = read_records(WORDS, 0);
     WANT(b.stop == KAIVEROHM_BURST_END && b.count == 2 && b.next == 16 + 14);
     WANT(reports[0].number == 2 && reports[1].kind == KAIVEROHM_MESSAGE);
-    WANT(reports[1].response == 5 && reports[1].response_at == 0);
-    WANT(memcmp(responses, "\x4d\x12\xfe\x10\x6f\0\0", 8) == 0);
+    WANT(reports[1].response == 5 && memcmp(responses + 8, "\x4d\x12\xfe\x10\x6f\0\0", 8) == 0);
+    WANT(responses[0] == 0);
 }
 
 int main(void)
@@ -394,7 +364,6 @@ int main(void)
     delivery();
     rooms();
     message_of_one();
-    requests();
     contexts();
     abandons();
     burst();

@@ -19,25 +19,14 @@ enum { MTU = KAIVEROHM_LARGEST_MTU, ROOM = 1024, BOUND = 2048, LAZY_BOUND = 1228
 static uint64_t state[KAIVEROHM_STATE_WORDS];
 static uint8_t streams[KAIVEROHM_STREAM_MEMORY(ROOM)];
 static uint8_t messages[KAIVEROHM_MESSAGE_MEMORY];
-static uint8_t memory[1024];
-static uint8_t response[4 * KAIVEROHM_RESPONSE_ROOM];
-static const struct kaiverohm_desk desk =
-    KAIVEROHM_DESK(state, streams, messages, memory, response);
+static uint8_t response[4 * KAIVEROHM_SLOT_BYTES];
+static const struct kaiverohm_desk desk = KAIVEROHM_DESK(state, streams, messages, response);
 
 static const uint8_t pdu[700];
 static uint8_t packet[KAIVEROHM_LARGEST_PACKET];
 static size_t packet_length;
 static const uint8_t segments[2][7 + 256] = { { 0x1b, 0, 1, 0, 9, 0x1e, 0 },
                                               { 0x0b, 1, 9, 0x1e, 0 } };
-/* reads and writes of a lane, which are copied byte by byte, and of 256 bytes */
-static const uint8_t reads[2][2][11] = {
-    { { 0x12, 0, 1, 0, 9, 0x45, 1, 0, 0, 0, 8 }, { 0x02, 1, 9, 0x45, 1, 0, 0, 0, 8 } },
-    { { 0x12, 0, 1, 0, 9, 0x4f, 1, 0, 0, 0, 4 }, { 0x02, 1, 9, 0x4f, 1, 0, 0, 0, 4 } },
-};
-static const uint8_t writes[2][2][11 + 256] = {
-    { { 0x15, 0, 1, 0, 9, 0x55, 1, 0, 0, 0, 8 }, { 0x05, 1, 9, 0x55, 1, 0, 0, 0, 8 } },
-    { { 0x15, 0, 1, 0, 9, 0x5f, 1, 0, 0, 0, 4 }, { 0x05, 1, 9, 0x5f, 1, 0, 0, 0, 4 } },
-};
 static const char bursts[2][18] = {
     "\x00\x0f\x1b\x00\x01\x00\x09\x09\x60\x61\x62\x63\x64\x65\x66\x67\x68",
     "\x00\x0d\x0b\x01\x09\x09\x60\x61\x62\x63\x64\x65\x66\x67\x68",
@@ -72,39 +61,6 @@ static void read_start(void)
 static void read_segment(void)
 {
     said = kaiverohm_desk_read(&desk, segments[narrow], 7 + 256 - 2 * narrow).kind;
-}
-
-static void served_read(int of_256)
-{
-    said = kaiverohm_desk_read(&desk, reads[of_256][narrow], 11 - 2 * narrow).response;
-}
-
-static void served_write(int of_256)
-{
-    const size_t length = 11 + (of_256 ? 256u : 8u) - 2 * narrow;
-    said = kaiverohm_desk_read(&desk, writes[of_256][narrow], length).length;
-}
-
-static void read_lanes(void)
-{
-    served_read(0);
-    said += 2 * narrow;
-}
-
-static void read_256(void)
-{
-    served_read(1);
-    said += 2 * narrow;
-}
-
-static void write_lanes(void)
-{
-    served_write(0);
-}
-
-static void write_256(void)
-{
-    served_write(1);
 }
 
 static void read_burst(void)
@@ -168,10 +124,6 @@ static const struct {
     { "write_segment", write_start, KAIVEROHM_WRITTEN },
     { "read, type 9", read_start, KAIVEROHM_HELD },
     { "read, type 11", read_segment, KAIVEROHM_HELD },
-    { "read, type 2, 3 bytes", read_lanes, 7 + 8 },
-    { "read, type 2, 256 bytes", read_256, 7 + 256 },
-    { "read, type 5, 3 bytes", write_lanes, 3 },
-    { "read, type 5, 256 bytes", write_256, 256 },
     { "read_burst", read_burst, 2 },
     { "write_record", write_record, KAIVEROHM_WRITTEN },
     { "message_room", find_room, 1 },

@@ -5,7 +5,7 @@ import subprocess
 import sys
 import tempfile
 
-from reporting import page, plain, refusals, requests, tries, words
+from reporting import page, plain, refusals, tries, words
 from reporting.losses import Losses
 from reporting.picture import Picture
 from reporting.story import Story, Unfit
@@ -48,17 +48,16 @@ def agree(name, output, story):
     """Counted in the plainest way."""
     lines = output.splitlines()[:-1]
     begin = lambda word: sum(line.startswith(word) for line in lines)
-    flows, boxes, asked = ([row for _, row in rows] for rows in (story.flows(), story.boxes(), story.asked()))
+    flows, boxes = [row for _, row in story.flows()], [row for _, row in story.boxes()]
     low = sum(line.split()[0] == "refused" and int(line.split()[1]) <= 5 for line in lines)
     pairs = {
         "records": (len(lines), len(story.records)),
         "pdu": (begin("pdu"), sum(r[2] for r in flows), len(story.pdus("delivered")), story.count("pdu")),
         "msg": (begin("msg"), sum(r[1] for r in boxes), len(story.messages("delivered")), story.count("msg")),
         "held": (begin("held"), story.count("held")),
-        "done": (begin("done"), sum(r[1] for r in asked), story.count("done")),
-        "refused": (begin("refused"), sum(story.refusals().values()), low + sum(r[5] for r in flows) + sum(r[2] for r in boxes) + sum(r[3] for r in asked)),
+        "refused": (begin("refused"), sum(story.refusals().values()), low + sum(r[5] for r in flows) + sum(r[2] for r in boxes)),
         "dropped": (sum(line.endswith(" dropped") for line in lines), sum(r[4] for r in flows), len(story.pdus("dropped")), story.dropped()),
-        "packets": (len(lines), low + sum(r[0] for r in flows + boxes + asked)),
+        "packets": (len(lines), low + sum(r[0] for r in flows) + sum(r[0] for r in boxes)),
     }
     for what, numbers in pairs.items():
         see(len(set(numbers)) == 1, f"{name}: {what} is counted {numbers}")
@@ -186,8 +185,7 @@ def check_tries():
 # ---- Stored pages, and outputs that do not fit
 
 # The parts of the refusal table.
-TABLE = ["reading/specs/Table.antt", "wire/specs/Head.antt", "streams/specs/Rows.antt", "rules/specs/Messages.antt", "messages/specs/Rows.antt",
-         "memories/specs/Rows.antt"]
+TABLE = ["reading/specs/Table.antt", "wire/specs/Head.antt", "streams/specs/Rows.antt", "rules/specs/Messages.antt", "messages/specs/Rows.antt"]
 
 
 def check_pages(root):
@@ -206,19 +204,7 @@ def check_refusals(root):
     see({int(number) for _, number in rows} == set(refusals.REFUSALS) - refusals.OTHER_CALLS, "the refusal table has other numbers")
     for said, number in rows:
         ours = refusals.REFUSALS[int(number)][0]
-        see(number == "19" or set(said.split("; ")) <= set(ours.split("; ")), f"the refusal table says of {number}: {said}")
-
-
-def check_sizes(root):
-    """The sizes of requests are those of the definitions, row for row."""
-    rows = re.findall(r"sizeRow 0b(\d) 0b(\d{4}) (?:\((?:bytes|maximum) (\d+)\)|reserved) (?:0b(\d{8})|noLanes)",
-                      (root / "crates/lanes/specs/Tables.antt").read_text(encoding="utf-8"))
-    see(len(rows) == 64, f"tables 4-3 and 4-4 have {len(rows)} rows")
-    for i, (wdptr, code, count, lanes) in enumerate(rows):
-        place = int(wdptr), int(code, 2)
-        first, many = requests.SIZES[place[0]][place[1]]
-        ours = ("", "") if i >= 32 and place in requests.NO_WRITE else (str(many), ("1" * many).rjust(first + many, "0").ljust(8, "0") if many <= 8 else "")
-        see((count, lanes) == ours, f"the sizes of wdptr {wdptr} and code {code} are others")
+        see(number == "19" or said in {ours, *ours.split("; ")}, f"the refusal table says of {number}: {said}")
 
 
 def check_unfit(root):
@@ -231,14 +217,6 @@ def check_unfit(root):
         except Unfit:
             continue
         raise Wrong("an output that does not fit its log is taken")
-    for asked, right in zip(tries.ASKED, ("done", "done", "done", "refused 30", "refused 31", "refused 1")):
-        for said in ("done", "held", "refused 30", "refused 31", "refused 32", "refused 8", "refused 20"):
-            try:
-                Story(tries.log_of([asked]), f"{said}\nend 1\n")
-            except Unfit:
-                see(said != right, f"{said} is not taken for {asked.hex()}")
-                continue
-            see(said == right, f"{said} is taken for {asked.hex()}")
 
 
 # ---- The command
@@ -285,7 +263,6 @@ def everything(root):
     cases, patterns = check_tries()
     check_pages(root)
     check_refusals(root)
-    check_sizes(root)
     check_unfit(root)
     calls = check_command(root)
     check_pipe(root)

@@ -2,11 +2,10 @@
 
 # number: (the paper's words, what it means for the log's reader). 12 to 19 and 47 speak of other calls and of lent memory.
 REFUSALS = {
-    1: ("under 5 bytes; under 7 bytes; type 9 with S or E, under 9 bytes; types 2 and 5 under 11 bytes, type 6 under 9; with IDs of one byte, 2 less each",
-        "The packet is too short to have a whole head. Nothing changed."),
+    1: ("under 5 bytes; under 7 bytes; type 9 with S or E, under 9 bytes", "The packet is too short to have a whole head. With IDs of 8 bits each of these lengths is 2 less. Nothing changed."),
     2: ("tt not 01; with IDs of one byte, not 00", "The device IDs are of another width than the endpoint's. Nothing changed."),
     3: ("destination not ours", "The packet is for another device. Nothing changed."),
-    4: ("type not 2, 5, 6, 9 or 11", "Neither data streaming nor a message, and no request for the memory. Nothing changed."),
+    4: ("type not 9 or 11", "Neither data streaming nor a message. Nothing changed."),
     5: ("type 9, xh=1", "An extended header (traffic management), which is not read here. Nothing changed."),
     6: ("type 9: no data, odd bytes of data, or O wrong", "The packet was damaged, or its board makes it wrongly. The flow's unfinished PDU is given up."),
     7: ("start or continuation not MTU data bytes (pad not counted); end or single over MTU", "The packet is damaged, or its board uses another MTU. The flow's unfinished PDU is given up."),
@@ -14,8 +13,7 @@ REFUSALS = {
     9: ("type 9: total would pass R", "The PDU is longer than a room, or an end and a start were lost. The flow's unfinished PDU is given up."),
     10: ("start or single, flow not open, no context free", "Sixteen other flows have unfinished PDUs. This PDU is lost; nothing else changed."),
     11: ("end, total differs from PDU length", "A packet of the PDU was lost, or one came twice. The PDU is given up."),
-    12: ("a lent memory of the wrong size, or response buffer under 263; the memory that boards read and write has any size",
-         "A fault of the program that calls the endpoint. With IDs of 8 bits 261 bytes of response are enough. Nothing changed."),
+    12: ("a lent memory of the wrong size, or response buffer under 7", "A fault of the program that calls the endpoint. With IDs of 8 bits 5 bytes of response are enough. Nothing changed."),
     13: ("abandon, after 19, with a number past the last context", "A fault of the program that calls the endpoint. Nothing changed."),
     14: ("L is 0 or over 65,536", "Writing: no PDU can have this length. Nothing was written."),
     15: ("segment number, from 0, not below the count", "Writing: the PDU has no such segment. Nothing was written."),
@@ -29,10 +27,6 @@ REFUSALS = {
     23: ("open message has another msglen or ssize", "An older message of this source, letter and mbox is unfinished. Nothing changed; the sender is told ERROR."),
     24: ("segment already marked", "The segment came twice, or an older message is unfinished. Nothing changed; the sender is told ERROR."),
     25: ("context needed, none free", "Eight messages are unfinished. Nothing changed; the sender is told RETRY."),
-    30: ("not wholly inside the memory", "A request names a byte past the end of the memory. Nothing changed, and nothing was read; the sender of an NREAD or NWRITE_R is told ERROR."),
-    31: ("reserved transaction or size",
-         "A request that is not served here, atomics too, or a write of a size that no write has. Nothing changed; only an NWRITE_R of such a size is told ERROR."),
-    32: ("data that the size does not allow", "A read with data, or a write whose data are not as many as its size allows. Nothing changed; the sender of an NREAD or NWRITE_R is told ERROR."),
     47: ("IDs of one byte, and a device ID over 255", "Setup and writing: IDs have 8 bits, and this one does not fit. Setup left a state of zeros; the writer wrote nothing."),
 }
 OTHER_CALLS = {*range(13, 19), 47}  # no row of reading

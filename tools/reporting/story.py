@@ -6,7 +6,6 @@ and a cos; racklog prints no priority, so it is that of the packets' heads.
 """
 import collections
 
-from reporting import requests
 from reporting.refusals import CLOSE, NOT_IN_LOGS, REFUSALS
 
 MTU, ROOM = 32, 2048  # the log program's
@@ -40,8 +39,7 @@ def records_of(log):
     return records, True
 
 
-# Asked, of a request for the memory: its number, and how the rules answer it.
-Head = collections.namedtuple("Head", "type priority source flow kind stream length data key msglen asked")
+Head = collections.namedtuple("Head", "type priority source flow kind stream length data key msglen")
 
 
 def head_of(packet):
@@ -55,8 +53,7 @@ def head_of(packet):
     data = len(packet) - (9 if kind9 and (s or e) else 7) - (kind9 and flags & 1)
     return Head(type=packet[0] % 16, priority=packet[0] >> 6, source=source, flow=(source, packet[0] >> 6, packet[5]),
                 kind=kind if kind9 else "message", stream=third, length=third or 65536, data=max(data, 0),
-                key=(source, flags >> 6, flags >> 4 & 3), msglen=packet[5] >> 4,
-                asked=requests.request_of(packet) if packet[0] % 16 in requests.TYPES else None)
+                key=(source, flags >> 6, flags >> 4 & 3), msglen=packet[5] >> 4)
 
 
 Answer = collections.namedtuple("Answer", "word numbers dropped line")
@@ -66,7 +63,7 @@ def answer_of(line):
     words = line.split(" ")
     dropped = len(words) > 1 and words[-1] == "dropped"
     numbers = words[1:len(words) - dropped]
-    wanted = {"held": 0, "pdu": 4, "msg": 4, "done": 0, "refused": 1}.get(words[0])
+    wanted = {"held": 0, "pdu": 4, "msg": 4, "refused": 1}.get(words[0])
     if wanted != len(numbers) or not all(n.isdigit() for n in numbers):
         raise Unfit(f"this is no line of racklog: {line!r}")
     return Answer(words[0], tuple(map(int, numbers)), dropped, line)
@@ -134,12 +131,10 @@ class Story:
         span.close(record, fate, replaced)
 
     def follow(self, record, head, answer):
-        if head and head.asked and not (answer.word == "refused" and answer.numbers[0] <= 5):
-            self.request(head, answer)
-        elif answer.word == "refused":
+        if answer.word == "refused":
             self.refuse(record, head, answer)
-        elif head is None or head.type not in (9, 11) or answer.word == "done":
-            raise Unfit("a packet like this is never accepted so")
+        elif head is None or head.type not in (9, 11):
+            raise Unfit("a packet like this is never accepted")
         elif head.type == 9:
             self.stream(record, head, answer)
         else:
@@ -151,7 +146,7 @@ class Story:
             raise Unfit("a log cannot give this number")
         if number <= 5:
             wanted = False
-        elif head is None or head.type != (9 if number < 20 else 11) or number >= 30:
+        elif head is None or head.type != (9 if number < 20 else 11):
             raise Unfit("a packet like this never gets this number")
         else:
             wanted = number in CLOSE and head.flow in self.open["pdu"]
@@ -200,12 +195,6 @@ class Story:
             span.stream = answer.numbers[2]
             self.finish("msg", key, record, "delivered")
 
-    def request(self, head, answer):
-        refusal = head.asked[1].refusal
-        wanted = "done" if refusal is None else f"refused {refusal}"
-        if answer.line != wanted:
-            raise Unfit(f"the request is to get {wanted!r}")
-
     # ---- What the tables show
 
     def count(self, word):
@@ -224,7 +213,7 @@ class Story:
         return sorted((s for s in self.spans if s.kind == "msg" and s.fate == fate), key=lambda s: s.last)
 
     def judged(self):
-        """Records that rows 1 to 5 let pass, with their heads."""
+        """Records of type 9 and 11 that rows 1 to 5 let pass, with their heads."""
         for head, answer in zip(self.heads, self.answers):
             if not (answer.word == "refused" and answer.numbers[0] <= 5):
                 yield head, answer
@@ -248,20 +237,3 @@ class Story:
                 for column, value in enumerate((1, answer.word == "msg", answer.word == "refused")):
                     table[head.key][column] += value
         return sorted(table.items())
-
-    def asked(self):
-        """For each source and request: how many, how many served, the bytes that these named, how many refused."""
-        table = collections.defaultdict(lambda: [0] * 4)
-        for head, answer in self.judged():
-            if head.asked:
-                request, how = head.asked
-                served = answer.word == "done"
-                for column, value in enumerate((1, served, how.count * served, not served)):
-                    table[head.source, request][column] += value
-        return sorted(table.items())
-
-    def written(self):
-        """Each write that was served: record, source, request, the first byte written, how many."""
-        for i, (head, answer) in enumerate(zip(self.heads, self.answers)):
-            if answer.word == "done" and head.asked[0] != requests.NREAD:
-                yield i + 1, head.source, requests.name_of(head.asked[0]), head.asked[1].first, head.asked[1].count

@@ -19,12 +19,6 @@ def packet(kind, number=0, size=MTU, flow=(2, 0, 5), fill=0, flip=0):
     return head + field + bytes((fill + 7 * i) % 256 for i in range(size)) + bytes(size % 2)
 
 
-def request(words, data=b"", source=7):
-    """A memory request for device 1: the type, and the bytes behind the IDs in hex; then data."""
-    kind, fields = words.split(" ", 1)
-    return bytes([0x10 | int(kind), 0, 1, source >> 8, source & 255]) + bytes.fromhex(fields) + data
-
-
 def log_of(packets):
     """Packets of at most 127 bytes as a log."""
     return b"".join(bytes([len(p)]) + p for p in packets)
@@ -52,9 +46,6 @@ TWO = "Each could be a joint"
 WAITS = [packet("start", 900 + n, MTU, (100 + n, 0, 1)) for n in range(16)]
 URGENT = (2, 1, 5)  # the flow of the others, at another priority
 SPLIT = "scans at two priorities"
-# An NREAD of 8 bytes at 16, an NWRITE_R of the byte at 21, an SWRITE of 8 bytes at 32, an NREAD at 2^33, one of an atomic, a cut NWRITE.
-ASKED = [request("2 4B33 00000010"), request("5 5133 00000014", bytes(8)), request("6 00000020", bytes(8)), request("2 4B33 00000002"),
-         request("2 CB33 00000010"), request("5 4B33 000000")]
 
 
 def in_turn(*flows):
@@ -133,10 +124,6 @@ CASES = [
     Case("a start lost at one priority", scan(1, 3) + scan(8, 3, URGENT) + scan(9, 40, URGENT, first=1) + scan(2, 3) + scan(10, 3, URGENT),
          "pdu 2 5 1 3, pdu 2 5 8 3, refused 8, pdu 2 5 2 3, pdu 2 5 10 3", "At least 1 scan was lost",
          ["Board 2, priority 1, cos 5: a scan between streams 8 and 10 lost its start. 1 packet of it came (record 3, refused 8)."], [], [SPLIT]),
-    Case("memory requests between the packets of a scan", in_turn(scan(1, 96), ASKED[:3]) + ASKED[3:] + scan(2, 3),
-         "held, done, held, done, pdu 2 5 1 96, done, refused 30, refused 31, refused 1, pdu 2 5 2 3", NONE, [],
-         ["7 NREAD 2 1 8 1 7 type 2, transaction 12 1 0 0 1 7 NWRITE_R 1 1 1 0 7 SWRITE 1 1 8 0", "4 7 NWRITE_R 21 1 6 7 SWRITE 32 8",
-          "7 11 NREAD source 7 30", "memory requests served 3"], ["PDUs dropped", "is missing"]),
     Case("a start and its end at two priorities", scan(1, 40, last=1) + scan(1, 40, URGENT, first=1), "held, refused 8", "Perhaps 1 scan was lost",
          ["Board 2, priority 1, cos 5: a scan lost its start. 1 packet of it came (record 2, refused 8)."],
          [SPLIT, "Board 2, cos 5: at priority 0 a scan began and was not delivered, at priority 1 one came without its start."]),

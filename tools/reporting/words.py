@@ -1,7 +1,6 @@
 """The sentences and tables that the text and the page share."""
 import collections
 
-from reporting import requests
 from reporting.refusals import REFUSALS
 from reporting.story import LARGEST_LOG
 
@@ -49,8 +48,6 @@ def box_words(key):
 def kind_words(head, packet):
     if head is None:
         return f"{len(packet)} bytes"
-    if head.asked:
-        return requests.name_of(head.asked[0])
     return {9: head.kind, 11: "message segment"}.get(head.type, f"type {head.type}")
 
 
@@ -224,29 +221,23 @@ def ending(story):
     return f"BAD LOG: behind record {len(story.records)} a length is wrong or a record is cut. What follows was not read."
 
 
-SETUP = "Our device is 1, the MTU 32, a room 2,048 bytes, the memory that boards read and write 4,096."
+SETUP = "Our device is 1, the MTU 32, a room 2,048 bytes."
 
 
 def counts(story):
     """What there is of each, without what there is none of."""
     rows = [("records", len(story.records)), ("PDUs delivered", story.count("pdu")), ("messages delivered", story.count("msg")),
-            ("packets held", story.count("held")), ("memory requests served", story.count("done")),
-            ("packets refused", story.count("refused")), ("PDUs dropped", story.dropped()),
+            ("packets held", story.count("held")), ("packets refused", story.count("refused")), ("PDUs dropped", story.dropped()),
             ("PDUs unfinished at the end", len(story.pdus("unfinished"))), ("messages unfinished at the end", len(story.messages("unfinished")))]
     return [row for row in rows if row[1] or row[0] == "records"]
-
-
-def sender_words(head):
-    if head is None:
-        return "–"
-    return flow_words(head.flow) if head.type == 9 else box_words(head.key) if head.type == 11 else f"source {head.source}" if head.asked else "–"
 
 
 def refused_rows(story):
     for i, (packet, head, answer) in enumerate(zip(story.records, story.heads, story.answers)):
         if answer.word == "refused":
             number = answer.numbers[0]
-            yield i + 1, len(packet), kind_words(head, packet), sender_words(head), f"{number}{' dropped' if answer.dropped else ''}", REFUSALS[number][0]
+            sender = flow_words(head.flow) if head and head.type == 9 else box_words(head.key) if head and head.type == 11 else "–"
+            yield i + 1, len(packet), kind_words(head, packet), sender, f"{number}{' dropped' if answer.dropped else ''}", REFUSALS[number][0]
 
 
 def lost_rows(losses):
@@ -282,13 +273,6 @@ def tables(story, losses):
     yield Table("messages-unfinished", "Messages unfinished", "Their contexts stay taken until they are abandoned.",
                 ("last record", "source", "letter", "mbox", "bytes so far", "segments", "first record", "context"),
                 [(s.last, *s.key[:3], s.bytes, len(s.records), s.first, s.context) for s in story.messages("unfinished")])
-
-
-    yield Table("requests", "Memory requests", "By board. Bytes are those that the served ones named, so some may be counted more than once.",
-                ("source", "request", "requests", "served", "bytes", "refused"),
-                [(source, requests.name_of(request), *row) for (source, request), row in story.asked()])
-    yield Table("written", "Bytes written by boards", "Each write that was served. Any board may write any byte of the memory (docs/MEMORY.md).",
-                ("record", "source", "request", "first byte", "bytes"), list(story.written()))
 
 
 def given_up_rows(story):

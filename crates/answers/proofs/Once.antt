@@ -12,7 +12,7 @@ use Rattle.answers.specs.declared.MessageAsked.{MessageAsked}
 use Rattle.answers.specs.declared.MessageAsked.TheVariants as mail
 use Rattle.answers.specs.declared.Written.{Written}
 use Rattle.answers.specs.declared.Written.TheVariants as writer
-use Rattle.answers.specs.Answers.{Said, held, delivered, message, done, refused, said, SetupSaid, ready, setup_refused, said_of_setup}
+use Rattle.answers.specs.Answers.{Said, held, delivered, message, refused, said, SetupSaid, ready, setup_refused, said_of_setup}
 use Rattle.answers.specs.Answers.{AbandonSaid, closed, free, abandon_refused, said_of_abandon, WriterSaid, wrote, write_refused, said_of_writer}
 use Rattle.answers.specs.Answers.{StreamContextSaid, stream_is_open, stream_is_free, stream_ask_refused, said_of_stream}
 use Rattle.answers.specs.Answers.{MessageContextSaid, message_is_open, message_is_free, message_ask_refused, said_of_message}
@@ -28,21 +28,18 @@ abbrev pub answer_of : Said → Answer
 answer_of held = answer.Held
 answer_of (delivered context flow stream size) = answer.Delivered context flow stream size
 answer_of (message context source letter mailbox size) = answer.Message context source letter mailbox size
-answer_of (done request source from size) = answer.Done request source from size
 answer_of (refused number) = answer.Refused number
 
 pub says_it : (s : Said) → said (answer_of s) ≡ s
 says_it held = refl
 says_it (delivered _ _ _ _) = refl
 says_it (message _ _ _ _ _) = refl
-says_it (done _ _ _ _) = refl
 says_it (refused _) = refl
 
 answer_back : (a : Answer) → answer_of (said a) ≡ a
 answer_back answer.Held = refl
 answer_back (answer.Delivered _ _ _ _) = refl
 answer_back (answer.Message _ _ _ _ _) = refl
-answer_back (answer.Done _ _ _ _) = refl
 answer_back (answer.Refused _) = refl
 
 pub said-once : (a b : Answer) → said a ≡ said b → a ≡ b

@@ -2,7 +2,7 @@
 use Prim.Native.Nat.{ℕ}
 use mathlib.Core.Path.{◌≡◌, refl, ap, ◌∙◌}
 use mathlib.Core.Bool.{Bool}
-use Rattle.answers.specs.Answers.{Said, held, delivered, message, done, refused}
+use Rattle.answers.specs.Answers.{Said, held, delivered, message, refused}
 use Rattle.answers.specs.declared.Figures.{Figures}
 use Rattle.answers.specs.Figures.{figures_of, telling, AllSet}
 
@@ -11,21 +11,18 @@ tells_back (refused _) _ _ = refl
 tells_back held _ _ = refl
 tells_back (delivered _ _ _ _) _ _ = refl
 tells_back (message _ _ _ _ _) _ _ = refl
-tells_back (done _ _ _ _) _ _ = refl
 
 dropped_back : (s : Said) (dropped : Bool) (response : ℕ) → (figures_of s dropped response).dropped ≡ dropped
 dropped_back (refused _) _ _ = refl
 dropped_back held _ _ = refl
 dropped_back (delivered _ _ _ _) _ _ = refl
 dropped_back (message _ _ _ _ _) _ _ = refl
-dropped_back (done _ _ _ _) _ _ = refl
 
 response_back : (s : Said) (dropped : Bool) (response : ℕ) → (figures_of s dropped response).response ≡ response
 response_back (refused _) _ _ = refl
 response_back held _ _ = refl
 response_back (delivered _ _ _ _) _ _ = refl
 response_back (message _ _ _ _ _) _ _ = refl
-response_back (done _ _ _ _) _ _ = refl
 
 -- numbers that were made of something tell it
 module _ (t : Figures) (s : Said) (dropped : Bool) (response : ℕ) (e : t ≡ figures_of s dropped response) where

@@ -24,8 +24,6 @@ pub data Said : Type 0 where
   delivered : (context : ℕ) (flow : Flow) (stream_id size : ℕ) → Said
   -- a message is delivered: context number, source, letter, mailbox, length
   message : (context source letter mailbox size : ℕ) → Said
-  -- a request for the memory is done: 16 times its type, plus its transaction; source, the address of the first byte that it named, how many it named
-  done : (request source from size : ℕ) → Said
   -- a refusal, by its number
   refused : (number : ℕ) → Said
 
@@ -33,7 +31,6 @@ abbrev pub said : Answer → Said
 said answer.Held = held
 said (answer.Delivered context flow stream size) = delivered context flow stream size
 said (answer.Message context source letter mailbox size) = message context source letter mailbox size
-said (answer.Done request source from size) = done request source from size
 said (answer.Refused number) = refused number
 
 -- ---- setup

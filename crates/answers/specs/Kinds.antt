@@ -33,7 +33,3 @@ written_kind = 7
 -- asking after a context
 abbrev pub open_kind : ℕ
 open_kind = 8
-
--- reading a packet: a request for the memory is done
-abbrev pub done_kind : ℕ
-done_kind = 9

@@ -1,7 +1,7 @@
 // What the endpoint's calls answer. specs/Answers.antt sets out document 01's number and values for each case.
 
-ghost use Rattle.std.specs.Prelude.{◌≡◌, false};
-ghost use Rattle.answers.specs.Answers.{said, refused, held, done};
+ghost use Rattle.std.specs.Prelude.{◌≡◌};
+ghost use Rattle.answers.specs.Answers.{said, refused, held};
 ghost use Rattle.answers.specs.Figures.{telling, plain_figures, figures_of};
 
 use wire::Flow;
@@ -25,8 +25,6 @@ pub const WRITTEN: usize = 7;
 
 pub const OPEN: usize = 8;
 
-pub const DONE: usize = 9;
-
 // The answer to a packet.
 #[derive(Drop)]
 pub enum Answer {
@@ -42,13 +40,6 @@ pub enum Answer {
         source: usize,
         letter: usize,
         mailbox: usize,
-        length: usize,
-    },
-    // a request for the memory: 16 times its type, plus its transaction; who sent it, the address of the first byte that it named, and how many it named
-    Done {
-        request: usize,
-        source: usize,
-        from: usize,
         length: usize,
     },
     Refused(usize),
@@ -154,24 +145,6 @@ pub fn refusal(number: usize, dropped: bool, response: usize) -> Figures
     plain(REFUSED, number, dropped, response)
 }
 
-// A request for the memory that is done.
-pub fn doing(request: usize, source: usize, from: usize, length: usize, response: usize) -> Figures
-    ensures { result ≡ figures_of (done request source from length) false response }
-{
-    Figures {
-        kind: DONE,
-        number: 0,
-        dropped: false,
-        response,
-        context: 0,
-        source,
-        cos_or_letter: request,
-        stream_or_mailbox: from,
-        length,
-        priority: 0,
-    }
-}
-
 // A segment that is held.
 pub fn holding(dropped: bool, response: usize) -> Figures
     ensures { result ≡ figures_of held dropped response }
@@ -202,19 +175,11 @@ fn answer_of(t: Figures) -> Answer
             length: t.length,
         };
     }
-    if t.kind == MESSAGE {
-        return Answer::Message {
-            context: t.context,
-            source: t.source,
-            letter: t.cos_or_letter,
-            mailbox: t.stream_or_mailbox,
-            length: t.length,
-        };
-    }
-    Answer::Done {
-        request: t.cos_or_letter,
+    Answer::Message {
+        context: t.context,
         source: t.source,
-        from: t.stream_or_mailbox,
+        letter: t.cos_or_letter,
+        mailbox: t.stream_or_mailbox,
         length: t.length,
     }
 }

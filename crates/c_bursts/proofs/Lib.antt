@@ -1,4 +1,3 @@
-pub mod Replies
 mod Packets
 pub mod Steps
 pub mod Tests

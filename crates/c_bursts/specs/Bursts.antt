@@ -1,10 +1,8 @@
 -- A burst: packets in the log's record form, read one after another, each at the desk that the one before left.
-use Rattle.std.specs.Prelude.{ℕ, zero, suc, ◌+◌, ◌*◌, ◌/◌, ◌≡◌, List, Bool, cond, ◌||◌, length, take, drop, eqb, ltb}
+use Rattle.std.specs.Prelude.{ℕ, zero, suc, min, ◌+◌, ◌*◌, ◌/◌, ◌≡◌, List, cond, length, take, drop, eqb}
 use Rattle.lists.specs.Bytes.{written}
 use Rattle.tables.specs.Refusals.{Verdict, refuse, accept, verdict}
-use Rattle.responses.specs.Type13.{response_room}
-use Rattle.contexts.specs.State.{State, ids_in}
-use Rattle.reading.specs.Desk.{Desk, state_on, with_response}
+use Rattle.reading.specs.Desk.{Desk, with_response}
 use Rattle.reading.specs.Table.{Lent, lent, lent_rows}
 use Rattle.reading.specs.Read.{Settled, reading}
 use Rattle.log_records.specs.declared.Next.{Next}
@@ -17,46 +15,44 @@ use Rattle.c_bursts.specs.declared.Burst.{Burst}
 
 -- ---- one packet of a burst
 
--- the bytes that row 12 wants of a response buffer, and so every packet of a burst
-abbrev pub reply_room : State → ℕ
-reply_room s = response_room (ids_in s)
+-- the bytes that each packet has for its response
+abbrev pub slot_bytes : ℕ
+slot_bytes = 8
 
--- a burst as far as it is read: the desk as it stands, with all responses in its response buffer; the reports; the packets read; the bytes of
--- their responses, which stand one behind the other; and where the next record begins
+-- a burst as far as it is read: the desk as it stands, with all responses in its response buffer; the reports; the packets read; and where
+-- the next record begins
 pub record Run : Type 0 where
   pub desk : Desk
   pub reports : List ℕ
   pub count : ℕ
-  pub used : ℕ
   pub next : ℕ
 
-abbrev pub run : Desk → (reports : List ℕ) → (count used next : ℕ) → Run
-run desk reports count used next = record { desk = desk; reports = reports; count = count; used = used; next = next }
+abbrev pub run : Desk → (reports : List ℕ) → (count next : ℕ) → Run
+run desk reports count next = record { desk = desk; reports = reports; count = count; next = next }
 
--- the part of the response buffer that no response has used
-abbrev pub unused : Run → List ℕ
-unused r = drop r.used r.desk.response
+-- the slot of packet k: its part of the responses
+abbrev pub slot : List ℕ → ℕ → List ℕ
+slot responses k = take slot_bytes (drop (slot_bytes * k) responses)
 
--- what the next packet is lent: the desk, with that part as its response buffer
+-- what the next packet is lent: the desk, with the packet's slot as its response buffer
 abbrev pub lent_in : Run → List ℕ → Lent
-lent_in r packet = lent (with_response r.desk (unused r)) packet
+lent_in r packet = lent (with_response r.desk (slot r.desk.response r.count)) packet
 
 -- what reading it answers and leaves, as the call for one packet
 abbrev pub read_in : Run → List ℕ → Settled
 read_in r packet = reading (lent_in r packet)
 
--- the report of what reading a packet answers, whose response begins there
-abbrev pub report_for : (at : ℕ) → Settled → Report
-report_for at x = report_of x.says x.dropped x.replied at
+-- the report of what reading a packet answers
+abbrev pub report_for : Settled → Report
+report_for x = report_of x.says x.dropped x.replied
 
--- the packet is read: its response stands behind the others, its report in its own words
+-- the packet is read: its response stands in its slot, its report in its own words
 abbrev pub answers_placed : Run → ℕ → Settled → Run
 answers_placed r next x =
     run
-    (with_response x.desk (written r.desk.response r.used x.desk.response))
-    (written r.reports (report_words * r.count) (words_of_report (report_for r.used x)))
+    (with_response x.desk (written r.desk.response (slot_bytes * r.count) x.desk.response))
+    (written r.reports (report_words * r.count) (words_of_report (report_for x)))
     (r.count + 1)
-    (r.used + x.replied)
     next
 
 abbrev pub behind : Run → List ℕ → ℕ → Run
@@ -64,7 +60,7 @@ behind r packet next = answers_placed r next (read_in r packet)
 
 -- the kind of its report
 abbrev pub kind_in : Run → List ℕ → ℕ
-kind_in r packet = (report_for r.used (read_in r packet)).kind
+kind_in r packet = (report_for (read_in r packet)).kind
 
 -- ---- one step: a packet is read, or the burst stops
 
@@ -99,15 +95,11 @@ step_left stop after = record { stop = stop; after = after }
 abbrev pub step_over : ℕ → Run → List ℕ → ℕ → StepLeft
 step_over pause r packet next = step_left (pause_of pause (kind_in r packet)) (behind r packet next)
 
--- no room for another report or response
-abbrev pub no_room_for : ℕ → Run → Bool
-no_room_for room r = eqb room 0 || ltb (length (unused r)) (reply_room (state_on r.desk))
-
--- by what stands at its place, where `room` packets more have room for their reports
+-- by what stands at its place, where `room` packets more have room for their reports and responses
 abbrev pub step_by : ℕ → ℕ → List ℕ → Run → Next → StepLeft
 step_by pause room burst r End = step_left at_end r
 step_by pause room burst r Bad = step_left at_bad r
-step_by pause room burst r (Record from size next) = cond (no_room_for room r) (step_left is_full r) (step_over pause r (take size (drop from burst)) next)
+step_by pause room burst r (Record from size next) = cond (eqb room 0) (step_left is_full r) (step_over pause r (take size (drop from burst)) next)
 
 unfoldable pub step_in : ℕ → ℕ → List ℕ → Run → StepLeft
 step_in pause room burst r = step_by pause room burst r (next_record burst r.next)
@@ -138,9 +130,9 @@ unfoldable pub ran : ℕ → ℕ → List ℕ → Run → Finished
 ran pause zero burst r = stopped (step_in pause zero burst r)
 ran pause (suc room) burst r = onward (ran pause room burst) (step_in pause (suc room) burst r)
 
--- the packets that have room for a report
-abbrev pub room_for : ℕ → ℕ
-room_for words = words / report_words
+-- the packets that have room for a report and a response each
+unfoldable pub room_for : ℕ → ℕ → ℕ
+room_for words bytes = min (words / report_words) (bytes / slot_bytes)
 
 -- rows 19 and 12 of the refusal table look at no packet: they are tested once
 abbrev pub burst_verdict : Desk → Verdict
@@ -148,7 +140,7 @@ burst_verdict d = verdict (lent_rows d)
 
 abbrev pub burst_by : ℕ → Desk → (reports burst : List ℕ) → Verdict → Finished
 burst_by pause d reports burst (refuse number leaves) = finished (answering refused_all number 0 0) d reports
-burst_by pause d reports burst accept = ran pause (room_for (length reports)) burst (run d reports 0 0 0)
+burst_by pause d reports burst accept = ran pause (room_for (length reports) (length d.response)) burst (run d reports 0 0)
 
 unfoldable pub read_burst : ℕ → Desk → (reports burst : List ℕ) → Finished
 read_burst pause d reports burst = burst_by pause d reports burst (burst_verdict d)

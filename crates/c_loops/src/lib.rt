@@ -5,42 +5,36 @@ ghost use Rattle.c_bursts.specs.Inside.{ReadyToRun, RunPromise};
 
 use c_bursts::Burst;
 
-// Step after step, until one stops. There is room for `room` reports, and for a response that begins at `last` or before.
+// Step after step, until one stops. There is room for `room` packets.
 pub fn run_over(
     state: &mut [usize],
     stream_memory: &mut [u8],
     message_memory: &mut [u8],
-    memory: &mut [u8],
     responses: &mut [u8],
     reports: &mut [usize],
     burst: &[u8],
     pause: usize,
     room: usize,
-    last: usize,
 ) -> Burst
-    requires { ReadyToRun (run (desk state.old stream_memory.old message_memory.old memory.old responses.old) reports.old 0 0 0) room last }
+    requires { ReadyToRun (run (desk state.old stream_memory.old message_memory.old responses.old) reports.old 0 0) room }
     ensures { RunPromise pause room burst.now
-        (run (desk state.old stream_memory.old message_memory.old memory.old responses.old) reports.old 0 0 0)
-        result (desk state.new stream_memory.new message_memory.new memory.new responses.new) reports.new }
+        (run (desk state.old stream_memory.old message_memory.old responses.old) reports.old 0 0)
+        result (desk state.new stream_memory.new message_memory.new responses.new) reports.new }
 {
     let mut left = room;
     let mut count = 0;
-    let mut used = 0;
     let mut at = 0;
     loop {
         let t = c_bursts::step_at(
             state,
             stream_memory,
             message_memory,
-            memory,
             responses,
             reports,
             burst,
             pause,
             left,
-            last,
             count,
-            used,
             at,
         );
         if t.stop != 0 {
@@ -53,7 +47,6 @@ pub fn run_over(
         }
         left -= 1;
         count = t.count;
-        used = t.used;
         at = t.next;
     }
 }

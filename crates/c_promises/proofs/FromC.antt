@@ -6,7 +6,7 @@ use mathlib.Core.Bool.{Bool}
 use native.Mathlib.Omega.{arith}
 use lib.ListN.{length}
 use denote.Ref.{Bor}
-use Rattle.answers.specs.Answers.{Said, said, held, delivered, message, done, refused, SetupSaid, ready, setup_refused, WriterSaid, wrote, write_refused}
+use Rattle.answers.specs.Answers.{Said, said, held, delivered, message, refused, SetupSaid, ready, setup_refused, WriterSaid, wrote, write_refused}
 use Rattle.wire.specs.declared.Flow.{Flow}
 use Rattle.wire.specs.declared.Setup.{Setup}
 use Rattle.reading.specs.Desk.{Desk, with_response}
@@ -25,7 +25,7 @@ use Rattle.c_reports.specs.declared.Report.{Report}
 use Rattle.c_reports.specs.Reports.{numbers_of_setup, numbers_of_writer, report_of}
 use Rattle.c_places.specs.declared.Place.{Place}
 use Rattle.c_places.specs.Places.{StreamPlacePromise}
-use Rattle.calls.specs.Calls.{Fetches, room, none-held, none_message, none_done, none_refused, Reads, stop, call}
+use Rattle.calls.specs.Calls.{Fetches, room, none-held, none_message, none_refused, Reads, stop, call}
 use Rattle.demands.specs.Writes.{Writes, written_all, write}
 use Rattle.demands.specs.OfCalls.{SetUp}
 use Rattle.demands.proofs.OfCalls.{demand2_of_calls, demand3_of_calls}
@@ -47,19 +47,17 @@ room-made d context flow stream size place e = room memory handed refl (record {
     handed = record { ref_ptr = (0, 0 + (stream_room d.words (length d.stream_memory) context size).from); now = bytes_at d.stream_memory place }
 
 -- so what is fetched from C after a report is fetched after the answer; the desk's own response buffer is not looked at
-pub fetched_from_c : (d : Desk) (own : List ℕ) (says : Said) (dropped : Bool) (replied at : ℕ) {fetched : List Delivery}
-    → FetchesFromC (with_response d own) (report_of says dropped replied at) fetched → Fetches d says fetched
+pub fetched_from_c : (d : Desk) (own : List ℕ) (says : Said) (dropped : Bool) (replied : ℕ) {fetched : List Delivery}
+    → FetchesFromC (with_response d own) (report_of says dropped replied) fetched → Fetches d says fetched
 unfolding report_of
-fetched_from_c d own held dropped replied at (nothing other) = none-held
-fetched_from_c d own held dropped replied at (at_place place two e) = absurd (omega (arith, two))
-fetched_from_c d own (message context source letter mailbox size) dropped replied at (nothing other) = none_message
-fetched_from_c d own (message context source letter mailbox size) dropped replied at (at_place place two e) = absurd (omega (arith, two))
-fetched_from_c d own (done request source from size) dropped replied at (nothing other) = none_done
-fetched_from_c d own (done request source from size) dropped replied at (at_place place two e) = absurd (omega (arith, two))
-fetched_from_c d own (refused number) dropped replied at (nothing other) = none_refused
-fetched_from_c d own (refused number) dropped replied at (at_place place two e) = absurd (omega (arith, two))
-fetched_from_c d own (delivered context flow stream size) dropped replied at (at_place place two e) = room-made d context flow stream size place e
-fetched_from_c d own (delivered context flow stream size) dropped replied at (nothing other) = absurd (other refl)
+fetched_from_c d own held dropped replied (nothing other) = none-held
+fetched_from_c d own held dropped replied (at_place place two e) = absurd (omega (arith, two))
+fetched_from_c d own (message context source letter mailbox size) dropped replied (nothing other) = none_message
+fetched_from_c d own (message context source letter mailbox size) dropped replied (at_place place two e) = absurd (omega (arith, two))
+fetched_from_c d own (refused number) dropped replied (nothing other) = none_refused
+fetched_from_c d own (refused number) dropped replied (at_place place two e) = absurd (omega (arith, two))
+fetched_from_c d own (delivered context flow stream size) dropped replied (at_place place two e) = room-made d context flow stream size place e
+fetched_from_c d own (delivered context flow stream size) dropped replied (nothing other) = absurd (other refl)
 
 -- ---- Calls for one packet each
 
@@ -76,7 +74,7 @@ are_reads : {d : Desk} {ps : List (List ℕ)} {ds : List Delivery} → ReadsFrom
 are_reads no_more = stop
 are_reads (one_more {d = d} {next = next} {p = p} {fetched = fetched} r given enough promise fetch calls) =
     let x : Lent = lent (with_response d given) p in
-    let fetch' = fetched_from_c next next.response (reading x).says (reading x).dropped (reading x).replied 0 (subst (λ (q : Report). FetchesFromC next q fetched) promise.report fetch) in
+    let fetch' = fetched_from_c next next.response (reading x).says (reading x).dropped (reading x).replied (subst (λ (q : Report). FetchesFromC next q fetched) promise.report fetch) in
     let kept : ReadPromise x (answered_by x) next = rw promise.desk (promised x) in
     call (answered_by x) given enough kept (after_answer x next fetch') (are_reads calls)
 

@@ -4,11 +4,7 @@ mod Whole
 mod FromC
 mod Places
 mod Behind
-mod Enough
-mod Standing
-mod SameReply
 mod InBursts
 mod NotEmpty
 mod Paused
 mod PausedRun
-mod Responded

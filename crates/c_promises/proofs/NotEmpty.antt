@@ -8,9 +8,10 @@ use lib.Dec.{eqb}
 use lib.ListN.{length, replicate, length-replicate}
 use borrow.Author.Tests.{eqb-true, eqb-false}
 use Rattle.wire.specs.declared.Flow.{Flow}
+use Rattle.responses.specs.Type13.{response_size}
 use Rattle.wire.specs.declared.Setup.{Setup}
 use Rattle.wire.specs.Packet.{too_wide}
-use Rattle.contexts.specs.State.{fresh}
+use Rattle.contexts.specs.State.{ids_in}
 use Rattle.reading.specs.Desk.{Desk, state_on, with_response}
 use Rattle.reading.specs.Table.{Lent, lent}
 use Rattle.reading.specs.Read.{reading}
@@ -32,12 +33,10 @@ use Rattle.demands.proofs.Writing.{counted, written_well}
 use Rattle.demands.proofs.Witnesses.{calls_not_empty}
 use Rattle.tables.specs.Refusals.{accept}
 use Rattle.flows.specs.Widths.{narrowed}
-use Rattle.c_bursts.specs.Bursts.{reply_room, burst_verdict, room_for, report_for}
+use Rattle.c_bursts.specs.Bursts.{slot_bytes, burst_verdict, room_for, report_for}
 use Rattle.answers.specs.Kinds.{delivered_kind, ready_kind, written_kind}
 use Rattle.c_promises.specs.OfCalls.{FetchesFromC, at_place, nothing, ReadsFromC, no_more, one_more}
-use Rattle.c_promises.specs.OfCalls.{SetUpFromC, WritesFromC, no_segment, one-segment, CallsFromCNotEmpty, desk_for_eleven, eleven_reports, BurstAt, BurstNotEmpty}
-use Rattle.c_promises.specs.OfCalls.{Responding, none_more, responding, RespondingNotEmpty}
-use Rattle.c_promises.proofs.Enough.{replies_always_fit}
+use Rattle.c_promises.specs.OfCalls.{SetUpFromC, WritesFromC, no_segment, one-segment, CallsFromCNotEmpty, desk_for_nine, nine_reports, BurstAt, BurstNotEmpty}
 
 -- ---- Calls
 
@@ -62,16 +61,16 @@ fetch_made d r = go (eqb r.kind delivered_kind) refl
     go true e = (_, at_place _ (eqb-true r.kind delivered_kind e) refl)
     go false e = (_, nothing (eqb-false r.kind delivered_kind e))
 
--- a call for each packet, with a response buffer as long as row 12 wants
+-- a call for each packet, with a response buffer as long as a response
 reads_made : (ps : List (List ℕ)) (d : Desk) → (ds : List Delivery) × ReadsFromC d ps ds
 reads_made [] d = ([], no_more)
 reads_made (p ∷ ps) d =
-    let reply : List ℕ = replicate (reply_room (state_on d)) 0 in
-    let enough : reply_room (state_on d) ≤ length reply = omega (arith, length-replicate {A = ℕ} (reply_room (state_on d)) 0) in
+    let reply : List ℕ = replicate (response_size (ids_in (state_on d))) 0 in
+    let enough : response_size (ids_in (state_on d)) ≤ length reply = omega (arith, length-replicate {A = ℕ} (response_size (ids_in (state_on d))) 0) in
     let x : Lent = lent (with_response d reply) p in
-    let fetch = fetch_made (reading x).desk (report_for 0 (reading x)) in
+    let fetch = fetch_made (reading x).desk (report_for (reading x)) in
     let rest = reads_made ps (reading x).desk in
-    (_, one_more (report_for 0 (reading x)) reply enough (record { report = refl; desk = refl }) fetch.1 rest.1)
+    (_, one_more (report_for (reading x)) reply enough (record { report = refl; desk = refl }) fetch.1 rest.1)
 
 -- the writer, with a buffer as long as the packet
 module _ (s : Setup) (flow : Flow) (x : Sent) (allowed : Allowed s) (source : too_wide s.narrow flow.source ≡ false) (priority : flow.priority ≤ 3) (fair : FairPDU s.room x) where
@@ -95,50 +94,31 @@ calls_from_c_not_empty = record {
 
 -- ---- A burst
 
--- the packets that the mixture leaves, at a width: eleven, all of them short
+-- the packets that the mixture leaves, at a width: nine, all of them short
 abbrev left_over : ℕ → List (List ℕ)
 left_over narrow = packets (small_setup narrow) (mixture narrow)
 
 short_at_16 : AllShort (left_over 0)
 unfolding narrowed
-short_at_16 = subst AllShort (sym mixture-is_fair.0.left) (omega arith, (omega arith, (omega arith, (omega arith, (omega arith, (omega arith, (omega arith, (omega arith, (omega arith, (omega arith, (omega arith, tt)))))))))))
+short_at_16 = subst AllShort (sym mixture-is_fair.0.left) (omega arith, (omega arith, (omega arith, (omega arith, (omega arith, (omega arith, (omega arith, (omega arith, (omega arith, tt)))))))))
 
 short_at_8 : AllShort (left_over 1)
 unfolding narrowed
-short_at_8 = subst AllShort (sym mixture-is_fair.1.0.left) (omega arith, (omega arith, (omega arith, (omega arith, (omega arith, (omega arith, (omega arith, (omega arith, (omega arith, (omega arith, (omega arith, tt)))))))))))
+short_at_8 = subst AllShort (sym mixture-is_fair.1.0.left) (omega arith, (omega arith, (omega arith, (omega arith, (omega arith, (omega arith, (omega arith, (omega arith, (omega arith, tt)))))))))
 
-eleven_reports_lem : 11 ≤ room_for (length eleven_reports)
-eleven_reports_lem = omega arith
+nine_fit : 9 ≤ room_for (length nine_reports) (slot_bytes * 9)
+unfolding room_for
+nine_fit = omega arith
 
-burst_at : (narrow : ℕ) → AllShort (left_over narrow) → length (left_over narrow) ≡ 11 → burst_verdict (desk_for_eleven narrow) ≡ accept
-    → length (left_over narrow) * reply_room (state_on (desk_for_eleven narrow)) ≡ 11 * reply_room (fresh (small_setup narrow)) → BurstAt narrow
-burst_at narrow short eleven passed same = record {
+burst_at : (narrow : ℕ) → AllShort (left_over narrow) → length (left_over narrow) ≡ 9 → burst_verdict (desk_for_nine narrow) ≡ accept → BurstAt narrow
+burst_at narrow short nine passed = record {
   short = short;
-  whole_burst = record {
-    whole-records = log_reads_back (left_over narrow) short;
-    passed = passed;
-    answers = omega (arith, eleven, eleven_reports_lem);
-    replies = replies_always_fit (desk_for_eleven narrow) eleven_reports _ (left_over narrow) (omega (arith, eleven, same, length-replicate {A = ℕ} (11 * reply_room (fresh (small_setup narrow))) 0));
-  };
+  whole_burst = record { whole-records = log_reads_back (left_over narrow) short; passed = passed; room = omega (arith, nine, nine_fit) };
 }
 
 pub burst_not_empty : BurstNotEmpty
 unfolding computing
 burst_not_empty = (
-  burst_at 0 short_at_16 (ap length mixture-is_fair.0.left) refl (ap (λ (n : ℕ). n * reply_room (state_on (desk_for_eleven 0))) (ap length mixture-is_fair.0.left)),
-  (burst_at 1 short_at_8 (ap length mixture-is_fair.1.0.left) refl (ap (λ (n : ℕ). n * reply_room (state_on (desk_for_eleven 1))) (ap length mixture-is_fair.1.0.left)), tt),
+  burst_at 0 short_at_16 (ap length mixture-is_fair.0.left) refl,
+  (burst_at 1 short_at_8 (ap length mixture-is_fair.1.0.left) refl, tt),
 )
-
--- ---- Calls that respond
-
--- a call for each packet, with a response buffer as long as row 12 wants
-responding-made : (ps : List (List ℕ)) (d : Desk) → (responses : List (List ℕ)) × Responding d ps responses
-responding-made [] d = ([], none_more)
-responding-made (p ∷ ps) d =
-    let reply : List ℕ = replicate (reply_room (state_on d)) 0 in
-    let enough : reply_room (state_on d) ≤ length reply = omega (arith, length-replicate {A = ℕ} (reply_room (state_on d)) 0) in
-    let x : Lent = lent (with_response d reply) p in
-    (_, responding (report_for 0 (reading x)) reply enough (record { report = refl; desk = refl }) (responding-made ps (reading x).desk).1)
-
-pub responding_not_empty : RespondingNotEmpty
-responding_not_empty d packets = responding-made packets d

@@ -1,36 +1,37 @@
 -- Bursts with a pause are calls, one after another: a burst of written records reads some of them, none of which delivers but the last where it
 -- stopped at a delivery; and what it leaves unread are the records of the others.
-use Prim.Native.Nat.{ℕ, suc, ◌+◌, ◌-◌, ◌≤◌}
+use Prim.Native.Nat.{ℕ, zero, suc, ◌+◌, ◌-◌}
 use mathlib.Core.Path.{◌≡◌, refl, ap, ap₂, sym, ◌∙◌, subst}
 use mathlib.Core.Logic.{◌⊎◌, inl, inr}
-use mathlib.Core.List.{List, [], ◌∷◌, ◌++◌}
+use mathlib.Core.List.{List, [], ◌∷◌, ◌++◌, append_assoc, append-nil}
 use mathlib.Core.Bool.{Bool, true, false, cond}
 use native.Mathlib.Omega.{arith}
 use lib.Dec.{eqb}
-use lib.ListN.{length, drop}
+use lib.ListN.{length, take, drop, length-append}
 use lib.Seq.{drop_at}
 use borrow.Author.Tests.{ne_eqb}
-use Rattle.lists.proofs.Tests.{by_test}
-use Rattle.answers.specs.Answers.{Said, held, delivered, message, done, refused}
+use Rattle.answers.specs.Answers.{Said, held, delivered, message, refused}
 use Rattle.tables.specs.Refusals.{Verdict, refuse, accept}
-use Rattle.reading.specs.Desk.{Desk, state_on, with_response}
-use Rattle.log_records.specs.Written.{written_log, AllShort}
+use Rattle.reading.specs.Desk.{Desk, with_response}
+use Rattle.log_records.specs.declared.Next.TheVariants.{Record, End}
+use Rattle.log_records.specs.Records.{next_record}
+use Rattle.log_records.specs.Written.{length_bytes, written_log, AllShort}
+use Rattle.log_records.proofs.Back.{stands, packet_of_lem, ended}
 use Rattle.c_reports.specs.declared.Report.{Report}
 use Rattle.c_reports.specs.Reports.{report_of, report_in}
 use Rattle.flows.specs.Deliveries.{Delivery}
-use Rattle.c_bursts.specs.Bursts.{reply_room, Run, run, unused, read_in, report_for, behind, kind_in, no_room_for, step_left, pause_of, at_end, at_delivery}
+use Rattle.c_bursts.specs.Bursts.{Run, run, read_in, report_for, behind, kind_in, step_left, step_over, step_in, pause_of, at_end, is_full, at_delivery}
 use Rattle.c_bursts.specs.Bursts.{Finished, stopped, ran, room_for, burst_verdict, burst_by, read_burst}
 use Rattle.c_bursts.specs.Inside.{Room}
-use Rattle.c_bursts.proofs.Steps.{Roomy, unused-length, is_roomy}
+use Rattle.c_bursts.proofs.Steps.{at-end, at_full, over-packet, stops, goes_on}
 use Rattle.c_bursts.proofs.Tests.{has_room}
-use Rattle.calls.specs.Calls.{Fetches, none-held, none_message, none_done, none_refused, Reads, stop}
+use Rattle.calls.specs.Calls.{Fetches, none-held, none_message, none_refused, Reads, stop}
 use Rattle.demands.proofs.OfCalls.{demand3_of_calls}
 use Rattle.c_promises.specs.OfCalls as stated
 use Rattle.c_promises.specs.OfCalls.{report_at, last_report, FetchesFromC, PausedCall, Bursts, PausedBurstsAreReads, Demand3OfPausedBursts}
 use Rattle.c_promises.proofs.FromC.{other_buffer, fetched_from_c, set_up}
-use Rattle.c_promises.proofs.Standing.{further, further-end, ends_there, written-further, at_last, no_room, stops-behind, goes_on-behind}
-use Rattle.c_promises.proofs.Behind.{report_placed, more_room}
-use Rattle.c_promises.proofs.InBursts.{call-made}
+use Rattle.c_promises.proofs.Behind.{fewer, report_placed, more_room}
+use Rattle.c_promises.proofs.InBursts.{call_made}
 
 -- what is fetched after a call: what its last report names, where it stopped at a delivery
 data Fetched (f : Finished) : List Delivery → Type 0 where
@@ -64,20 +65,21 @@ module _ (pause : ℕ) (asked : pause ≡ 0 → ⊥) where
       go false false false = inl refl
 
   -- where it goes on, there is nothing to fetch
-  quiet : (d : Desk) (says : Said) (dropped : Bool) (replied used : ℕ) → pause_of pause (report_of says dropped replied used).kind ≡ 0 → Fetches d says []
+  quiet : (d : Desk) (says : Said) (dropped : Bool) (replied : ℕ) → pause_of pause (report_of says dropped replied).kind ≡ 0 → Fetches d says []
   unfolding pause_of report_of
-  quiet d held dropped replied used e = none-held
-  quiet d (delivered context flow stream size) dropped replied used e =
+  quiet d held dropped replied e = none-held
+  quiet d (delivered context flow stream size) dropped replied e =
       let z : at_delivery ≡ 0 = rw (ne_eqb pause 0 asked) at e in absurd (omega (arith, z))
-  quiet d (message context source letter mailbox size) dropped replied used e = none_message
-  quiet d (done request source from size) dropped replied used e = none_done
-  quiet d (refused number) dropped replied used e = none_refused
+  quiet d (message context source letter mailbox size) dropped replied e = none_message
+  quiet d (refused number) dropped replied e = none_refused
 
   module _ (burst : List ℕ) where
     -- at the end of the records
     part_end : (room : ℕ) (front : List ℕ) (r : Run) → burst ≡ front ++ [] → r.next ≡ length front → Part burst r.desk [] (ran pause room burst r)
     part_end room front r e at =
-        subst (Part burst r.desk []) (at_last pause room burst front r e at)
+        let all : burst ≡ front = e ∙ append-nil front in
+        let there : next_record burst r.next ≡ End = ap (next_record burst) (at ∙ ap length (sym all)) ∙ ended burst in
+        subst (Part burst r.desk []) (stops pause room burst r (step_left at_end r) (at-end burst pause room r there) (λ z. omega (arith, z)))
         (record {
           rest = [];
           short = tt;
@@ -86,14 +88,39 @@ module _ (pause : ℕ) (asked : pause ≡ 0 → ⊥) where
           reads = λ fetch more. untouched (λ z. omega (arith, z)) fetch more;
         })
 
-    module _ (p : List ℕ) (qs : List (List ℕ)) (front : List ℕ) (r : Run) (e : burst ≡ front ++ written_log (p ∷ qs)) (at : r.next ≡ length front) (short : AllShort (p ∷ qs)) (room : ℕ) where
+    module _ (p : List ℕ) (qs : List (List ℕ)) (front : List ℕ) (r : Run) (e : burst ≡ front ++ written_log (p ∷ qs)) (at : r.next ≡ length front) (short : AllShort (p ∷ qs)) where
+      abbrev bytes : List ℕ
+      bytes = length_bytes (length p)
+
+      -- behind the packet
+      abbrev further : List ℕ
+      further = front ++ (bytes ++ p)
+
+      abbrev from : ℕ
+      from = length front + length bytes
+
       abbrev next : ℕ
-      next = further-end front p
+      next = length front + length bytes + length p
+
+      apart : burst ≡ front ++ (bytes ++ (p ++ written_log qs))
+      apart = e ∙ ap (λ (l : List ℕ). front ++ l) (append_assoc bytes p (written_log qs))
+
+      again : burst ≡ further ++ written_log qs
+      again = e ∙ sym (append_assoc front (bytes ++ p) (written_log qs))
+
+      place : next ≡ length further
+      place = simp length-append (omega arith)
+
+      found : next_record burst r.next ≡ Record from (length p) next
+      found = ap₂ next_record apart at ∙ stands front p (written_log qs) short.0
+
+      packet-there : take (length p) (drop from burst) ≡ p
+      packet-there = ap (λ (l : List ℕ). take (length p) (drop from l)) apart ∙ packet_of_lem front bytes p (written_log qs)
 
       -- no room for it
-      part_full : no_room_for room r ≡ true → Part burst r.desk (p ∷ qs) (ran pause room burst r)
-      part_full full =
-          subst (Part burst r.desk (p ∷ qs)) (no_room burst p qs front r e at short pause room full)
+      part_full : Part burst r.desk (p ∷ qs) (ran pause 0 burst r)
+      part_full =
+          subst (Part burst r.desk (p ∷ qs)) (stops pause 0 burst r (step_left is_full r) (at_full burst pause 0 r from (length p) next found refl) (λ z. omega (arith, z)))
           (record {
             rest = p ∷ qs;
             short = short;
@@ -102,78 +129,81 @@ module _ (pause : ℕ) (asked : pause ≡ 0 → ⊥) where
             reads = λ fetch more. untouched (λ z. omega (arith, z)) fetch more;
           })
 
-      module _ (space : Room r 1) (y : Roomy room r) where
-        enough : reply_room (state_on r.desk) ≤ length (unused r)
-        enough = omega (arith, unused-length r, y.reply)
+      module _ (room : ℕ) (space : Room r (suc room)) where
+        step_is : step_over pause r p next ≡ step_in pause (suc room) burst r
+        step_is = ap (λ (q : List ℕ). step_over pause r q next) (sym packet-there) ∙ over-packet burst pause (suc room) r from (length p) next found (λ z. omega arith)
 
         -- it delivers: the burst stops
-        part-stops : pause_of pause (kind_in r p) ≡ at_delivery → Part burst r.desk (p ∷ qs) (ran pause room burst r)
+        part-stops : pause_of pause (kind_in r p) ≡ at_delivery → Part burst r.desk (p ∷ qs) (ran pause (suc room) burst r)
         part-stops k =
             subst (Part burst r.desk (p ∷ qs))
-            (ap (λ (n : ℕ). stopped (step_left n (behind r p next))) (sym k) ∙ stops-behind burst p qs front r e at short pause room y (λ z. omega (arith, z, k)))
+            (ap (λ (n : ℕ). stopped (step_left n (behind r p next))) (sym k) ∙ stops pause (suc room) burst r (step_over pause r p next) step_is (λ z. omega (arith, z, k)))
             (record {
               rest = qs;
               short = short.1;
-              unread = ap₂ drop (ends_there front p) (written-further front p qs e) ∙ drop_at (further front p) (written_log qs) (length (further front p)) refl;
+              unread = ap₂ drop place again ∙ drop_at further (written_log qs) (length further) refl;
               none_left = λ z. absurd (omega (arith, z));
               reads = fetched-behind;
             })
           where
+            one : Room r 1
+            one = fewer r room space
+
             -- its report is the call's last
-            told : report_at (behind r p next).reports (r.count + 1 - 1) ≡ report_for r.used (read_in r p)
+            told : report_at (behind r p next).reports (r.count + 1 - 1) ≡ report_for (read_in r p)
             told =
                 let last : r.count + 1 - 1 ≡ r.count = omega arith in
-                ap (report_at (behind r p next).reports) last ∙ ap report_in (report_placed r p next space)
+                ap (report_at (behind r p next).reports) last ∙ ap report_in (report_placed r p next one)
 
             fetched-behind : {fetched ds : List Delivery} → Fetched (stopped (step_left at_delivery (behind r p next))) fetched → Reads (behind r p next).desk qs ds
                 → Reads r.desk (p ∷ qs) (fetched ++ ds)
             fetched-behind (elsewhere other) more = absurd (other refl)
             fetched-behind (at-delivery {fetched = fetched} there fetch) more =
-                call-made r p next enough
-                (fetched_from_c (read_in r p).desk (behind r p next).desk.response (read_in r p).says (read_in r p).dropped (read_in r p).replied r.used
+                call_made r p next one
+                (fetched_from_c (read_in r p).desk (behind r p next).desk.response (read_in r p).says (read_in r p).dropped (read_in r p).replied
                 (subst (λ (q : Report). FetchesFromC (behind r p next).desk q fetched) told fetch)) more
 
         -- it does not: the burst goes on behind it
-        part_goes : pause_of pause (kind_in r p) ≡ 0 → Part burst (behind r p next).desk qs (ran pause (room - 1) burst (behind r p next))
-            → Part burst r.desk (p ∷ qs) (ran pause room burst r)
+        part_goes : pause_of pause (kind_in r p) ≡ 0 → Part burst (behind r p next).desk qs (ran pause room burst (behind r p next))
+            → Part burst r.desk (p ∷ qs) (ran pause (suc room) burst r)
         part_goes k part =
-            subst (Part burst r.desk (p ∷ qs)) (goes_on-behind burst p qs front r e at short pause room y k)
+            let less : suc room - 1 ≡ room = omega arith in
+            subst (Part burst r.desk (p ∷ qs))
+            (ap (λ (n : ℕ). ran pause n burst (behind r p next)) (sym less) ∙ goes_on pause (suc room) burst r (step_over pause r p next) step_is k)
             (record {
               rest = part.rest;
               short = part.short;
               unread = part.unread;
               none_left = part.none_left;
               reads = λ fetch more.
-                  call-made r p next enough (quiet (read_in r p).desk (read_in r p).says (read_in r p).dropped (read_in r p).replied r.used k) (part.reads fetch more);
+                  call_made r p next (fewer r room space) (quiet (read_in r p).desk (read_in r p).says (read_in r p).dropped (read_in r p).replied k) (part.reads fetch more);
             })
 
     part : (room : ℕ) (packets : List (List ℕ)) (front : List ℕ) (r : Run) → burst ≡ front ++ written_log packets → r.next ≡ length front → AllShort packets
         → Room r room → Part burst r.desk packets (ran pause room burst r)
     part room [] front r e at short space = part_end room front r e at
-    part room (p ∷ qs) front r e at short space =
-        by_test (no_room_for room r) (part_full p qs front r e at short room)
-        (λ free. go (is_roomy room r free) (goes_or_stops (kind_in r p))
-        (λ more. part (room - 1) qs (further front p) (behind r p (further-end front p)) (written-further front p qs e) (ends_there front p) short.1 more))
+    part zero (p ∷ qs) front r e at short space = part_full p qs front r e at short
+    part (suc room) (p ∷ qs) front r e at short space =
+        let r' : Run = behind r p (length front + length (length_bytes (length p)) + length p) in
+        let space' : Room r' room = more_room r p r'.next (fewer r room space) room space in
+        go (goes_or_stops (kind_in r p)) (part room qs (front ++ (length_bytes (length p) ++ p)) r' (again p qs front r e at short) (place p qs front r e at short) short.1 space')
       where
-        go : Roomy room r → (pause_of pause (kind_in r p) ≡ 0) ⊎ (pause_of pause (kind_in r p) ≡ at_delivery)
-            → (Room (behind r p (further-end front p)) (room - 1)
-            → Part burst (behind r p (further-end front p)).desk qs (ran pause (room - 1) burst (behind r p (further-end front p))))
-            → Part burst r.desk (p ∷ qs) (ran pause room burst r)
-        go y (inl k) later =
-            let one : Room r 1 = omega (arith, space, y.report) in
-            let all : Room r (suc (room - 1)) = omega (arith, space, y.report) in
-            part_goes p qs front r e at short room one y k (later (more_room r p (further-end front p) one (room - 1) all))
-        go y (inr k) later = part-stops p qs front r e at short room (omega (arith, space, y.report)) y k
+        go : (pause_of pause (kind_in r p) ≡ 0) ⊎ (pause_of pause (kind_in r p) ≡ at_delivery)
+            → Part burst (behind r p (length front + length (length_bytes (length p)) + length p)).desk qs
+            (ran pause room burst (behind r p (length front + length (length_bytes (length p)) + length p)))
+            → Part burst r.desk (p ∷ qs) (ran pause (suc room) burst r)
+        go (inl k) later = part_goes p qs front r e at short room space k later
+        go (inr k) later = part-stops p qs front r e at short room space k
 
     -- a call that was not refused
-    call-part : (packets : List (List ℕ)) (d : Desk) (reports : List ℕ) → burst ≡ written_log packets → AllShort packets
+    call_part : (packets : List (List ℕ)) (d : Desk) (reports : List ℕ) → burst ≡ written_log packets → AllShort packets
         → ((read_burst pause d reports burst).answer.stop ≡ 0 → ⊥) → Part burst d packets (read_burst pause d reports burst)
     unfolding read_burst
-    call-part packets d reports e short n = go (burst_verdict d) n
+    call_part packets d reports e short n = go (burst_verdict d) n
       where
         go : (v : Verdict) → ((burst_by pause d reports burst v).answer.stop ≡ 0 → ⊥) → Part burst d packets (burst_by pause d reports burst v)
         go (refuse number leaves) n = absurd (n refl)
-        go accept n = part (room_for (length reports)) packets [] (run d reports 0 0 0) e refl short (has_room d reports)
+        go accept n = part (room_for (length reports) (length d.response)) packets [] (run d reports 0 0) e refl short (has_room d reports)
 
 -- a call by what it promised; the desk's own response buffer is not looked at
 called : {d : Desk} {burst : List ℕ} {f : Finished} → PausedCall d burst f → (packets : List (List ℕ)) → burst ≡ written_log packets → AllShort packets
@@ -181,7 +211,7 @@ called : {d : Desk} {burst : List ℕ} {f : Finished} → PausedCall d burst f �
 called {d = d} {burst = burst} {f = f} c packets e short n =
     let p : Part burst (with_response d c.responses) packets f =
     subst (Part burst (with_response d c.responses) packets) (sym c.promised)
-    (call-part c.pause c.asked burst packets (with_response d c.responses) c.reports e short (λ z. n (ap (λ (g : Finished). g.answer.stop) c.promised ∙ z))) in
+    (call_part c.pause c.asked burst packets (with_response d c.responses) c.reports e short (λ z. n (ap (λ (g : Finished). g.answer.stop) c.promised ∙ z))) in
     record { rest = p.rest; short = p.short; unread = p.unread; none_left = p.none_left; reads = λ fetch more. other_buffer d.response (p.reads fetch more) }
 
 are_reads : {d : Desk} {burst : List ℕ} {ds : List Delivery} → Bursts d burst ds → (packets : List (List ℕ)) → burst ≡ written_log packets → AllShort packets → Reads d packets ds

@@ -18,21 +18,21 @@ use Rattle.sending.specs.Sending.{put_of, packets, whole}
 use Rattle.sending.specs.Mixture.{small_setup, mixture}
 use Rattle.answers.specs.Kinds.{delivered_kind, message_kind}
 use Rattle.c_places.specs.Places.{place_of}
-use Rattle.c_bursts.specs.Bursts.{Finished, at_end, at_delivery, pause_of, step_in, ran, read_burst}
-use Rattle.c_promises.specs.OfCalls.{desk_for_eleven, eleven_reports, bytes_at, flow_in, at_place, nothing, last_report, PausedCall, Bursts, ended, paused, PausedBurstsNotEmpty}
+use Rattle.c_bursts.specs.Bursts.{Finished, at_end, at_delivery, pause_of, step_in, ran, room_for, read_burst}
+use Rattle.c_promises.specs.OfCalls.{desk_for_nine, nine_reports, bytes_at, flow_in, at_place, nothing, last_report, PausedCall, Bursts, ended, paused, PausedBurstsNotEmpty}
 
 -- what a proof by computation looks through, bursts too
 unfoldable in_bursts : Unit {0}
-unfolding computing put_of record_from long_record next_record length_bytes report_of pause_of step_in ran read_burst state_refusal has_room room_part stream_room
+unfolding computing put_of record_from long_record next_record length_bytes report_of pause_of step_in ran room_for read_burst state_refusal has_room room_part stream_room
 in_bursts = tt
 
 module _ (narrow : ℕ) where
-  -- a call with room for eleven, asked to pause
+  -- a call with room for nine, asked to pause
   abbrev again : Desk → List ℕ → Finished
-  again d burst = read_burst 1 (with_response d (desk_for_eleven narrow).response) eleven_reports burst
+  again d burst = read_burst 1 (with_response d (desk_for_nine narrow).response) nine_reports burst
 
   called : (d : Desk) (burst : List ℕ) → PausedCall d burst (again d burst)
-  called d burst = record { pause = 1; asked = λ z. omega (arith, z); responses = (desk_for_eleven narrow).response; reports = eleven_reports; promised = refl }
+  called d burst = record { pause = 1; asked = λ z. omega (arith, z); responses = (desk_for_nine narrow).response; reports = nine_reports; promised = refl }
 
   abbrev log : List ℕ
   log = written_log (packets (small_setup narrow) (mixture narrow))

@@ -6,7 +6,7 @@ use native.Mathlib.Omega.{arith}
 use lib.Dec.{eqb}
 use lib.ListN.{length}
 use Rattle.lists.specs.Bytes.{AreBytes}
-use Rattle.answers.specs.Answers.{Said, held, delivered, message, done, refused}
+use Rattle.answers.specs.Answers.{Said, held, delivered, message, refused}
 use Rattle.contexts.specs.State.{stream_contexts, message_contexts}
 use Rattle.contexts.specs.Words.{state_of}
 use Rattle.lent_state.specs.Lent.{state_refusal, has_room}
@@ -56,7 +56,7 @@ places_inside = record {
 module _ (x : Lent) where
   -- the report of what is said
   abbrev told : Said → Report
-  told says = report_of says (reading x).dropped (reading x).replied 0
+  told says = report_of says (reading x).dropped (reading x).replied
 
   of_PDU : (says : Said) → (reading x).says ≡ says → (place : Place) → (told says).kind ≡ delivered_kind
       → StreamPlacePromise (reading x).desk.words (length (reading x).desk.stream_memory) (told says).context (told says).length place
@@ -67,7 +67,6 @@ module _ (x : Lent) where
       record { below = there.below; some_byte = there.some_byte; within = there.within; whole-place = answers ∙ ap place_of there.handed }
   of_PDU held e place two answers = absurd (omega (arith, two))
   of_PDU (message context source letter mailbox size) e place two answers = absurd (omega (arith, two))
-  of_PDU (done request source from size) e place two answers = absurd (omega (arith, two))
   of_PDU (refused number) e place two answers = absurd (omega (arith, two))
 
   of_message_lem : AreBytes x.packet → (says : Said) → (reading x).says ≡ says → (place : Place) → (told says).kind ≡ message_kind
@@ -79,7 +78,6 @@ module _ (x : Lent) where
       record { below = there.below; some_byte = there.some_byte; within = there.within; whole-place = answers ∙ ap place_of there.handed }
   of_message_lem bytes held e place three answers = absurd (omega (arith, three))
   of_message_lem bytes (delivered context flow stream size) e place three answers = absurd (omega (arith, three))
-  of_message_lem bytes (done request source from size) e place three answers = absurd (omega (arith, three))
   of_message_lem bytes (refused number) e place three answers = absurd (omega (arith, three))
 
 pub room_of_delivered_from_c : RoomOfDeliveredFromC

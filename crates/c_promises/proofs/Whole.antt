@@ -1,6 +1,6 @@
 -- A burst of whole records is read to its end: by induction over the records, a step for each.
 use Prim.Native.Nat.{ℕ, zero, suc, ◌+◌, ◌-◌, ◌*◌, ◌≤◌}
-use mathlib.Core.Path.{◌≡◌, refl, ap, sym, ◌∙◌, subst}
+use mathlib.Core.Path.{◌≡◌, refl, ap, sym, ◌∙◌}
 use mathlib.Core.List.{List, [], ◌∷◌}
 use mathlib.Core.Bool.{Bool, true, false, cond, false≢true}
 use native.Mathlib.Omega.{arith}
@@ -8,28 +8,18 @@ use lib.Dec.{ltb, eqb}
 use lib.ListN.{length, take, drop}
 use borrow.Author.Tests.{ltb-false}
 use Rattle.lists.specs.Bytes.{byte}
-use Rattle.reading.specs.Desk.{state_on}
 use Rattle.log_records.specs.declared.Next.{Next}
 use Rattle.log_records.specs.declared.Next.TheVariants.{Record, End, Bad}
 use Rattle.log_records.specs.Records.{Records, records, by_next, next_record, records_from, records_of, record_from, long_record}
 use Rattle.log_records.proofs.Found.{inside}
-use Rattle.c_bursts.specs.Bursts.{reply_room, Run, run, unused, behind, step_left, step_over, pause_of, at_end, Finished, stopped, ran, room_for, read_burst, burst_by}
-use Rattle.c_bursts.proofs.Steps.{Roomy, unused-length, at-end, over-packet, stops, goes_on}
-use Rattle.c_promises.specs.OfCalls.{all_read_in, RepliesFit, BurstIsCalls}
+use Rattle.c_bursts.specs.Bursts.{Run, run, behind, step_left, step_over, pause_of, at_end, Finished, stopped, ran, room_for, read_burst, burst_by}
+use Rattle.c_bursts.proofs.Steps.{at-end, over-packet, stops, goes_on}
+use Rattle.c_promises.specs.OfCalls.{all_read_in, BurstIsCalls}
 
 -- where the next record begins does not matter to what is read
-pub same_next : (end a b : ℕ) (r : Run) (packet : List ℕ) (packets : List (List ℕ)) → all_read_in end (behind r packet a) packets ≡ all_read_in end (behind r packet b) packets
+same_next : (end a b : ℕ) (r : Run) (packet : List ℕ) (packets : List (List ℕ)) → all_read_in end (behind r packet a) packets ≡ all_read_in end (behind r packet b) packets
 same_next end a b r packet [] = refl
 same_next end a b r packet (p ∷ ps) = refl
-
--- nor to the room for responses
-pub fits_next : (end a b : ℕ) (r : Run) (packet : List ℕ) (packets : List (List ℕ)) → RepliesFit end (behind r packet a) packets → RepliesFit end (behind r packet b) packets
-fits_next end a b r packet [] fit = tt
-fits_next end a b r packet (p ∷ ps) fit = fit
-
--- there is room for a packet
-pub has_both : (room : ℕ) (r : Run) → (room ≡ 0 → ⊥) → reply_room (state_on r.desk) ≤ length (unused r) → Roomy room r
-has_both room r some enough = record { report = some; reply = omega (arith, unused-length r, enough) }
 
 -- ---- the end is at the log's length
 
@@ -85,24 +75,22 @@ no_pause r packet next = refl
 abbrev read_all : List ℕ → Run → List (List ℕ) → Finished
 read_all burst r packets = stopped (step_left at_end (all_read_in (length burst) r packets))
 
-reads_all : (most room : ℕ) (burst : List ℕ) (r : Run) (packets : List (List ℕ)) → records_from most burst r.next ≡ records packets true → length packets ≤ room → RepliesFit (length burst) r packets
-    → r.next ≤ length burst
+reads_all : (most room : ℕ) (burst : List ℕ) (r : Run) (packets : List (List ℕ)) → records_from most burst r.next ≡ records packets true → length packets ≤ room → r.next ≤ length burst
     → ran 0 room burst r ≡ read_all burst r packets
 unfolding records_from
-reads_all zero room burst r packets e fits replies inside_it = absurd (false≢true (ap (λ (x : Records). x.clean) e))
-reads_all (suc most) room burst r packets e fits replies inside_it =
-    go (next_record burst r.next) refl e (λ packet next ps g fit more within. reads_all most (room - 1) burst (behind r packet next) ps g fit more within)
+reads_all zero room burst r packets e fits inside_it = absurd (false≢true (ap (λ (x : Records). x.clean) e))
+reads_all (suc most) room burst r packets e fits inside_it =
+    go (next_record burst r.next) refl e (λ packet next ps g fit within. reads_all most (room - 1) burst (behind r packet next) ps g fit within)
   where
     go : (x : Next) → next_record burst r.next ≡ x → by_next burst (records_from most burst) x ≡ records packets true
-        → ((packet : List ℕ) (next : ℕ) (ps : List (List ℕ)) → records_from most burst next ≡ records ps true → length ps ≤ room - 1
-        → RepliesFit (length burst) (behind r packet next) ps → next ≤ length burst
+        → ((packet : List ℕ) (next : ℕ) (ps : List (List ℕ)) → records_from most burst next ≡ records ps true → length ps ≤ room - 1 → next ≤ length burst
         → ran 0 (room - 1) burst (behind r packet next) ≡ read_all burst (behind r packet next) ps)
         → ran 0 room burst r ≡ read_all burst r packets
     go End at f later =
         let there : r.next ≡ length burst = omega (arith, ends_there burst r.next at) in
         let none : [] ≡ packets = ap (λ (x : Records). x.packets) f in
         sym (stops 0 room burst r (step_left at_end r) (at-end burst 0 room r at) (λ z. omega (arith, z)))
-        ∙ (ap (λ (n : ℕ). stopped (step_left at_end (run r.desk r.reports r.count r.used n))) there
+        ∙ (ap (λ (n : ℕ). stopped (step_left at_end (run r.desk r.reports r.count n))) there
         ∙ ap (read_all burst r) none)
     go Bad at f later = absurd (false≢true (ap (λ (x : Records). x.clean) f))
     go (Record from size next) at f later =
@@ -113,10 +101,9 @@ reads_all (suc most) room burst r packets e fits replies inside_it =
         let counted : length (packet ∷ rest.packets) ≡ length packets = ap length whole in
         let some : room ≡ 0 → ⊥ = λ z. omega (arith, counted, fits, z) in
         let fit : length rest.packets ≤ room - 1 = omega (arith, counted, fits) in
-        let both : RepliesFit (length burst) r (packet ∷ rest.packets) = subst (RepliesFit (length burst) r) (sym whole) replies in
         let place = inside burst r.next from size next at in
-        sym (goes_on 0 room burst r (step_over 0 r packet next) (over-packet burst 0 room r from size next at (has_both room r some both.0)) (no_pause r packet next))
-        ∙ (later packet next rest.packets (ap (records rest.packets) clean) fit (fits_next (length burst) (length burst) next r packet rest.packets both.1) place.within
+        sym (goes_on 0 room burst r (step_over 0 r packet next) (over-packet burst 0 room r from size next at some) (no_pause r packet next))
+        ∙ (later packet next rest.packets (ap (records rest.packets) clean) fit place.within
         ∙ (ap (λ (x : Run). stopped (step_left at_end x)) (same_next (length burst) next (length burst) r packet rest.packets)
         ∙ ap (read_all burst r) whole))
 
@@ -124,4 +111,4 @@ pub burst_is_calls : BurstIsCalls
 unfolding read_burst records_of
 burst_is_calls d reports burst packets w =
     ap (burst_by 0 d reports burst) w.passed
-    ∙ reads_all (suc (length burst)) (room_for (length reports)) burst (run d reports 0 0 0) packets w.whole-records w.answers w.replies (omega arith)
+    ∙ reads_all (suc (length burst)) (room_for (length reports) (length d.response)) burst (run d reports 0 0) packets w.whole-records w.room (omega arith)

@@ -6,10 +6,10 @@ use Rattle.lists.specs.Rows.{rows}
 use Rattle.tables.specs.Refusals.{accept}
 use Rattle.answers.specs.Once.{Outcome, OneOutcome, Once}
 use Rattle.wire.specs.declared.Flow.{Flow}
-use Rattle.responses.specs.Type13.{response_size, replied_with}
+use Rattle.responses.specs.Type13.{response_size, answered}
 use Rattle.wire.specs.declared.Setup.{Setup}
 use Rattle.wire.specs.Packet.{ids_of, too_wide}
-use Rattle.contexts.specs.State.{ids_in, fresh, stream_contexts, message_contexts}
+use Rattle.contexts.specs.State.{ids_in, stream_contexts, message_contexts}
 use Rattle.message_rooms.specs.Placing.{message_room_bytes}
 use Rattle.reading.specs.Desk.{Desk, state_on, with_response}
 use Rattle.reading.specs.Table.{Lent, lent, state_in}
@@ -33,65 +33,51 @@ use Rattle.c_reports.specs.Reports.{report_words, report_in}
 use Rattle.c_places.specs.declared.Place.{Place}
 use Rattle.c_places.specs.Places.{place_of, StreamPlacePromise, MessagePlacePromise}
 use Rattle.c_bursts.specs.declared.Burst.{Burst}
-use Rattle.c_bursts.specs.Bursts.{reply_room, Run, run, unused, report_for, behind, step_left, at_end, is_full, at_delivery, answering, stopped, Finished, room_for, burst_verdict, read_burst, BurstPromise}
+use Rattle.c_bursts.specs.Bursts.{slot_bytes, Run, run, report_for, behind, step_left, at_end, is_full, at_delivery, answering, stopped, Finished, room_for, burst_verdict, read_burst, BurstPromise}
 use Rattle.answers.specs.Kinds.{delivered_kind, message_kind, ready_kind, written_kind}
 use Rattle.kaiverohm.specs.Exports.{SetupFromCPromise, ReadFromCPromise, AbandonStreamFromCPromise, AbandonMessageFromCPromise, WriteFromCPromise}
 use Rattle.kaiverohm.specs.Exports.{StreamContextFromCPromise, MessageContextFromCPromise, WriteRecordFromCPromise}
 
 -- ---- What a report says of the response is what reading wrote there.
 
--- the bytes of response that a report names, and the response buffer as it is left: none and as it was, or a response to the packet, of its size at the
--- width of the endpoint, with its transaction and status and its data
+-- the bytes of response that a report names, and the response buffer as it is left: none and as it was, or a response to the packet, of its size at the width of the endpoint
 pub data Reply (x : Lent) : ℕ → List ℕ → Type 0 where
   silent : Reply x 0 x.desk.response
-  answers : (code : ℕ) (payload : List ℕ)
-      → Reply x (response_size (ids_in (state_in x)) + length payload) (replied_with (ids_in (state_in x)) x.desk.response x.packet code payload)
+  answers : (status : ℕ) → Reply x (response_size (ids_in (state_in x))) (answered (ids_in (state_in x)) x.desk.response x.packet status)
 
 abbrev pub ReportsReply : Type 0
-ReportsReply = (x : Lent) → Reply x (report_for 0 (reading x)).response (reading x).desk.response
+ReportsReply = (x : Lent) → Reply x (report_for (reading x)).response (reading x).desk.response
 
 -- ---- A burst of whole records that has room for all its packets is read to its end: as many reports as packets, each packet read at the
 -- desk that the one before left.
 
 -- the packets one after another; the next record then begins at `end`
 abbrev pub all_read_in : ℕ → Run → List (List ℕ) → Run
-all_read_in end r [] = run r.desk r.reports r.count r.used end
+all_read_in end r [] = run r.desk r.reports r.count end
 all_read_in end r (packet ∷ packets) = all_read_in end (behind r packet end) packets
-
--- each packet finds as many bytes behind the responses before it as row 12 wants
-abbrev pub RepliesFit : ℕ → Run → List (List ℕ) → Type 0
-RepliesFit end r [] = Unit {0}
-RepliesFit end r (packet ∷ packets) = (reply_room (state_on r.desk) ≤ length (unused r)) × RepliesFit end (behind r packet end) packets
 
 -- whole records, a desk that rows 19 and 12 pass, and room for a report and a response of each packet
 pub record WholeBurst (d : Desk) (reports burst : List ℕ) (packets : List (List ℕ)) : Type 0 where
   pub whole-records : records_of burst ≡ records packets true
   pub passed : burst_verdict d ≡ accept
-  pub answers : length packets ≤ room_for (length reports)
-  pub replies : RepliesFit (length burst) (run d reports 0 0 0) packets
-
--- as many bytes for each packet are always enough
-abbrev pub RepliesAlwaysFit : Type 0
-RepliesAlwaysFit =
-    (d : Desk) (reports : List ℕ) (end : ℕ) (packets : List (List ℕ)) → length packets * reply_room (state_on d) ≤ length d.response → RepliesFit end (run d reports 0 0 0) packets
+  pub room : length packets ≤ room_for (length reports) (length d.response)
 
 abbrev pub BurstIsCalls : Type 0
 BurstIsCalls =
     (d : Desk) (reports burst : List ℕ) (packets : List (List ℕ)) → WholeBurst d reports burst packets
-    → read_burst 0 d reports burst ≡ stopped (step_left at_end (all_read_in (length burst) (run d reports 0 0 0) packets))
+    → read_burst 0 d reports burst ≡ stopped (step_left at_end (all_read_in (length burst) (run d reports 0 0) packets))
 
--- a desk that was just set up, with room for eleven responses; and for their reports
-abbrev pub desk_for_eleven : (narrow : ℕ) → Desk
-desk_for_eleven narrow = with_response (zero_desk (small_setup narrow)) (replicate (11 * reply_room (fresh (small_setup narrow))) 0)
+-- a desk that was just set up, with responses for nine; and their reports
+abbrev pub desk_for_nine : (narrow : ℕ) → Desk
+desk_for_nine narrow = with_response (zero_desk (small_setup narrow)) (replicate (slot_bytes * 9) 0)
 
-abbrev pub eleven_reports : List ℕ
-eleven_reports = replicate (report_words * 11) 0
+abbrev pub nine_reports : List ℕ
+nine_reports = replicate (report_words * 9) 0
 
--- these premises can be met, at both widths: by the packets of a sending with losses, mixed flows, and messages and requests for
--- the memory between, of which there are eleven
+-- these premises can be met, at both widths: by the packets of a sending with losses, mixed flows and messages between, of which there are nine
 pub record BurstAt (narrow : ℕ) : Type 0 where
   pub short : AllShort (packets (small_setup narrow) (mixture narrow))
-  pub whole_burst : WholeBurst (desk_for_eleven narrow) eleven_reports (written_log (packets (small_setup narrow) (mixture narrow))) (packets (small_setup narrow) (mixture narrow))
+  pub whole_burst : WholeBurst (desk_for_nine narrow) nine_reports (written_log (packets (small_setup narrow) (mixture narrow))) (packets (small_setup narrow) (mixture narrow))
 
 abbrev pub BurstNotEmpty : Type 0
 BurstNotEmpty = Each BurstAt both_widths
@@ -115,12 +101,12 @@ pub record PlaceOfDelivered (rooms room context size : ℕ) (place : Place) : Ty
   pub whole-place : place ≡ place_of (part (context * room) size)
 
 pub record RoomOfDeliveredFromC : Type 0 where
-  pub of_PDU : (x : Lent) (place : Place) → (report_for 0 (reading x)).kind ≡ delivered_kind
-      → StreamPlacePromise (reading x).desk.words (length (reading x).desk.stream_memory) (report_for 0 (reading x)).context (report_for 0 (reading x)).length place
-      → PlaceOfDelivered stream_contexts (state_on (reading x).desk).setup.room (report_for 0 (reading x)).context (report_for 0 (reading x)).length place
-  pub of_message_lem : (x : Lent) (place : Place) → AreBytes x.packet → (report_for 0 (reading x)).kind ≡ message_kind
-      → MessagePlacePromise (reading x).desk.words (length (reading x).desk.message_memory) (report_for 0 (reading x)).context (report_for 0 (reading x)).length place
-      → PlaceOfDelivered message_contexts message_room_bytes (report_for 0 (reading x)).context (report_for 0 (reading x)).length place
+  pub of_PDU : (x : Lent) (place : Place) → (report_for (reading x)).kind ≡ delivered_kind
+      → StreamPlacePromise (reading x).desk.words (length (reading x).desk.stream_memory) (report_for (reading x)).context (report_for (reading x)).length place
+      → PlaceOfDelivered stream_contexts (state_on (reading x).desk).setup.room (report_for (reading x)).context (report_for (reading x)).length place
+  pub of_message_lem : (x : Lent) (place : Place) → AreBytes x.packet → (report_for (reading x)).kind ≡ message_kind
+      → MessagePlacePromise (reading x).desk.words (length (reading x).desk.message_memory) (report_for (reading x)).context (report_for (reading x)).length place
+      → PlaceOfDelivered message_contexts message_room_bytes (report_for (reading x)).context (report_for (reading x)).length place
 
 -- ---- Demands 2 and 3 from C: what a caller makes of the reports is exactly what is whole.
 
@@ -144,7 +130,7 @@ pub data FetchesFromC (d : Desk) (r : Report) : List Delivery → Type 0 where
 pub data ReadsFromC : Desk → List (List ℕ) → List Delivery → Type 0 where
   no_more : {d : Desk} → ReadsFromC d [] []
   one_more : {d next : Desk} {p : List ℕ} {ps : List (List ℕ)} {fetched ds : List Delivery} (r : Report) (given : List ℕ)
-      → reply_room (state_on d) ≤ length given
+      → response_size (ids_in (state_on d)) ≤ length given
       → ReadFromCPromise (lent (with_response d given) p) r next
       → FetchesFromC next r fetched
       → ReadsFromC next ps ds
@@ -202,7 +188,7 @@ pub record CallsFromCNotEmpty : Type 0 where
       → CountPromise setup.mtu (length s.pdu.bytes) count
       → (ps : List (List ℕ)) × WritesFromC setup flow s 0 count ps
 
--- A burst is such calls, each with what is left behind the responses before it as its response buffer.
+-- A burst is such calls, each with a slot of its own as its response buffer.
 
 -- a PDU by its name: flow, streamID and length
 pub record Name : Type 0 where
@@ -285,43 +271,6 @@ Demand3OfPausedBursts =
     → SetUpFromC setup d → Fair setup s
     → AllShort (packets setup s) → Bursts d (written_log (packets setup s)) ds
     → ds ≡ whole setup s
-
--- ---- The responses of a burst: they stand one behind the other, each where its report says, and after the whole burst they are the responses of
--- single calls. Of any burst of written records, with a pause or without, wherever it stopped.
-
--- the response that a report names, in the buffer that the call was lent
-abbrev pub response_in : List ℕ → Report → List ℕ
-response_in responses r = take r.response (drop r.response_at responses)
-
--- each begins where the one before ends, the first one there: so no two have a byte in common
-abbrev pub OneBehindAnother : ℕ → List Report → Type 0
-OneBehindAnother at [] = Unit {0}
-OneBehindAnother at (r ∷ rs) = (r.response_at ≡ at) × OneBehindAnother (at + r.response) rs
-
--- a call of `kaiverohm_read` for each packet, with a response buffer of its own that row 12 allows, at the desk that the call before left; and the
--- responses that they write
-pub data Responding : Desk → List (List ℕ) → List (List ℕ) → Type 0 where
-  none_more : {d : Desk} → Responding d [] []
-  responding : {d next : Desk} {p : List ℕ} {ps responses : List (List ℕ)} (r : Report) (given : List ℕ)
-      → reply_room (state_on d) ≤ length given
-      → ReadFromCPromise (lent (with_response d given) p) r next
-      → Responding next ps responses
-      → Responding d (p ∷ ps) (response_in next.response r ∷ responses)
-
--- the packets that a burst read, its responses as they were left, and its reports
-pub record BurstResponses (d : Desk) (packets : List (List ℕ)) (left : List ℕ) (reports : List Report) : Type 0 where
-  pub one_behind_another : OneBehindAnother 0 reports
-  pub as_calls : (responses : List (List ℕ)) → Responding d packets responses → map (response_in left) reports ≡ responses
-
-abbrev pub BurstResponds : Type 0
-BurstResponds =
-    (pause : ℕ) (d : Desk) (reports : List ℕ) (packets : List (List ℕ)) (answer : Burst) (after : Desk) (reports' : List ℕ)
-    → AllShort packets → BurstPromise pause d reports (written_log packets) answer after reports'
-    → BurstResponses d (take answer.count packets) after.response (reports_in answer.count reports')
-
--- such calls can be made, for any packets at any desk
-abbrev pub RespondingNotEmpty : Type 0
-RespondingNotEmpty = (d : Desk) (packets : List (List ℕ)) → (responses : List (List ℕ)) × Responding d packets responses
 
 -- ---- Determinism: any two outcomes that a promise allows are one, in the answer and in everything lent.
 

@@ -1,9 +1,9 @@
 -- The report of numbers that stands for an answer, for callers in C.
 use Rattle.std.specs.Prelude.{ℕ, List, [], ◌∷◌, Bool, cond}
 use Rattle.lists.specs.Bytes.{byte}
-use Rattle.answers.specs.Answers.{Said, held, delivered, message, done, refused}
+use Rattle.answers.specs.Answers.{Said, held, delivered, message, refused}
 use Rattle.answers.specs.Answers.{SetupSaid, ready, setup_refused, AbandonSaid, closed, free, abandon_refused, WriterSaid, wrote, write_refused}
-use Rattle.answers.specs.Kinds.{refused_kind, held_kind, delivered_kind, message_kind, ready_kind, closed_kind, free_kind, written_kind, done_kind}
+use Rattle.answers.specs.Kinds.{refused_kind, held_kind, delivered_kind, message_kind, ready_kind, closed_kind, free_kind, written_kind}
 use Rattle.c_reports.specs.declared.Report.{Report}
 use Rattle.c_reports.specs.declared.Numbers.{Numbers}
 
@@ -33,14 +33,13 @@ kind_of (refused number) = refused_kind
 kind_of held = held_kind
 kind_of (delivered context flow stream size) = delivered_kind
 kind_of (message context source letter mailbox size) = message_kind
-kind_of (done request source from size) = done_kind
 
 abbrev pub flag_of : Bool → ℕ
 flag_of b = cond b 1 0
 
--- a report that carries no PDU, no message and no request's bytes
-abbrev pub plain_of : ℕ → ℕ → ℕ → ℕ → ℕ → Report
-plain_of kind number dropped response at = record {
+-- a report that carries no PDU and no message
+abbrev pub plain_of : ℕ → ℕ → ℕ → ℕ → Report
+plain_of kind number dropped response = record {
   kind = kind;
   number = number;
   dropped = dropped;
@@ -51,12 +50,11 @@ plain_of kind number dropped response at = record {
   stream_or_mailbox = 0;
   length = 0;
   priority = 0;
-  response_at = at;
 }
 
--- a report that carries one of these
-abbrev pub carrying : ℕ → ℕ → ℕ → ℕ → ℕ → ℕ → ℕ → ℕ → ℕ → ℕ → Report
-carrying kind dropped response context source cos_or_letter stream_or_mailbox size priority at = record {
+-- a report that carries one
+abbrev pub carrying : ℕ → ℕ → ℕ → ℕ → ℕ → ℕ → ℕ → ℕ → ℕ → Report
+carrying kind dropped response context source cos_or_letter stream_or_mailbox size priority = record {
   kind = kind;
   number = 0;
   dropped = dropped;
@@ -67,27 +65,23 @@ carrying kind dropped response context source cos_or_letter stream_or_mailbox si
   stream_or_mailbox = stream_or_mailbox;
   length = size;
   priority = priority;
-  response_at = at;
 }
 
-abbrev pub saying_of : Said → ℕ → ℕ → ℕ → Report
-saying_of (refused number) dropped response at = plain_of (kind_of (refused number)) number dropped response at
-saying_of held dropped response at = plain_of (kind_of held) 0 dropped response at
-saying_of (delivered context flow stream size) dropped response at =
-    carrying (kind_of (delivered context flow stream size)) dropped response context flow.source flow.cos stream size flow.priority at
-saying_of (message context source letter mailbox size) dropped response at =
-    carrying (kind_of (message context source letter mailbox size)) dropped response context source letter mailbox size 0 at
-saying_of (done request source from size) dropped response at =
-    carrying (kind_of (done request source from size)) dropped response 0 source request from size 0 at
+abbrev pub saying_of : Said → ℕ → ℕ → Report
+saying_of (refused number) dropped response = plain_of (kind_of (refused number)) number dropped response
+saying_of held dropped response = plain_of (kind_of held) 0 dropped response
+saying_of (delivered context flow stream size) dropped response =
+    carrying (kind_of (delivered context flow stream size)) dropped response context flow.source flow.cos stream size flow.priority
+saying_of (message context source letter mailbox size) dropped response =
+    carrying (kind_of (message context source letter mailbox size)) dropped response context source letter mailbox size 0
 
--- the report of what reading the packet said, whether it dropped an open PDU, how many bytes of response it wrote, and where they begin in the
--- response buffer that the call was lent
-unfoldable pub report_of : Said → Bool → ℕ → ℕ → Report
-report_of says dropped replied at = saying_of says (flag_of dropped) replied at
+-- the report of what reading the packet said, whether it dropped an open PDU, and how many bytes of response it wrote
+unfoldable pub report_of : Said → Bool → ℕ → Report
+report_of says dropped replied = saying_of says (flag_of dropped) replied
 
 -- how many words a report takes in a lent buffer
 abbrev pub report_words : ℕ
-report_words = 11
+report_words = 10
 
 -- its words there, in the order of its fields
 abbrev pub words_of_report : Report → List ℕ
@@ -102,7 +96,6 @@ words_of_report r =
     ∷ r.stream_or_mailbox
     ∷ r.length
     ∷ r.priority
-    ∷ r.response_at
     ∷ []
 
 -- and back: the report that stands in such words
@@ -118,5 +111,4 @@ report_in words = record {
   stream_or_mailbox = byte words 7;
   length = byte words 8;
   priority = byte words 9;
-  response_at = byte words 10;
 }

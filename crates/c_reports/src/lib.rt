@@ -7,10 +7,10 @@ ghost use Rattle.c_reports.specs.Reports.{flag_of, report_of, report_words, word
 use answers::Figures;
 
 // The words of a report.
-pub const WORDS: usize = 11;
+pub const WORDS: usize = 10;
 
 // Kind, refusal number, 1 where an open PDU was dropped, bytes of response written, context, source, cos or letter, streamID or mailbox, length,
-// priority, where the response begins.
+// priority.
 #[repr(C)]
 #[derive(Drop)]
 pub struct Report {
@@ -24,7 +24,6 @@ pub struct Report {
     pub stream_or_mailbox: usize,
     pub length: usize,
     pub priority: usize,
-    pub response_at: usize,
 }
 
 fn flag(b: bool) -> usize
@@ -36,11 +35,10 @@ fn flag(b: bool) -> usize
     0
 }
 
-// The report of reading a packet whose response begins at `at`: its numbers, each in its place. Every caller has numbers that are those of what they
-// tell.
-pub fn reported(t: Figures, at: usize) -> Report
+// The report of reading a packet: its numbers, each in its place. Every caller has numbers that are those of what they tell.
+pub fn reported(t: Figures) -> Report
     requires { AllSet t t.dropped t.response }
-    ensures { result ≡ report_of (telling t) t.dropped t.response at }
+    ensures { result ≡ report_of (telling t) t.dropped t.response }
 {
     Report {
         kind: t.kind,
@@ -53,7 +51,6 @@ pub fn reported(t: Figures, at: usize) -> Report
         stream_or_mailbox: t.stream_or_mailbox,
         length: t.length,
         priority: t.priority,
-        response_at: at,
     }
 }
 
@@ -72,7 +69,6 @@ pub fn put(words: &mut [usize], at: usize, r: Report)
     words[at + 7] = r.stream_or_mailbox;
     words[at + 8] = r.length;
     words[at + 9] = r.priority;
-    words[at + 10] = r.response_at;
 }
 
 // The answer of a call that reads no packet: its kind, and the refusal's number or the length written.

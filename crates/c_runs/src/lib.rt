@@ -1,21 +1,21 @@
 // Many packets in one call: a burst in the log's record form. The state and the memories are tested once, then each packet is read
 // by what the one before left.
-ghost use Rattle.std.specs.Prelude.{◌≡◌, length};
-ghost use Rattle.contexts.specs.Words.{state_of, state_words};
+ghost use Rattle.std.specs.Prelude.{◌≡◌};
 ghost use Rattle.reading.specs.Desk.{desk};
-ghost use Rattle.c_bursts.specs.Bursts.{refused_all, answering, reply_room, BurstPromise};
+ghost use Rattle.c_bursts.specs.Bursts.{refused_all, answering, room_for, BurstPromise};
 
 use c_bursts::Burst;
 
-// The bytes of a response buffer that row 12 wants, and so every packet of a burst.
-fn reply_room(state: &[usize]) -> usize
-    requires { length state.now ≡ state_words }
-    ensures { result ≡ reply_room (state_of state.now) }
+// The packets that have room for a report and a response.
+fn room_for(report_words: usize, response_bytes: usize) -> usize
+    ensures { result ≡ room_for report_words response_bytes }
 {
-    if contexts::narrow(state) == 0 {
-        return responses::room(2);
+    let a = report_words / c_reports::WORDS;
+    let b = response_bytes / c_bursts::SLOT;
+    if a < b {
+        return a;
     }
-    responses::room(1)
+    b
 }
 
 // A burst that is refused as a whole.
@@ -36,31 +36,27 @@ pub fn read_burst(
     state: &mut [usize],
     stream_memory: &mut [u8],
     message_memory: &mut [u8],
-    memory: &mut [u8],
     responses: &mut [u8],
     reports: &mut [usize],
     burst: &[u8],
     pause: usize,
 ) -> Burst
-    ensures { BurstPromise pause (desk state.old stream_memory.old message_memory.old memory.old responses.old) reports.old
-        burst.now result (desk state.new stream_memory.new message_memory.new memory.new responses.new) reports.new }
+    ensures { BurstPromise pause (desk state.old stream_memory.old message_memory.old responses.old) reports.old
+        burst.now result (desk state.new stream_memory.new message_memory.new responses.new) reports.new }
 {
     let number = reading::lent_refusal(state, stream_memory, message_memory, responses);
     if number != 0 {
         return refused(number);
     }
-    let room = reports.len() / c_reports::WORDS;
-    let last = responses.len() - reply_room(state);
+    let room = room_for(reports.len(), responses.len());
     c_loops::run_over(
         state,
         stream_memory,
         message_memory,
-        memory,
         responses,
         reports,
         burst,
         pause,
         room,
-        last,
     )
 }

@@ -11,7 +11,7 @@ use lib.Dec.{eqb, leb}
 use borrow.Author.Tests.{eqb-true, eqb-false, leb-true, ltb-true, not-false}
 use Rattle.lists.proofs.Written.{length-written}
 use Rattle.answers.specs.Answers as answers
-use Rattle.tables.specs.Refusals.{Leaves, all, flow_closed, all_error, all_retry, all_request_error, Verdict, refuse, accept, verdict, none, given}
+use Rattle.tables.specs.Refusals.{Leaves, all, flow_closed, all_error, all_retry, Verdict, refuse, accept, verdict, none, given}
 use Rattle.tables.proofs.Exactly.{none-held}
 use Rattle.wire.specs.declared.Flow.{Flow}
 use Rattle.wire.specs.Packet.{header}
@@ -34,13 +34,11 @@ use Rattle.messages.specs.Rows.{message_found, message_open, needed_none_free, m
 use Rattle.messages.specs.Joining as message
 use Rattle.messages.proofs.Laws.{last_le}
 use Rattle.streams.specs.Rows.{stream_rows}
-use Rattle.reading.specs.Table.{Lent, state_in, segment_in, message_segment_in, request_in, lent_rows, table}
-use Rattle.reading.specs.Read.{Settled, of_stream, of_message, of_memory, refusing, accepting, outcome, reading}
+use Rattle.reading.specs.Table.{Lent, state_in, segment_in, message_segment_in, lent_rows, table}
+use Rattle.reading.specs.Read.{of_stream, of_message, refusing, accepting, outcome, reading}
 use Rattle.reading.specs.Good.{StillGood}
 use Rattle.lists.proofs.Tests.{by_test, both}
-use Rattle.memories.specs.Serving.{request_served}
-use Rattle.reading.proofs.Requests.{served_says, refused_says}
-use Rattle.reading.proofs.Kept.{stays_good}
+use Rattle.reading.proofs.Kept.{stays_good, other_type}
 use Rattle.flows.proofs.Quiet.{free_there, single_shut}
 use Rattle.sending.proofs.Measured.{Delivers, row-passed, of_type, was_ready}
 
@@ -54,9 +52,6 @@ refused_none number context source letter box size e = let z : ◌≡◌ {A = �
 held_none : NoMessage answers.held
 held_none context source letter box size e = let z : ◌≡◌ {A = ℕ} 0 1 = cc in omega arith
 
-done_none : (a b c d : ℕ) → NoMessage (answers.done a b c d)
-done_none a b c d context source letter box size e = let z : ◌≡◌ {A = ℕ} 0 1 = cc in omega arith
-
 -- refused, nothing is delivered
 leaving_none : (x : Lent) (number : ℕ) (leaves : Leaves) → NoMessage (refusing x number leaves).says
 unfolding stream.refused_closing
@@ -64,7 +59,6 @@ leaving_none x number all = refused_none number
 leaving_none x number flow_closed = refused_none number
 leaving_none x number all_error = refused_none number
 leaving_none x number all_retry = refused_none number
-leaving_none x number all_request_error = refused_says (ids_in (state_in x)) x.desk.memory x.desk.response x.packet (request_in x) NoMessage number (refused_none number)
 
 -- nor is a message by a type 9 packet
 answer_none : (ends : Bool) (n : ℕ) (flow : Flow) (stream total : ℕ) → NoMessage (cond ends (answers.delivered n flow stream total) answers.held)
@@ -216,26 +210,19 @@ delivers_message x context source letter box size small = by_verdict_lem (verdic
     kept_by : none (table x) → StillGood (state_in x) (reading x).desk.words
     kept_by passed = stays_good x (was_ready x passed).fit.whole (was_ready x passed).fit.good small
 
-    of_stream_lem : Settled
-    of_stream_lem = of_stream x (stream.accepted (state_in x) x.desk.stream_memory x.packet (segment_in x))
-
-    of_message_lem : Settled
-    of_message_lem = of_message x (message.message_accepted (state_in x) x.desk.message_memory x.desk.response x.packet (message_segment_in x))
-
-    of_memory_lem : Settled
-    of_memory_lem = of_memory x (request_served (ids_in (state_in x)) x.desk.memory x.desk.response x.packet (request_in x))
-
-    by_type : (t u : Bool) → is11 x.packet ≡ u → none (table x) → StillGood (state_in x) (cond t of_stream_lem (cond u of_message_lem of_memory_lem)).desk.words
-        → (cond t of_stream_lem (cond u of_message_lem of_memory_lem)).says ≡ answers.message context source letter box size
-        → Delivers 8 4096 (cond t of_stream_lem (cond u of_message_lem of_memory_lem)) context size
-    by_type true u eleven passed kept e = absurd (stream_none x context source letter box size e)
-    by_type false true eleven passed kept e = message_delivers x passed eleven small kept context source letter box size e
-    by_type false false eleven passed kept e =
-        absurd (served_says (ids_in (state_in x)) x.desk.memory x.desk.response x.packet (request_in x) NoMessage done_none context source letter box size e)
+    by_type : (t : Bool) → is9 x.packet ≡ t → none (table x)
+        → StillGood (state_in x) (cond t (of_stream x (stream.accepted (state_in x) x.desk.stream_memory x.packet (segment_in x)))
+        (of_message x (message.message_accepted (state_in x) x.desk.message_memory x.desk.response x.packet (message_segment_in x)))).desk.words
+        → (cond t (of_stream x (stream.accepted (state_in x) x.desk.stream_memory x.packet (segment_in x)))
+        (of_message x (message.message_accepted (state_in x) x.desk.message_memory x.desk.response x.packet (message_segment_in x)))).says ≡ answers.message context source letter box size
+        → Delivers 8 4096 (cond t (of_stream x (stream.accepted (state_in x) x.desk.stream_memory x.packet (segment_in x)))
+        (of_message x (message.message_accepted (state_in x) x.desk.message_memory x.desk.response x.packet (message_segment_in x)))) context size
+    by_type true nine passed kept e = absurd (stream_none x context source letter box size e)
+    by_type false nine passed kept e = message_delivers x passed (other_type x passed nine) small kept context source letter box size e
 
     by_verdict_lem : (v : Verdict) → verdict (table x) ≡ v → (outcome x v).says ≡ answers.message context source letter box size → Delivers 8 4096 (outcome x v) context size
     by_verdict_lem (refuse number leaves) e d = absurd (leaving_none x number leaves context source letter box size d)
     by_verdict_lem accept e d =
         let passed = none-held (table x) e in
         let kept : StillGood (state_in x) (accepting x).desk.words = rw e at (kept_by passed) in
-        by_type (is9 x.packet) (is11 x.packet) refl passed kept d
+        by_type (is9 x.packet) refl passed kept d

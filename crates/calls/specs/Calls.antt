@@ -2,9 +2,9 @@
 use Rattle.std.specs.Prelude.{ℕ, ◌≤◌, ◌≡◌, List, [], ◌∷◌, ◌++◌, length}
 use Rattle.std.specs.Borrow.{Bor}
 use Rattle.answers.specs.declared.Reading.{Reading}
-use Rattle.answers.specs.Answers.{Said, held, delivered, message, done, refused, said}
+use Rattle.answers.specs.Answers.{Said, held, delivered, message, refused, said}
 use Rattle.wire.specs.declared.Flow.{Flow}
-use Rattle.responses.specs.Type13.{response_room}
+use Rattle.responses.specs.Type13.{response_size}
 use Rattle.contexts.specs.State.{ids_in}
 use Rattle.reading.specs.Desk.{Desk, state_on, with_response}
 use Rattle.reading.specs.Table.{lent}
@@ -21,14 +21,13 @@ pub data Fetches (d : Desk) : Said → List Delivery → Type 0 where
       → Fetches d (delivered context flow stream size) (delivery flow (pdu stream handed.now) ∷ [])
   none-held : Fetches d held []
   none_message : {context source letter mailbox size : ℕ} → Fetches d (message context source letter mailbox size) []
-  none_done : {request source from size : ℕ} → Fetches d (done request source from size) []
   none_refused : {number : ℕ} → Fetches d (refused number) []
 
--- `read` for each packet, each with the words and the three memories that the call before left, and with any response buffer that 12 allows;
+-- `read` for each packet, each with the words and the two memories that the call before left, and with any response buffer that 12 allows;
 -- each outcome one that its promise allows; and after it what the caller fetches. The desk's own response buffer is lent only where the caller does so
 pub data Reads : Desk → List (List ℕ) → List Delivery → Type 0 where
   stop : {d : Desk} → Reads d [] []
-  call : {d next : Desk} {p : List ℕ} {ps : List (List ℕ)} {fetched ds : List Delivery} (r : Reading) (given : List ℕ) → response_room (ids_in (state_on d)) ≤ length given
+  call : {d next : Desk} {p : List ℕ} {ps : List (List ℕ)} {fetched ds : List Delivery} (r : Reading) (given : List ℕ) → response_size (ids_in (state_on d)) ≤ length given
       → ReadPromise (lent (with_response d given) p) r next
       → Fetches next (said r.answer) fetched
       → Reads next ps ds
@@ -40,4 +39,4 @@ FetchedIsDelivered = (d : Desk) (p : List ℕ) (fetched : List Delivery) → Fet
 
 -- so the calls deliver what the definitions do, and the response buffers decide nothing
 abbrev pub CallsDeliver : Type 0
-CallsDeliver = (d : Desk) (ps : List (List ℕ)) (ds : List Delivery) → response_room (ids_in (state_on d)) ≤ length d.response → Reads d ps ds → ds ≡ deliveries d ps
+CallsDeliver = (d : Desk) (ps : List (List ℕ)) (ds : List Delivery) → response_size (ids_in (state_on d)) ≤ length d.response → Reads d ps ds → ds ≡ deliveries d ps

@@ -61,7 +61,7 @@ module _ (x : Lent) (c : PassedAllBut25 x) where
 
   parsed-is : parsed s.setup x.packet ≡ Message m
   unfolding parsed
-  parsed-is = rw (accepted (head_rows s.setup.device (ids_in s) x.packet) c.head_passes, not_9, c.type_11)
+  parsed-is = rw (accepted (head_rows s.setup.device (ids_in s) x.packet) c.head_passes, not_9)
 
   stepped : (reading x).says ≡ (message_stepped s x.desk.message_memory x.desk.response x.packet m).says
   stepped =

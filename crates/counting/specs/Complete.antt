@@ -2,7 +2,7 @@
 -- itself, for every msglen and ssize at once.
 use Rattle.std.specs.Prelude.{ℕ, ◌<◌, ◌≡◌, Bool, true, false, cond, not}
 use Rattle.tables.specs.Refusals.{none}
-use Rattle.answers.specs.Answers.{Said, held, delivered, message, done, refused}
+use Rattle.answers.specs.Answers.{Said, held, delivered, message, refused}
 use Rattle.wire.specs.declared.MessageSegment.{MessageSegment}
 use Rattle.wire.specs.Head.{is11, head_rows}
 use Rattle.wire.specs.Type11.{is_single}
@@ -32,7 +32,6 @@ abbrev pub is_message : Said → Bool
 is_message held = false
 is_message (delivered context flow stream_id size) = false
 is_message (message context source letter mailbox size) = true
-is_message (done request source from size) = false
 is_message (refused number) = false
 
 -- the marks of its message so far: those of its open context, none where it has none

@@ -11,7 +11,7 @@ use Rattle.sizes.proofs.Laws.{mtu_fits}
 use Rattle.refusal19.specs.Refusal19.{bad_room}
 use Rattle.wire.specs.declared.Setup.{Setup}
 use Rattle.wire.specs.Packet.{ids_of}
-use Rattle.responses.specs.Type13.{response_room}
+use Rattle.responses.specs.Type13.{response_size}
 use Rattle.reading.specs.Desk.{Desk, state_on}
 use Rattle.flows.specs.OneFlow.{pdu}
 use Rattle.flows.specs.Deliveries.{read, delivery, delivered_by, delivered_on, deliveries}
@@ -79,7 +79,7 @@ pub zeros-fresh : (setup : Setup) → Allowed setup → Fresh setup (zero_desk s
 zeros-fresh setup allowed = record {
   allowed = allowed;
   words = refl;
-  lends = record { rooms = length-replicate {A = ℕ} (16 * setup.room) 0; boxes = length-replicate {A = ℕ} 32768 0; reply = omega (arith, length-replicate {A = ℕ} (response_room (ids_of setup)) 0) };
+  lends = record { rooms = length-replicate {A = ℕ} (16 * setup.room) 0; boxes = length-replicate {A = ℕ} 32768 0; reply = omega (arith, length-replicate {A = ℕ} (response_size (ids_of setup)) 0) };
 }
 
 -- the largest R asks no more of a sending, and holds every MTU

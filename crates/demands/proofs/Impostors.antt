@@ -9,7 +9,7 @@ use lib.Seq.{get_or-drop}
 use lib.Dec.{ltb}
 use Rattle.lists.specs.Each.{Each}
 use Rattle.lists.proofs.Below.{below, below_at}
-use Rattle.answers.specs.Answers.{Said, held, delivered, message, done, refused, WriterSaid, wrote, write_refused}
+use Rattle.answers.specs.Answers.{Said, held, delivered, message, refused, WriterSaid, wrote, write_refused}
 use Rattle.wire.specs.declared.Flow.{Flow}
 use Rattle.tables.specs.Refusals.{all, refuse, verdict}
 use Rattle.lists.specs.Bytes.{number}
@@ -42,19 +42,19 @@ use Rattle.demands.proofs.Demands.{ours_meets, our_writer_meets, zeros-fresh}
 abbrev here : Setup
 here = fixed 1 32 96 0
 
-here-allowed : Allowed here
+here_allowed : Allowed here
 unfolding id_bytes bad_mtu bad_room
-here-allowed = record { device_ID = omega arith; allowed_MTU = refl; allowed_R = refl }
+here_allowed = record { device_ID = omega arith; allowed_MTU = refl; allowed_R = refl }
 
 here-fresh : Fresh here (zero_desk here)
-here-fresh = zeros-fresh here here-allowed
+here-fresh = zeros-fresh here here_allowed
 
 abbrev from2 : Flow
 from2 = source_of 2
 
 here_ranges : Ranges here from2
 unfolding id_bytes
-here_ranges = record { allowed = here-allowed; source = omega arith; priority = omega arith; cos = omega arith }
+here_ranges = record { allowed = here_allowed; source = omega arith; priority = omega arith; cos = omega arith }
 
 abbrev alone : ℕ → List ℕ → Sent
 alone stream bytes = record { pdu = pdu stream bytes; lost = [] }
@@ -97,7 +97,6 @@ delivers-one e demand = demand here (zero_desk here) sent_one here-fresh fair_se
 
 nothing_by : (R : ℕ) (memory : List ℕ) (says : Said) → ((context : ℕ) (flow : Flow) (stream size : ℕ) → says ≡ delivered context flow stream size → ⊥) → delivered_by R memory says ≡ []
 nothing_by R memory held h = refl
-nothing_by R memory (done request source from size) h = refl
 nothing_by R memory (refused number) h = refl
 nothing_by R memory (message context source letter mailbox size) h = refl
 nothing_by R memory (delivered context flow stream size) h = absurd (h context flow stream size refl)
@@ -172,7 +171,6 @@ module _ (e : Endpoint) (starts_only : StoresOnlyStarts e) where
 
   low_by : (R : ℕ) (memory : List ℕ) (says : Said) (ds : List Delivery) → Low memory → Each LowBytes ds → Each LowBytes (delivered_by R memory says ++ ds)
   low_by R memory held ds h rest = rest
-  low_by R memory (done request source from size) ds h rest = rest
   low_by R memory (refused number) ds h rest = rest
   low_by R memory (message context source letter mailbox size) ds h rest = rest
   low_by R memory (delivered context flow stream size) ds h rest = (low_part R memory context size h, rest)
@@ -190,7 +188,6 @@ resized-size : (says : Said) (n context : ℕ) (flow : Flow) (stream size : ℕ)
 resized-size (delivered c f s z) n context flow stream size e = cc
 resized-size held n context flow stream size e = absurd (let z : ◌≡◌ {A = ℕ} 0 1 = cc in omega arith)
 resized-size (message c o l m z) n context flow stream size e = absurd (let z : ◌≡◌ {A = ℕ} 0 1 = cc in omega arith)
-resized-size (done request source from count) n context flow stream size e = absurd (let z : ◌≡◌ {A = ℕ} 0 1 = cc in omega arith)
 resized-size (refused number) n context flow stream size e = absurd (let z : ◌≡◌ {A = ℕ} 0 1 = cc in omega arith)
 
 -- ---- Keeps the context after 11: 96 bytes without the middle, then 40 without the start. Not a joint, yet it would be delivered

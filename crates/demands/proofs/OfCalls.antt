@@ -9,7 +9,7 @@ use Rattle.answers.specs.Answers.{SetupSaid, ready, setup_refused}
 use Rattle.tables.specs.Refusals.{VerdictOf, refuse, accept, none, verdict}
 use Rattle.tables.proofs.Exactly.{none-held}
 use Rattle.wire.specs.declared.Setup.{Setup}
-use Rattle.responses.specs.Type13.{response_room}
+use Rattle.responses.specs.Type13.{response_size}
 use Rattle.contexts.specs.State.{ids_in, fresh}
 use Rattle.contexts.specs.Words.{words_of}
 use Rattle.endpoint.specs.Calls.{SetupLeaves, setup_table, setup_by, setup}
@@ -47,7 +47,7 @@ set_up_is_fresh s d up = go (verdict (setup_table up.before s)) refl up.ready
     go accept t e = made (none-held (setup_table up.before s) t) (ap (λ (x : Stands SetupSaid). x.words) e)
 
 -- the response buffer that is lent, by the state's own width
-own_reply : (s : Setup) (d : Desk) → SetUp s d → response_room (ids_in (state_on d)) ≤ length d.response
+own_reply : (s : Setup) (d : Desk) → SetUp s d → response_size (ids_in (state_on d)) ≤ length d.response
 own_reply s d up = reply_on (fresh-steady s d (set_up_is_fresh s d up))
 
 -- ---- Demand 3

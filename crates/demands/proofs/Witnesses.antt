@@ -9,7 +9,7 @@ use denote.Ref.{Bor}
 use Rattle.lists.specs.Bytes.{AreBytes}
 use Rattle.lists.specs.Each.{Each}
 use Rattle.lists.proofs.Below.{below, are_bytes}
-use Rattle.answers.specs.Answers.{Said, held, delivered, message, done, refused, said}
+use Rattle.answers.specs.Answers.{Said, held, delivered, message, refused, said}
 use Rattle.tables.specs.Refusals.{verdict}
 use Rattle.wire.specs.declared.Flow.{Flow}
 use Rattle.wire.specs.Parsed.{parsed}
@@ -17,7 +17,7 @@ use Rattle.sizes.specs.Sizes.{bad_mtu}
 use Rattle.refusal19.specs.Refusal19.{bad_room}
 use Rattle.wire.specs.declared.Setup.{Setup}
 use Rattle.wire.specs.Packet.{id_bytes, too_wide}
-use Rattle.responses.specs.Type13.{response_room}
+use Rattle.responses.specs.Type13.{response_size}
 use Rattle.contexts.specs.State.{ids_in}
 use Rattle.contexts.specs.Words.{state_words}
 use Rattle.reading.specs.Desk.{Desk, state_on, with_response}
@@ -37,7 +37,7 @@ use Rattle.sending.specs.Mixture.{small_setup, mixture}
 use Rattle.sending.proofs.Decided.{each_by, fair_PDU, deciding}
 use Rattle.priorities.specs.Apart.{first, later}
 use Rattle.paper_examples.proofs.Computing.{computing}
-use Rattle.calls.specs.Calls.{Fetches, room, none-held, none_message, none_done, none_refused, Reads, stop, call}
+use Rattle.calls.specs.Calls.{Fetches, room, none-held, none_message, none_refused, Reads, stop, call}
 use Rattle.demands.specs.Writes.{Writes, written_all, write}
 use Rattle.demands.specs.OfCalls.{SetUp}
 use Rattle.demands.specs.Witnesses.{CallsNotEmpty, WritesNotEmpty, AllowedNotEmpty, FlowsNotEmpty, PriorityNotEmpty, end_lost, start_lost, JointAt, JointNotEmpty, WidthsNotEmpty}
@@ -60,7 +60,6 @@ sets_up s allowed = record {
 fetch_made : (d : Desk) (says : Said) → (fetched : List Delivery) × Fetches d says fetched
 fetch_made d held = (_, none-held)
 fetch_made d (message context source letter mailbox size) = (_, none_message)
-fetch_made d (done request source from size) = (_, none_done)
 fetch_made d (refused number) = (_, none_refused)
 fetch_made d (delivered context flow stream size) = (_, room memory handed refl (record { block = refl; offset = refl; bytes = refl }))
   where
@@ -73,11 +72,11 @@ fetch_made d (delivered context flow stream size) = (_, room memory handed refl 
     handed : Bor (List ℕ)
     handed = record { ref_ptr = (0, 0 + q.from); now = take q.size (drop q.from d.stream_memory) }
 
--- a call for each packet, with a response buffer of 263; with IDs of one byte, 261
+-- a call for each packet, with a response buffer of 7; with IDs of one byte, 5
 calls_made : (ps : List (List ℕ)) (d : Desk) → (ds : List Delivery) × Reads d ps ds
 calls_made [] d = ([], stop)
 calls_made (p ∷ ps) d =
-    let size : ℕ = response_room (ids_in (state_on d)) in
+    let size : ℕ = response_size (ids_in (state_on d)) in
     let long : size ≤ length {A = ℕ} (replicate size 0) = omega (arith, length-replicate {A = ℕ} size 0) in
     let x : Lent = lent (with_response d (replicate size 0)) p in
     let fetch = fetch_made (reading x).desk (said (answered_by x).answer) in
@@ -107,9 +106,9 @@ allowed_not_empty = (
 
 -- ---- Packets of three flows
 
-small-allowed : Each (λ (narrow : ℕ). Allowed (small_setup narrow)) both_widths
+small_allowed : Each (λ (narrow : ℕ). Allowed (small_setup narrow)) both_widths
 unfolding id_bytes bad_mtu bad_room
-small-allowed = (
+small_allowed = (
   record { device_ID = omega arith; allowed_MTU = refl; allowed_R = refl },
   (record { device_ID = omega arith; allowed_MTU = refl; allowed_R = refl }, tt),
 )
@@ -118,17 +117,17 @@ pub flows_not_empty : FlowsNotEmpty
 unfolding deciding computing parsed put_of
 flows_not_empty = (
   record {
-    fresh = zeros-fresh (small_setup 0) small-allowed.0;
+    fresh = zeros-fresh (small_setup 0) small_allowed.0;
     few = omega arith;
     bytes = each_by AreBytes (below 256) are_bytes (packets (small_setup 0) (mixture 0)) refl;
-    occur = (refl, (refl, (refl, (refl, (refl, (refl, (refl, (refl, (refl, (refl, (refl, tt)))))))))));
+    occur = (refl, (refl, (refl, (refl, (refl, (refl, (refl, (refl, (refl, tt)))))))));
   },
   (
     record {
-      fresh = zeros-fresh (small_setup 1) small-allowed.1.0;
+      fresh = zeros-fresh (small_setup 1) small_allowed.1.0;
       few = omega arith;
       bytes = each_by AreBytes (below 256) are_bytes (packets (small_setup 1) (mixture 1)) refl;
-      occur = (refl, (refl, (refl, (refl, (refl, (refl, (refl, (refl, (refl, (refl, (refl, tt)))))))))));
+      occur = (refl, (refl, (refl, (refl, (refl, (refl, (refl, (refl, (refl, tt)))))))));
     },
     tt,
   ),
@@ -137,9 +136,9 @@ flows_not_empty = (
 pub priority_not_empty : PriorityNotEmpty
 unfolding computing put_of
 priority_not_empty = (
-  record { all_but = record { first_byte = refl; others = refl; differ = λ e. omega (arith, e) }; ordinary_came = later (later (later (later first))); urgent_came = later (later (later (later (later first)))) },
+  record { all_but = record { first_byte = refl; others = refl; differ = λ e. omega (arith, e) }; ordinary_came = later (later (later first)); urgent_came = later (later (later (later first))) },
   (
-    record { all_but = record { first_byte = refl; others = refl; differ = λ e. omega (arith, e) }; ordinary_came = later (later (later (later first))); urgent_came = later (later (later (later (later first)))) },
+    record { all_but = record { first_byte = refl; others = refl; differ = λ e. omega (arith, e) }; ordinary_came = later (later (later first)); urgent_came = later (later (later (later first))) },
     tt,
   ),
 )

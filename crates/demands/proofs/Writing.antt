@@ -8,7 +8,7 @@ use lib.ListN.{length, take, drop}
 use lib.Seq.{take_at}
 use borrow.Author.Tests.{ne_eqb, lt-ltb, le-ltb}
 use Rattle.lists.specs.Bytes.{written}
-use Rattle.lists.proofs.Written.{written-front}
+use Rattle.lists.proofs.Written.{written_front}
 use Rattle.answers.specs.declared.Written.TheVariants.{Length}
 use Rattle.answers.specs.Answers.{wrote, write_refused}
 use Rattle.tables.specs.Refusals.{Verdict, refuse, accept, verdict}
@@ -32,13 +32,13 @@ use Rattle.demands.proofs.Widths.{fits_width}
 
 -- a packet that is written into a buffer stands in its first bytes
 in_front : (out packet : List ℕ) → take (length packet) (written out 0 packet) ≡ packet
-in_front out packet = ap (take (length packet)) (written-front out packet) ∙ take_at packet (drop (length packet) out) (length packet) refl
+in_front out packet = ap (take (length packet)) (written_front out packet) ∙ take_at packet (drop (length packet) out) (length packet) refl
 
 -- a call that says a length leaves the packet there
-wrote-packet : (out : List ℕ) (h : Heading) (mtu : ℕ) (bytes : List ℕ) (k size : ℕ) (left : List ℕ) → WritePromise out h mtu bytes k (Length size) left
+wrote_packet : (out : List ℕ) (h : Heading) (mtu : ℕ) (bytes : List ℕ) (k size : ℕ) (left : List ℕ) → WritePromise out h mtu bytes k (Length size) left
     → take size left ≡ packet_of h mtu bytes k
 unfolding writing
-wrote-packet out h mtu bytes k size left p = go (verdict (writer_table out h mtu bytes k)) p
+wrote_packet out h mtu bytes k size left p = go (verdict (writer_table out h mtu bytes k)) p
   where
     packet : List ℕ
     packet = packet_of h mtu bytes k
@@ -61,7 +61,7 @@ module _ (setup : Setup) (flow : Flow) (s : Sent) where
   pub calls_write : {k n : ℕ} {ps : List (List ℕ)} → Writes setup flow s k n ps → ps ≡ packets_from setup flow s k n
   calls_write written_all = refl
   calls_write {k = k} (write out left size promise rest) =
-      ap₂ (λ (p : List ℕ) (ps : List (List ℕ)). p ∷ ps) (wrote-packet out (heading_for setup flow s) setup.mtu s.pdu.bytes k size left promise) (calls_write rest)
+      ap₂ (λ (p : List ℕ) (ps : List (List ℕ)). p ∷ ps) (wrote_packet out (heading_for setup flow s) setup.mtu s.pdu.bytes k size left promise) (calls_write rest)
 
   -- a PDU that a room holds
   module _ (allowed : Allowed setup) (source : too_wide setup.narrow flow.source ≡ false) (priority : flow.priority ≤ 3) (fair : FairPDU setup.room s) where

@@ -2,7 +2,7 @@
 -- names; the one that keeps the context after 11 is from 'Easy ways to be wrong', and breaks the joint's statement. Where it can, the statement is of
 -- every endpoint of that kind.
 use Rattle.std.specs.Prelude.{ℕ, suc, ◌+◌, ◌≡◌, List, Bool, cond, length, eqb}
-use Rattle.answers.specs.Answers.{Said, held, delivered, message, done, refused}
+use Rattle.answers.specs.Answers.{Said, held, delivered, message, refused}
 use Rattle.wire.specs.declared.Flow.{Flow}
 use Rattle.wire.specs.Packet.{tt}
 use Rattle.wire.specs.Type9.{is_s}
@@ -45,7 +45,6 @@ abbrev pub resized : Said → ℕ → Said
 resized (delivered context flow stream size) n = delivered context flow stream n
 resized held n = held
 resized (message context source letter mailbox size) n = message context source letter mailbox size
-resized (done request source from size) n = done request source from size
 resized (refused number) n = refused number
 
 abbrev pub inventor : (Desk → List ℕ → ℕ) → Endpoint
@@ -55,7 +54,6 @@ inventor size d p = settled (resized (read d p).says (size d p)) (read d p).drop
 abbrev pub kept_after : Said → List ℕ → List ℕ → List ℕ
 kept_after (refused number) before now = cond (eqb number 11) before now
 kept_after held before now = now
-kept_after (done request source from size) before now = now
 kept_after (delivered context flow stream size) before now = now
 kept_after (message context source letter mailbox size) before now = now
 

@@ -12,7 +12,7 @@ use Rattle.lists.proofs.Below.{below, below_at, are_bytes}
 use Rattle.wire.specs.declared.Setup.{Setup}
 use Rattle.wire.specs.Packet.{id_bytes, ids_of}
 use Rattle.wire.proofs.Widths.{wide_is, narrow_is}
-use Rattle.responses.specs.Type13.{response_room}
+use Rattle.responses.specs.Type13.{response_size}
 use Rattle.lent_state.specs.Lent.{state_refusal, has_room}
 use Rattle.room_parts.specs.Parts.{room_part, message_room}
 use Rattle.flows.specs.Fresh.{Fresh}
@@ -24,7 +24,7 @@ use Rattle.mailing.specs.ReadBack.{GoodDesk, setup_of, MailRun, defined_calls}
 use Rattle.mailing.specs.OfCalls.{MailCalls}
 use Rattle.eleven.specs.Eleven.{mail_desk, eleven, from_three, start_between, eleven_turns, eleven_calls, log_mail, MailRunsNotEmpty, ElevenDelivered}
 use Rattle.reading.proofs.Computing.{reads}
-use Rattle.mailing.proofs.Fetched.{room-call}
+use Rattle.mailing.proofs.Fetched.{room_call}
 use Rattle.mailing.proofs.Calls.{Handed, defined_made}
 
 -- each number once
@@ -58,7 +58,7 @@ module _ (narrow : ℕ) where
       record {
         allowed = record { device_ID = omega (arith, two_fits); allowed_MTU = refl; allowed_R = refl };
         words = refl;
-        lends = record { rooms = size; boxes = size; reply = omega (arith, length-replicate (response_room (ids_of setup)) zero) };
+        lends = record { rooms = size; boxes = size; reply = omega (arith, length-replicate (response_size (ids_of setup)) zero) };
       }
 
   good : GoodDesk (mail_desk narrow)
@@ -124,7 +124,7 @@ mail_runs_not_empty = (
   record {
     two_segments = run-eleven 0 (are_bytes from_three refl, refl) (are_bytes start_between refl, refl) refl;
     one-segment = run_log 0;
-    calls_made = made 0 (refl, (refl, (refl, ((_, room-call _ 1 72 refl, refl), tt))));
+    calls_made = made 0 (refl, (refl, (refl, ((_, room_call _ 1 72 refl, refl), tt))));
     packets = refl;
     log_packet = refl;
   },
@@ -132,7 +132,7 @@ mail_runs_not_empty = (
     record {
       two_segments = run-eleven 1 (are_bytes (at_width 1 from_three) refl, refl) (are_bytes (at_width 1 start_between) refl, refl) refl;
       one-segment = run_log 1;
-      calls_made = made 1 (refl, (refl, (refl, ((_, room-call _ 1 72 refl, refl), tt))));
+      calls_made = made 1 (refl, (refl, (refl, ((_, room_call _ 1 72 refl, refl), tt))));
       packets = refl;
       log_packet = refl;
     },

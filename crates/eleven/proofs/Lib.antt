@@ -1,4 +1,2 @@
 pub mod Eleven
-mod Wide
-mod Narrow
 pub mod LastFirst

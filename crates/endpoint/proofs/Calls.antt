@@ -22,9 +22,9 @@ module _ (words : List ℕ) (settings : Setup) where
   setup-short l = rw (ne_eqb (length words) state_words l)
 
   module _ (l : length words ≡ state_words) where
-    pub setup-wide : (after : List ℕ) → too_wide settings.narrow settings.device ≡ true → after ≡ replicate (length words) 0 → stands (setup_refused 47) after ≡ setup words settings
+    pub setup_wide : (after : List ℕ) → too_wide settings.narrow settings.device ≡ true → after ≡ replicate (length words) 0 → stands (setup_refused 47) after ≡ setup words settings
     unfolding setup setup_table verdict
-    setup-wide after w e = rw (e, l, w)
+    setup_wide after w e = rw (e, l, w)
 
     module _ (w : too_wide settings.narrow settings.device ≡ false) where
       pub setup_mtu : (after : List ℕ) → bad_mtu settings.mtu ≡ true → after ≡ replicate (length words) 0 → stands (setup_refused 18) after ≡ setup words settings

@@ -45,20 +45,12 @@ pub fn read(
     state: &mut [usize],
     stream_memory: &mut [u8],
     message_memory: &mut [u8],
-    memory: &mut [u8],
     response: &mut [u8],
     packet: &[u8],
 ) -> Reading
-    ensures { ReadPromise (lent (desk state.old stream_memory.old message_memory.old memory.old response.old) packet.now)
-        result (desk state.new stream_memory.new message_memory.new memory.new response.new) }
+    ensures { ReadPromise (lent (desk state.old stream_memory.old message_memory.old response.old) packet.now)
+        result (desk state.new stream_memory.new message_memory.new response.new) }
 {
-    let told = packets::read(
-        state,
-        stream_memory,
-        message_memory,
-        memory,
-        response,
-        packet,
-    );
+    let told = packets::read(state, stream_memory, message_memory, response, packet);
     answers::reading_of(told)
 }

@@ -11,7 +11,7 @@ use Rattle.answers.specs.Answers as answers
 use Rattle.wire.specs.declared.Flow.{Flow}
 use Rattle.wire.specs.Segment.{Segment}
 use Rattle.wire.specs.Parsed.{Parsed}
-use Rattle.wire.specs.Parsed.{Refused, Stream, Message, Memory}
+use Rattle.wire.specs.Parsed.{Refused, Stream, Message}
 use Rattle.wire.specs.Type9.{same_flow, segment_of}
 use Rattle.wire.specs.Parsed.{parsed}
 use Rattle.stream_rooms.specs.Placing.{data_of}
@@ -34,7 +34,6 @@ heard_same room memory flow says (refused number) e = ap (heard_of room memory) 
 heard_same room memory flow answers.held (delivered p) e = cc
 heard_same room memory flow (answers.delivered context other stream size) (delivered p) e = cc
 heard_same room memory flow (answers.message context source letter mailbox size) (delivered p) e = cc
-heard_same room memory flow (answers.done request source from size) (delivered p) e = cc
 heard_same room memory flow (answers.refused number) (delivered p) e = cc
 
 module _ (setup : Setup) (flows : List Flow) (Ok : Desk → Type 0) (law : ByFlow setup flows Ok) (flow : Flow) where
@@ -67,9 +66,6 @@ module _ (setup : Setup) (flows : List Flow) (Ok : Desk → Type 0) (law : ByFlo
       skipped b p ps (ap (is_of flow) e) (l.views flow) (ih l.ok)
   step b p ps ok bytes member ih (Message m) e =
       let l : NoFlow Ok setup b p = law.of_message_lem b p m ok bytes e in
-      skipped b p ps (ap (is_of flow) e) (l.views flow) (ih l.ok)
-  step b p ps ok bytes member ih (Memory r) e =
-      let l : NoFlow Ok setup b p = law.of_memory_lem b p r ok bytes e in
       skipped b p ps (ap (is_of flow) e) (l.views flow) (ih l.ok)
   step b p ps ok bytes member ih (Stream g) e = go (same_flow g.flow flow) refl
     where

@@ -10,14 +10,13 @@ use Rattle.lists.specs.Bytes.{AreBytes}
 use Rattle.wire.specs.declared.Flow.{Flow}
 use Rattle.wire.specs.Segment.{Segment}
 use Rattle.wire.specs.declared.MessageSegment.{MessageSegment}
-use Rattle.wire.specs.declared.Request.{Request}
 use Rattle.wire.specs.Parsed.{Parsed}
-use Rattle.wire.specs.Parsed.{Refused, Stream, Message, Memory}
+use Rattle.wire.specs.Parsed.{Refused, Stream, Message}
 use Rattle.sizes.specs.Sizes.{data_length}
 use Rattle.wire.specs.Parsed.{parsed}
 use Rattle.contexts.specs.declared.StreamContext.{StreamContext}
 use Rattle.wire.specs.declared.Setup.{Setup}
-use Rattle.contexts.specs.State.{State, ids_in}
+use Rattle.contexts.specs.State.{State}
 use Rattle.contexts.specs.Words.{state_of, words_of}
 use Rattle.contexts.proofs.Words.{sixteen, eight, state_of_lem}
 use Rattle.stream_rooms.specs.Placing as stream_room
@@ -25,10 +24,9 @@ use Rattle.streams.specs.Joining as stream_step
 use Rattle.streams.proofs.Laws.{data_le}
 use Rattle.message_rooms.specs.Placing as message_room
 use Rattle.messages.specs.Joining as message_step
-use Rattle.memories.specs.Serving.{Served, request_stepped}
 use Rattle.reading.specs.Desk.{Desk, state_on}
 use Rattle.reading.specs.Table.{lent}
-use Rattle.reading.specs.Read.{Settled, of_stream, of_message, of_memory}
+use Rattle.reading.specs.Read.{Settled, of_stream, of_message}
 use Rattle.reading.proofs.Rows.{by_parsed}
 use Rattle.reading.proofs.Packets.{stream_parsed}
 use Rattle.flows.specs.OneFlow.{PDU, flow_step}
@@ -39,7 +37,7 @@ use Rattle.flows.proofs.Contexts.{Once, Inside}
 use Rattle.flows.proofs.Seen.{seen}
 use Rattle.flows.proofs.Steps.{Sim, sim_stepped}
 use Rattle.flows.proofs.Quiet.{Quiet}
-use Rattle.flows.proofs.Steady.{Asked, rooms_on, read_is, still-steady, quiet_read, request_read}
+use Rattle.flows.proofs.Steady.{rooms_on, read_is, still-steady, quiet_read}
 use Rattle.flows.proofs.Fine.{Fine, view_is, view_of_lem, sound_on}
 
 -- the data of a type 9 packet, all there
@@ -138,32 +136,6 @@ module _ (setup : Setup) (flows : List Flow) (b : Desk) (p : List ℕ) (f : Fine
       tells = ap (λ (y : Settled). delivered_by setup.room y.desk.stream_memory y.says) message_leaves ∙ quiet.tells setup.room b.stream_memory;
     }
 
-  -- ---- a request for the memory
-  module _ (r : Request) (e : parsed setup p ≡ Memory r) where
-    abbrev v : Served
-    v = request_stepped (ids_in s) b.memory b.response p r
-
-    request_leaves : read b p ≡ of_memory (lent b p) v
-    request_leaves = read_as (Memory r) e
-
-    by_memory : NoFlow (Fine setup flows) setup b p
-    by_memory =
-        let asked : Asked b v = request_read f.steady p r in
-        let fine : Fine setup flows (of_memory (lent b p) v).desk =
-        record {
-          steady = still-steady f.steady p bytes (of_memory (lent b p) v) request_leaves refl refl asked.reply;
-          once = f.once;
-          inside = f.inside;
-        } in
-        record {
-          ok = subst (λ (y : Settled). Fine setup flows y.desk) (sym request_leaves) fine;
-          views = λ x. ap (λ (y : Settled). view y.desk x) request_leaves ∙ request_view x;
-          tells = ap (λ (y : Settled). delivered_by setup.room y.desk.stream_memory y.says) request_leaves ∙ asked.tells setup.room b.stream_memory;
-        }
-      where
-        request_view : (x : Flow) → view (of_memory (lent b p) v).desk x ≡ view b x
-        request_view x = view_is (of_memory (lent b p) v).desk x ∙ sym (view_is b x)
-
   -- ---- a packet that rows 1 to 5 refuse
   by_refused : (number : ℕ) → parsed setup p ≡ Refused number → NoFlow (Fine setup flows) setup b p
   by_refused number e =
@@ -178,6 +150,5 @@ pub by_flow : (setup : Setup) (flows : List Flow) → length flows ≤ 16 → By
 by_flow setup flows few = record {
   of_flow_lem = λ b p g f bytes e member. by_stream setup flows b p f bytes few g e member;
   of_message_lem = λ b p m f bytes e. by_message setup flows b p f bytes m e;
-  of_memory_lem = λ b p r f bytes e. by_memory setup flows b p f bytes r e;
   of_refused = λ b p number f bytes e. by_refused setup flows b p f bytes number e;
 }

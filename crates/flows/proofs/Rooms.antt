@@ -52,8 +52,8 @@ module _ (room : ℕ) (memory : List ℕ) (size : length memory ≡ 16 * room) (
   stored-own = then_bytes memory bytes (j * room + n) inside (j * room) n refl
 
   -- every other room stays
-  pub stored-apart : (i m : ℕ) → (i ≡ j → ⊥) → m ≤ room → in_room room (written memory (j * room + n) bytes) i m ≡ in_room room memory i m
-  stored-apart i m ne small = go (dec_lt i j)
+  pub stored_apart : (i m : ℕ) → (i ≡ j → ⊥) → m ≤ room → in_room room (written memory (j * room + n) bytes) i m ≡ in_room room memory i m
+  stored_apart i m ne small = go (dec_lt i j)
     where
       go : Dec (i < j) → in_room room (written memory (j * room + n) bytes) i m ≡ in_room room memory i m
       go (yes h) = before_stays memory bytes (j * room + n) inside (i * room) m (omega (arith, suc-mul i room, mul-le-mul_right {m = suc i} {n = j} room h))

@@ -19,7 +19,7 @@ use Rattle.flows.specs.Deliveries.{in_room}
 use Rattle.flows.specs.ByFlow.{among}
 use Rattle.contexts.proofs.Flows.{of_flow_lem}
 use Rattle.flows.proofs.Contexts.{at, own, of_open, made_of, closed_free, free_of_none, first_set, put_closed, Place, here, there, place, Own, found, lacks, own_cases, Once, Inside}
-use Rattle.flows.proofs.Rooms.{stored-length, stored-own, stored-apart}
+use Rattle.flows.proofs.Rooms.{stored-length, stored-own, stored_apart}
 
 -- what a flow has whose context is c, number i
 unfoldable pub seen_at : ℕ → List ℕ → ℕ → StreamContext → Option PDU
@@ -164,7 +164,7 @@ module _ (room : ℕ) (flows : List Flow) (cs : List StreamContext) (memory : Li
     long = stored-length room memory ok.rooms j lt n bytes fit
 
     apart : (i m : ℕ) → (i ≡ j → ⊥) → m ≤ room → in_room room memory'' i m ≡ in_room room memory i m
-    apart = stored-apart room memory ok.rooms j lt n bytes fit
+    apart = stored_apart room memory ok.rooms j lt n bytes fit
 
     -- bytes stored in room j behind n others, and the context closed
     pub stored_closed : After room flows cs memory k (set cs j closed_stream) memory'' none

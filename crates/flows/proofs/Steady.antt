@@ -3,25 +3,20 @@ use Prim.Native.Nat.{ℕ, ◌+◌, ◌*◌, ◌≤◌}
 use native.Mathlib.Omega.{arith}
 use mathlib.Core.Path.{◌≡◌, refl, ap, sym, ◌∙◌, subst}
 use mathlib.Core.Bool.{false}
-use mathlib.Core.List.{List, []}
+use mathlib.Core.List.{List}
 use lib.ListN.{length}
 use Rattle.lists.specs.Bytes.{AreBytes}
 use Rattle.wire.specs.declared.Setup.{Setup}
 use Rattle.wire.specs.Packet.{header, ids_of}
 use Rattle.wire.specs.declared.MessageSegment.{MessageSegment}
-use Rattle.wire.specs.declared.Request.{Request}
 use Rattle.wire.specs.Parsed.{Parsed, Message, parsed}
-use Rattle.answers.specs.Answers.{Said}
-use Rattle.responses.specs.Type13.{response_room}
+use Rattle.responses.specs.Type13.{response_size}
 use Rattle.contexts.specs.State.{State, ids_in, fresh}
 use Rattle.contexts.specs.Words.{state_of, words_of, state_words}
 use Rattle.contexts.proofs.Words.{state_of_lem, length_words}
 use Rattle.refusal19.specs.Refusal19.{named_by_19}
 use Rattle.refusal19.proofs.Kept.{fresh-good}
 use Rattle.messages.specs.Joining.{message_stepped}
-use Rattle.memories.specs.Serving.{Served, request_stepped}
-use Rattle.memories.proofs.Laws.{length_response}
-use Rattle.reading.proofs.Requests.{request_says}
 use Rattle.reading.specs.Desk.{Desk, state_on}
 use Rattle.reading.specs.Table.{lent}
 use Rattle.reading.specs.Read.{Settled}
@@ -30,7 +25,7 @@ use Rattle.reading.proofs.Rows.{by_parsed, by_packet}
 use Rattle.reading.proofs.Packets.{message_parsed, message_small}
 use Rattle.reading.proofs.Kept.{stays_good}
 use Rattle.reading.proofs.Laws.{sizes_right}
-use Rattle.flows.specs.Deliveries.{read, delivered_by}
+use Rattle.flows.specs.Deliveries.{read}
 use Rattle.flows.specs.Fresh.{Lends, Fresh}
 use Rattle.flows.proofs.Quiet.{Quiet, quiet_stepped}
 
@@ -53,17 +48,12 @@ fresh-steady setup b f = record {
   lends = f.lends;
 }
 
--- what a request leaves
-pub record Asked (b : Desk) (v : Served) : Type 0 where
-  pub reply : length v.response ≡ length b.response
-  pub tells : (room : ℕ) (streams : List ℕ) → delivered_by room streams v.says ≡ []
-
 module _ {setup : Setup} {b : Desk} (f : Steady setup b) where
   pub rooms_on : length b.stream_memory ≡ 16 * (state_on b).setup.room
   rooms_on = f.lends.rooms ∙ ap (λ (t : Setup). 16 * t.room) (sym f.same-setup)
 
-  pub reply_on : response_room (ids_in (state_on b)) ≤ length b.response
-  reply_on = subst (λ (t : Setup). response_room (ids_of t) ≤ length b.response) (sym f.same-setup) f.lends.reply
+  pub reply_on : response_size (ids_in (state_on b)) ≤ length b.response
+  reply_on = subst (λ (t : Setup). response_size (ids_of t) ≤ length b.response) (sym f.same-setup) f.lends.reply
 
   -- reading goes by what the packet is
   pub read_is : (p : List ℕ) (x : Parsed) → parsed setup p ≡ x → read b p ≡ by_parsed (lent b p) x
@@ -89,13 +79,4 @@ module _ {setup : Setup} {b : Desk} (f : Steady setup b) where
   quiet_read p bytes m e =
       let ids : ℕ = ids_in (state_on b) in
       let small = message_small ids p m (message_parsed p (state_on b).setup m (ap (λ (t : Setup). parsed t p) f.same-setup ∙ e)) (bytes (header ids)) (bytes (header ids + 1)) in
-      quiet_stepped (state_on b) b.message_memory b.response p m f.lends.boxes (omega (arith, reply_on)) small.0 small.2
-
-  -- a request for the memory: the words, the stream memory and the message memory stay, no PDU is delivered, and the response buffer keeps its length
-  pub request_read : (p : List ℕ) (r : Request) → Asked b (request_stepped (ids_in (state_on b)) b.memory b.response p r)
-  request_read p r =
-      let ids : ℕ = ids_in (state_on b) in
-      record {
-        reply = length_response ids b.memory b.response p r reply_on;
-        tells = λ room streams. request_says ids b.memory b.response p r (λ (s : Said). delivered_by room streams s ≡ []) (λ request source from size. refl) (λ number. refl);
-      }
+      quiet_stepped (state_on b) b.message_memory b.response p m f.lends.boxes reply_on small.0 small.2

@@ -2,19 +2,19 @@
 -- step, which looks at the data alone, leaves the same.
 use Prim.Native.Nat.{ℕ, ◌+◌, ◌-◌, ◌*◌, ◌/◌, ◌%◌, ◌≤◌, ◌<◌}
 use mathlib.Core.Path.{◌≡◌, refl, ap, ap₂, sym, ◌∙◌, subst}
-use mathlib.Core.List.{List, [], ◌∷◌, ◌++◌}
+use mathlib.Core.List.{List, [], ◌∷◌}
 use mathlib.Core.Bool.{Bool, true, false, cond, not, ◌||◌, ◌&&◌}
 use native.Mathlib.Omega.{arith}
-use lib.ListN.{length, take, drop, set, length-append, length-drop, length-set}
+use lib.ListN.{length, take, drop, set, length-drop, length-set}
 use lib.Seq.{get_or-drop, drop-drop, take_at}
 use lib.Dec.{eqb, ltb}
 use borrow.Author.Tests.{eq-eqb, ne_eqb, lt-ltb, le-ltb, ltb-true, ltb-false}
-use Rattle.lists.specs.Bytes.{byte, word, long as long·of, bytes_from, number, in_bytes, written}
+use Rattle.lists.specs.Bytes.{byte, word, bytes_from, number, in_bytes, written}
 use Rattle.lists.proofs.Numbers.{number-one, number_two}
 use Rattle.lists.proofs.Tests.{by_test, neither, ◌and◌}
-use Rattle.lists.proofs.Written.{written-front}
+use Rattle.lists.proofs.Written.{written_front}
 use Rattle.answers.specs.Answers.{refused}
-use Rattle.tables.specs.Refusals.{Row, row, all, Verdict, refuse, accept, verdict, by_verdict}
+use Rattle.tables.specs.Refusals.{Row, row, all, Verdict, refuse, accept, verdict}
 use Rattle.tables.proofs.Cases.{carried}
 use Rattle.wire.specs.Packet.{header, priority, tt as tt·of, packet_type, tt_of, destination, source, first_byte_of, addressed, ids_of, bit}
 use Rattle.wire.specs.declared.Setup.{Setup}
@@ -23,21 +23,13 @@ use Rattle.wire.specs.declared.MessageSegment.{MessageSegment}
 use Rattle.wire.specs.declared.Flow.{Flow}
 use Rattle.wire.specs.Type9.{flags, is_s, is_e, flow_of, segment_at, segment_of}
 use Rattle.wire.specs.Type11.{message_of, is_single}
-use Rattle.wire.specs.declared.Request.{Request}
-use Rattle.wire.specs.Type2.{wdptr_in, address_in, sized_request, read_request_of}
-use Rattle.wire.specs.Type5.{write_request_of}
-use Rattle.wire.specs.Type6.{streaming_request_of}
-use Rattle.wire.specs.Head.{under, is9, is11, is2, is5, head_rows}
-use Rattle.wire.specs.Parsed.{Parsed, Refused, Stream, Message, Memory, request_of, parsed_by, parsed}
+use Rattle.wire.specs.Head.{under, is9, head_rows}
+use Rattle.wire.specs.Parsed.{Parsed, Refused, Stream, Message, parsed_by, parsed}
 use Rattle.wire.proofs.HeadLaws.{with_field, without_field}
 use Rattle.wire.proofs.Widths.{wide_is, narrow_is}
 use Rattle.sizes.specs.Sizes.{data_length}
 use Rattle.rules.specs.Segments.{malformed}
-use Rattle.responses.specs.Type13.{response_size, response_room, DONE, ERROR, RETRY, above, reply_to, response_to, answered, with_data, without_data, replied_with}
-use Rattle.requests.specs.Transactions.{Transaction, NREAD, NWRITE, NWRITE_R, SWRITE, ATOMIC, reserved, is_answered}
-use Rattle.requests.specs.Rows.{transaction_in, size_by, size_in, reserved_request, wrong_data, named_by}
-use Rattle.memories.specs.Rows.{outside, request_rows}
-use Rattle.memories.specs.Serving.{Served, serving, done_with, read_data, memory_written, nread, nwrite, nwrite_r, served_by, request_served, refused_asking, request_refusing, request_stepped}
+use Rattle.responses.specs.Type13.{response_size, DONE, ERROR, RETRY, above, response_to, answered}
 use Rattle.contexts.specs.State.{State, fixed, ids_in, message_in, flow_context, free_stream, message_context, free_message}
 use Rattle.contexts.specs.Words.{state_of, words_of}
 use Rattle.contexts.proofs.Words.{sixteen, eight, words_of_lem, state_of_lem}
@@ -49,9 +41,9 @@ use Rattle.message_rooms.specs.Placing as message_room
 use Rattle.messages.specs.Rows.{message_found, message_open, other_message, already_marked, needed_none_free, message_rows}
 use Rattle.rules.specs.Messages.{form_rows}
 use Rattle.messages.specs.Joining as message
-use Rattle.reading.specs.Desk.{Desk, state_on, with_streams, with_messages, with_memory}
+use Rattle.reading.specs.Desk.{Desk, state_on, with_streams, with_messages}
 use Rattle.reading.specs.Table.{lent, lent_refusal}
-use Rattle.reading.specs.Read.{Settled, settled, of_memory}
+use Rattle.reading.specs.Read.{Settled, settled}
 use Rattle.reading.specs.Inside.{ReadyToRead}
 use Rattle.reading.proofs.Rows.{by_parsed, by_packet}
 use Rattle.reading.proofs.Laws.{sizes_right}
@@ -127,34 +119,6 @@ mailed source a b raw = record { source = source; letter = b / 64; mbox = b / 16
 same-mailed : (s s' a a' b b' r r' : ℕ) → s ≡ s' → a ≡ a' → b ≡ b' → r ≡ r' → mailed s a b r ≡ mailed s' a' b' r'
 same-mailed s s' a a' b b' r r' h₁ h₂ h₃ h₄ = rw (h₁, h₂, h₃, h₄)
 
--- a request by its numbers
-abbrev asking : (request source size word from raw : ℕ) → Request
-asking request source size word from raw = record {
-  request = request;
-  source = source;
-  size = size;
-  wdptr = wdptr_in word;
-  address = address_in word;
-  from = from;
-  raw = raw;
-}
-
--- the same request with its data elsewhere
-abbrev moved_request : ℕ → Request → Request
-moved_request from r = record {
-  request = r.request;
-  source = r.source;
-  size = r.size;
-  wdptr = r.wdptr;
-  address = r.address;
-  from = from;
-  raw = r.raw;
-}
-
--- four bytes as a number
-same-long : {a a' b b' c c' d d' : ℕ} → a ≡ a' → b ≡ b' → c ≡ c' → d ≡ d' → (a * 256 + b) * 65536 + (c * 256 + d) ≡ (a' * 256 + b') * 65536 + (c' * 256 + d')
-same-long h₁ h₂ h₃ h₄ = rw (h₁, h₂, h₃, h₄)
-
 -- a packet written
 pub narrowed-addressed : (first to by : ℕ) (rest : List ℕ) → narrowed (addressed 2 first to by rest) ≡ addressed 1 (first - 16) to by rest
 unfolding narrowed addressed in_bytes
@@ -168,13 +132,6 @@ record Moved (p q : List ℕ) : Type 0 where
   from : ℕ
   same : segment_of 1 q ≡ moved from (segment_of 2 p)
   behind : drop from q ≡ drop (segment_of 2 p).from p
-
--- a request is the same but for where its data begin, and these are the same
-record MovedRequest (p q : List ℕ) (here there : Request) : Type 0 where
-  from : ℕ
-  same : there ≡ moved_request from here
-  two_less : from + 2 ≡ here.from
-  behind : (n : ℕ) → drop (from + n) q ≡ drop (here.from + n) p
 
 module _ (p : List ℕ) (long : header 2 ≤ length p) (two : tt·of p ≡ tt_of 2) (to : destination 2 p < 256) (by : source 2 p < 256) where
   abbrev q : List ℕ
@@ -228,7 +185,7 @@ module _ (p : List ℕ) (long : header 2 ≤ length p) (two : tt·of p ≡ tt_of
       (shifted (length q) (header 1) (length p) (header 2) lengths refl)
       (ap not (eq-eqb (tt·of q) (tt_of 1) tt_is ∙ sym (eq-eqb (tt·of p) (tt_of 2) two)))
       (ap (λ (n : ℕ). not (eqb n device)) to_same)
-      (ap (λ (n : ℕ). not (eqb n 9 || (eqb n 11 || (eqb n 2 || (eqb n 5 || eqb n 6))))) type_same)
+      (ap (λ (n : ℕ). not (eqb n 9 || eqb n 11)) type_same)
       (shifted (length q) (header 1 + 2) (length p) (header 2 + 2) lengths refl)
       (ap₂ (λ (n x : ℕ). eqb n 9 && bit x 4) type_same flags-same)
       (ap₂ (λ (n x : ℕ). eqb n 9 && ((bit x 128 || bit x 64) && under (header 1 + 4) q)) type_same flags-same
@@ -242,10 +199,14 @@ module _ (p : List ℕ) (long : header 2 ≤ length p) (two : tt·of p ≡ tt_of
   unfolding segment_at
   from_of from field = refl
 
-  -- what stands so many bytes behind the head's end
-  behind_head : (n : ℕ) → drop (header 1 + n) q ≡ drop (header 2 + n) p
+  -- what stands two bytes and four behind the head's end
+  behind_2 : drop (header 1 + 2) q ≡ drop (header 2 + 2) p
   unfolding narrowed
-  behind_head n = sym (drop-drop n (header 1) q) ∙ drop-drop n (header 2) p
+  behind_2 = drop-drop 2 (header 2) p
+
+  behind_4 : drop (header 1 + 4) q ≡ drop (header 2 + 4) p
+  unfolding narrowed
+  behind_4 = drop-drop 4 (header 2) p
 
   segment-moved : Moved p q
   segment-moved = by_test (is_s 2 p || is_e 2 p) fielded plain
@@ -257,7 +218,7 @@ module _ (p : List ℕ) (long : header 2 ≤ length p) (two : tt·of p ≡ tt_of
       fielded t = record {
         from = header 1 + 4;
         same = with_field 1 q (tests ∙ t) ∙ (fields-same (header 1 + 4) (header 2 + 4) _ _ refl field_same ∙ ap (moved (header 1 + 4)) (sym (with_field 2 p t)));
-        behind = behind_head 4 ∙ ap (λ (n : ℕ). drop n p) (sym (ap (λ (g : Segment). g.from) (with_field 2 p t) ∙ from_of _ _));
+        behind = behind_4 ∙ ap (λ (n : ℕ). drop n p) (sym (ap (λ (g : Segment). g.from) (with_field 2 p t) ∙ from_of _ _));
       }
 
       plain : (is_s 2 p || is_e 2 p) ≡ false → Moved p q
@@ -267,69 +228,12 @@ module _ (p : List ℕ) (long : header 2 ≤ length p) (two : tt·of p ≡ tt_of
           record {
             from = header 1 + 2;
             same = without_field 1 q b.0 b.1 ∙ (fields-same (header 1 + 2) (header 2 + 2) 0 0 refl refl ∙ ap (moved (header 1 + 2)) (sym (without_field 2 p a.0 a.1)));
-            behind = behind_head 2 ∙ ap (λ (n : ℕ). drop n p) (sym (ap (λ (g : Segment). g.from) (without_field 2 p a.0 a.1) ∙ from_of _ _));
+            behind = behind_2 ∙ ap (λ (n : ℕ). drop n p) (sym (ap (λ (g : Segment). g.from) (without_field 2 p a.0 a.1) ∙ from_of _ _));
           }
 
   message_same : message_of 1 q ≡ message_of 2 p
   unfolding message_of
   message_same = same-mailed _ _ _ _ _ _ _ _ by_same first-same flags-same (omega (arith, lengths))
-
-  -- a request: the four bytes of its address, in either place
-  byte-same : (n : ℕ) → byte q (header 1 + n) ≡ byte p (header 2 + n)
-  unfolding narrowed
-  byte-same n = sym (get_or-drop (header 1) q n 0) ∙ get_or-drop (header 2) p n 0
-
-  sized-long : long·of q (header 1 + 2) ≡ long·of p (header 2 + 2)
-  sized-long = same-long (byte-same 2) (byte-same 3) (byte-same 4) (byte-same 5)
-
-  streaming_long : long·of q (header 1) ≡ long·of p (header 2)
-  streaming_long = same-long (byte-same 0) (byte-same 1) (byte-same 2) (byte-same 3)
-
-  sized_same : (type : ℕ) → sized_request type 1 q ≡ moved_request (header 1 + 6) (sized_request type 2 p)
-  sized_same type =
-      let raws : length q - (header 1 + 6) ≡ length p - (header 2 + 6) = omega (arith, lengths) in
-      ap₂ (λ (b w : ℕ). asking (16 * type + b / 16) (source 1 q) (b % 16) w (header 1 + 6) (length q - (header 1 + 6))) first-same sized-long
-      ∙ ap₂ (λ (by n : ℕ). asking (16 * type + byte p (header 2) / 16) by (byte p (header 2) % 16) (long·of p (header 2 + 2)) (header 1 + 6) n) by_same raws
-
-  streaming_same : streaming_request_of 1 q ≡ moved_request (header 1 + 4) (streaming_request_of 2 p)
-  unfolding streaming_request_of
-  streaming_same =
-      let raws : length q - (header 1 + 4) ≡ length p - (header 2 + 4) = omega (arith, lengths) in
-      ap (λ (w : ℕ). record { request = 16 * 6; source = source 1 q; size = 0; wdptr = 0; address = address_in w; from = header 1 + 4; raw = length q - (header 1 + 4) }) streaming_long
-      ∙ ap₂ (λ (by n : ℕ). record { request = 16 * 6; source = by; size = 0; wdptr = 0; address = address_in (long·of p (header 2)); from = header 1 + 4; raw = n }) by_same raws
-
-  behind_data : (k n : ℕ) → drop (header 1 + k + n) q ≡ drop (header 2 + k + n) p
-  behind_data k n =
-      let here : header 2 + k + n ≡ header 2 + (k + n) = omega arith in
-      let there : header 1 + k + n ≡ header 1 + (k + n) = omega arith in
-      ap (λ (i : ℕ). drop i q) there ∙ (behind_head (k + n) ∙ ap (λ (i : ℕ). drop i p) (sym here))
-
-  sized-moved : (type : ℕ) → MovedRequest p q (sized_request type 2 p) (sized_request type 1 q)
-  sized-moved type = record { from = header 1 + 6; same = sized_same type; two_less = refl; behind = behind_data 6 }
-
-  request_moved : MovedRequest p q (request_of 2 p) (request_of 1 q)
-  unfolding request_of read_request_of write_request_of streaming_request_of
-  request_moved =
-      by_test (is2 p) (λ t. rw (same_type 2 ∙ t, t) (sized-moved 2))
-      (λ t. by_test (is5 p) (λ u. rw (same_type 2 ∙ t, t, same_type 5 ∙ u, u) (sized-moved 5))
-      (λ u. rw (same_type 2 ∙ t, t, same_type 5 ∙ u, u) (record { from = header 1 + 4; same = streaming_same; two_less = refl; behind = behind_data 4 })))
-    where
-      same_type : (n : ℕ) → eqb (packet_type q) n ≡ eqb (packet_type p) n
-      same_type n = ap (λ (k : ℕ). eqb k n) type_same
-
-  -- the response to a request, with its data
-  replied_same : (response response' : List ℕ) (code : ℕ) (payload : List ℕ)
-      → replied_with 1 response' q code payload ≡ written response' 0 (narrowed (take (response_size 2 + length payload) (replied_with 2 response p code payload)))
-  unfolding replied_with bytes_from narrowed
-  replied_same response response' code payload =
-      let whole : List ℕ = reply_to 2 p code ++ payload in
-      let size : length whole ≡ response_size 2 + length payload = length-append (reply_to 2 p code) payload in
-      let front : take (response_size 2 + length payload) (written response 0 whole) ≡ whole =
-      ap (take (response_size 2 + length payload)) (written-front response whole) ∙ take_at whole _ (response_size 2 + length payload) size in
-      ap (written response' 0)
-      (ap₂ (λ (first last : ℕ). first ∷ byte p 4 ∷ byte p 2 ∷ code ∷ last ∷ payload)
-      (ap (λ (n : ℕ). first_byte_of 1 (above n) 13) priority-same ∙ sym (first_narrowed (above (priority p)) 13)) flags-same
-      ∙ ap narrowed (sym front))
 
   -- the response
   response_same : (status : ℕ) → response_to 1 q status ≡ narrowed (response_to 2 p status)
@@ -346,7 +250,7 @@ module _ (p : List ℕ) (long : header 2 ≤ length p) (two : tt·of p ≡ tt_of
   unfolding answered
   reply_same response response' status =
       let front : take (response_size 2) (written response 0 (response_to 2 p status)) ≡ response_to 2 p status =
-      ap (take (response_size 2)) (written-front response (response_to 2 p status)) ∙ take_at (response_to 2 p status) _ (response_size 2) (length_response status) in
+      ap (take (response_size 2)) (written_front response (response_to 2 p status)) ∙ take_at (response_to 2 p status) _ (response_size 2) (length_response status) in
       ap (written response' 0) (response_same status ∙ ap narrowed (sym front))
 
 -- ---- the steps, of a state and of the same with another width word
@@ -415,83 +319,10 @@ module _ (narrow : ℕ) (s : State) (memory : List ℕ) where
           (message.message_refusing (state_at narrow s) memory response' q) (message.message_accepted (state_at narrow s) memory response' q m) (message_rows s m)
           (error and error and error and error and error and retry and tt) accepted-same
 
--- a request
-module _ (memory response response' p q : List ℕ) (r : Request) (from : ℕ) (two_less : from + 2 ≡ r.from) (lengths : length q + 2 ≡ length p)
-    (behind : (n : ℕ) → drop (from + n) q ≡ drop (r.from + n) p)
-    (reply : (code : ℕ) (payload : List ℕ)
-    → replied_with 1 response' q code payload ≡ written response' 0 (narrowed (take (response_size 2 + length payload) (replied_with 2 response p code payload)))) where
-  -- what it leaves with IDs of one byte
-  abbrev served_at : Served → Served
-  served_at v = serving v.says (v.replied - 2) v.memory (cond (eqb v.replied 0) response' (written response' 0 (narrowed (take v.replied v.response))))
-
-  -- its size, and what it names
-  size_same : size_in (moved_request from r) ≡ size_in r
-  unfolding size_in
-  size_same = go (transaction_in r)
-    where
-      go : (t : Transaction) → size_by t (moved_request from r) ≡ size_by t r
-      go NREAD = refl
-      go NWRITE = refl
-      go NWRITE_R = refl
-      go SWRITE = refl
-      go ATOMIC = refl
-      go reserved = refl
-
-  named_same : named_by (moved_request from r) ≡ named_by r
-  unfolding named_by
-  named_same = rw size_same
-
-  rows-moved : request_rows (length memory) q (moved_request from r) ≡ request_rows (length memory) p r
-  unfolding request_rows reserved_request wrong_data outside
-  rows-moved = rw (shifted (length q) from (length p) r.from lengths two_less, size_same, named_same)
-
-  written_same : memory_written memory q (moved_request from r) ≡ memory_written memory p r
-  unfolding memory_written
-  written_same = rw (named_same, behind (named_by r).first)
-
-  -- a response of so many bytes
-  replied_at : (code : ℕ) (payload : List ℕ) (n : ℕ) → n ≡ response_size 2 + length payload
-      → cond (eqb n 0) response' (written response' 0 (narrowed (take n (replied_with 2 response p code payload)))) ≡ replied_with 1 response' q code payload
-  replied_at code payload n e = rw (e, ne_eqb (response_size 2 + length payload) 0 (λ z. omega (arith, z))) (sym (reply code payload))
-
-  data_same : read_data memory (moved_request from r) ≡ read_data memory r
-  unfolding read_data
-  data_same = rw named_same
-
-  says_same : done_with (moved_request from r) ≡ done_with r
-  says_same = rw named_same
-
-  served_same : (t : Transaction) → served_at (served_by t 2 memory response p r) ≡ served_by t 1 memory response' q (moved_request from r)
-  unfolding nread nwrite nwrite_r
-  served_same NREAD =
-      rw (says_same, data_same)
-      (ap₂ (λ (n : ℕ) (after : List ℕ). serving (done_with r) n memory after) (omega arith) (replied_at (with_data DONE) (read_data memory r) _ refl))
-  served_same NWRITE = rw (says_same, written_same)
-  served_same NWRITE_R = rw (says_same, written_same) (ap (serving (done_with r) (response_size 1) (memory_written memory p r)) (replied_at (without_data DONE) [] _ refl))
-  served_same SWRITE = rw (says_same, written_same)
-  served_same ATOMIC = rw (says_same, written_same)
-  served_same reserved = rw (says_same, written_same)
-
-  asking_refused : (number : ℕ) → served_at (refused_asking 2 memory response p r number) ≡ refused_asking 1 memory response' q (moved_request from r) number
-  unfolding refused_asking
-  asking_refused number =
-      by_test (is_answered (transaction_in r))
-      (λ t. rw t (ap (λ (after : List ℕ). serving (refused number) (response_size 1) memory after) (replied_at (without_data ERROR) [] _ refl)))
-      (λ t. rw t)
-
-  request_step_same : served_at (request_stepped 2 memory response p r) ≡ request_stepped 1 memory response' q (moved_request from r)
-  unfolding request_stepped request_served
-  request_step_same =
-      carried served_at (request_refusing 2 memory response p r) (request_served 2 memory response p r)
-      (request_refusing 1 memory response' q (moved_request from r)) (request_served 1 memory response' q (moved_request from r)) (request_rows (length memory) p r)
-      (unfold request_rows in ((λ number. refl) and asking_refused and asking_refused and asking_refused and tt)) (served_same (transaction_in r))
-      ∙ ap (λ (rows : List Row). by_verdict (request_refusing 1 memory response' q (moved_request from r)) (request_served 1 memory response' q (moved_request from r)) (verdict rows))
-      (sym rows-moved)
-
 -- ---- reading
 
 module _ (narrow : ℕ) (d : Desk) (response p : List ℕ) (wide : (state_on d).setup.narrow ≡ 0) (passed : lent_refusal d ≡ 0) (slim : narrow ≡ 0 → ⊥)
-    (room : response_room 1 ≤ length response) (long : header 2 ≤ length p) (two : tt·of p ≡ tt_of 2) (to : destination 2 p < 256) (by : source 2 p < 256) where
+    (room : response_size 1 ≤ length response) (long : header 2 ≤ length p) (two : tt·of p ≡ tt_of 2) (to : destination 2 p < 256) (by : source 2 p < 256) where
   abbrev s : State
   s = state_on d
 
@@ -533,21 +364,17 @@ module _ (narrow : ℕ) (d : Desk) (response p : List ℕ) (wide : (state_on d).
   said_by_state t (Message m) =
       let j = message.message_stepped t d.message_memory response (narrowed p) m in
       settled j.says false (response_size (ids_in t)) (with_messages there (words_of j.state) j.memory j.response)
-  said_by_state t (Memory r) =
-      let v = request_stepped (ids_in t) d.memory response (narrowed p) r in
-      settled v.says false v.replied (with_memory there v.memory v.response)
 
   by_state : (y : Parsed) → by_parsed (lent there (narrowed p)) y ≡ said_by_state (state_on there) y
   by_state (Refused number) = refl
   by_state (Stream g) = refl
   by_state (Message m) = refl
-  by_state (Memory r) = refl
 
   read-there : read there (narrowed p) ≡ said_by_state (state_at narrow s) (parsed (state_at narrow s).setup (narrowed p))
   read-there =
       by_packet (lent there (narrowed p)) (length-set d.words 3 narrow ∙ ready.fit.whole) still-good
       (sizes_right there (ready.fit.rooms ∙ ap (λ (t : State). 16 * t.setup.room) (sym state_there)) ready.fit.boxes
-      (subst (λ (t : State). response_room (ids_in t) ≤ length response) (sym state_there) (subst (λ (n : ℕ). response_room n ≤ length response) (sym ids_one) room)))
+      (subst (λ (t : State). response_size (ids_in t) ≤ length response) (sym state_there) (subst (λ (n : ℕ). response_size n ≤ length response) (sym ids_one) room)))
       ∙ (by_state (parsed (state_on there).setup (narrowed p)) ∙ ap (λ (t : State). said_by_state t (parsed t.setup (narrowed p))) state_there)
 
   -- a type 9 packet
@@ -578,7 +405,7 @@ module _ (narrow : ℕ) (d : Desk) (response p : List ℕ) (wide : (state_on d).
       left = message.message_stepped s d.message_memory d.response p (message_of 2 p)
 
       mail : message_room.message_data (ids_in (state_at narrow s)) (narrowed p) ≡ message_room.message_data (ids_in s) p
-      mail = ap (λ (n : ℕ). message_room.message_data n (narrowed p)) ids_one ∙ (behind_head p long two to by 2 ∙ ap (λ (n : ℕ). message_room.message_data n p) (sym ids_two))
+      mail = ap (λ (n : ℕ). message_room.message_data n (narrowed p)) ids_one ∙ (behind_2 p long two to by ∙ ap (λ (n : ℕ). message_room.message_data n p) (sym ids_two))
 
       reply : (status : ℕ) → answered (ids_in (state_at narrow s)) response (narrowed p) status
           ≡ written response 0 (narrowed (take (response_size 2) (answered (ids_in s) d.response p status)))
@@ -587,32 +414,16 @@ module _ (narrow : ℕ) (d : Desk) (response p : List ℕ) (wide : (state_on d).
           ∙ (reply_same p long two to by d.response response status
           ∙ ap (λ (n : ℕ). written response 0 (narrowed (take (response_size 2) (answered n d.response p status)))) (sym ids_two))
 
-  -- a request
-  of_memory_lem : said_by_state (state_at narrow s) (Memory (request_of 1 (narrowed p))) ≡ carry (by_parsed (lent d p) (Memory (request_of 2 p)))
-  of_memory_lem =
-      let m = request_moved p long two to by in
-      ap₂ (λ (n : ℕ) (r : Request). settles (request_stepped n d.memory response (narrowed p) r)) ids_one m.same
-      ∙ (ap settles
-      (sym (request_step_same d.memory d.response response p (narrowed p) (request_of 2 p) m.from m.two_less (lengths p long two to by) m.behind
-      (replied_same p long two to by d.response response)))
-      ∙ ap (λ (n : ℕ). carry (of_memory (lent d p) (request_stepped n d.memory d.response p (request_of 2 p)))) (sym ids_two))
-    where
-      settles : Served → Settled
-      settles v = settled v.says false v.replied (with_memory there v.memory v.response)
-
   by_verdict_lem : (v : Verdict) → said_by_state (state_at narrow s) (parsed_by 1 (narrowed p) v) ≡ carry (by_parsed (lent d p) (parsed_by 2 p v))
   by_verdict_lem (refuse number leaves) = refl
   by_verdict_lem accept =
-      ap (λ (n : ℕ). said_by_state (state_at narrow s) (cond (eqb n 9) (Stream (segment_of 1 (narrowed p))) (cond (eqb n 11) (Message (message_of 1 (narrowed p))) (Memory (request_of 1 (narrowed p))))))
-      (type_same p long two to by)
-      ∙ go (is9 p) (is11 p)
+      ap (λ (n : ℕ). said_by_state (state_at narrow s) (cond (eqb n 9) (Stream (segment_of 1 (narrowed p))) (Message (message_of 1 (narrowed p))))) (type_same p long two to by)
+      ∙ go (is9 p)
     where
-      go : (nine eleven : Bool)
-          → said_by_state (state_at narrow s) (cond nine (Stream (segment_of 1 (narrowed p))) (cond eleven (Message (message_of 1 (narrowed p))) (Memory (request_of 1 (narrowed p)))))
-          ≡ carry (by_parsed (lent d p) (cond nine (Stream (segment_of 2 p)) (cond eleven (Message (message_of 2 p)) (Memory (request_of 2 p)))))
-      go true eleven = of_stream_lem
-      go false true = of_message_lem
-      go false false = of_memory_lem
+      go : (nine : Bool) → said_by_state (state_at narrow s) (cond nine (Stream (segment_of 1 (narrowed p))) (Message (message_of 1 (narrowed p))))
+          ≡ carry (by_parsed (lent d p) (cond nine (Stream (segment_of 2 p)) (Message (message_of 2 p))))
+      go true = of_stream_lem
+      go false = of_message_lem
 
   parsed-there : parsed (state_at narrow s).setup (narrowed p) ≡ parsed_by 1 (narrowed p) (verdict (head_rows s.setup.device 2 p))
   unfolding parsed

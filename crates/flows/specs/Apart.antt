@@ -6,7 +6,7 @@ use Rattle.lists.specs.Each.{Each}
 use Rattle.answers.specs.Answers as answers
 use Rattle.wire.specs.declared.Flow.{Flow}
 use Rattle.wire.specs.Parsed.{Parsed}
-use Rattle.wire.specs.Parsed.{Refused, Stream, Message, Memory}
+use Rattle.wire.specs.Parsed.{Refused, Stream, Message}
 use Rattle.wire.specs.Type9.{same_flow, segment_of}
 use Rattle.wire.specs.Parsed.{parsed}
 use Rattle.wire.specs.declared.Setup.{Setup}
@@ -42,7 +42,6 @@ abbrev pub heard_of : ℕ → List ℕ → answers.Said → Heard
 heard_of room memory answers.held = holds
 heard_of room memory (answers.delivered context flow stream size) = delivers (delivery flow (pdu stream (in_room room memory context size)))
 heard_of room memory (answers.message context source letter mailbox size) = other
-heard_of room memory (answers.done request source from size) = other
 heard_of room memory (answers.refused number) = refuses number
 
 -- by the one-flow endpoint
@@ -58,7 +57,6 @@ abbrev pub is_of : Flow → Parsed → Bool
 is_of flow (Refused number) = false
 is_of flow (Stream g) = same_flow g.flow flow
 is_of flow (Message m) = false
-is_of flow (Memory r) = false
 
 abbrev pub packets_of : Setup → Flow → List (List ℕ) → List (List ℕ)
 packets_of setup flow [] = []
@@ -87,7 +85,6 @@ abbrev pub flow_among : List Flow → Parsed → Bool
 flow_among flows (Refused number) = true
 flow_among flows (Stream g) = among g.flow flows
 flow_among flows (Message m) = true
-flow_among flows (Memory r) = true
 
 abbrev pub AmongFlows : Setup → List Flow → List (List ℕ) → Type 0
 AmongFlows setup flows = Each (λ (p : List ℕ). flow_among flows (parsed setup p) ≡ true)

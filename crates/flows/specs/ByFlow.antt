@@ -6,8 +6,7 @@ use Rattle.answers.specs.Answers as answers
 use Rattle.wire.specs.declared.Flow.{Flow}
 use Rattle.wire.specs.Segment.{Segment}
 use Rattle.wire.specs.declared.MessageSegment.{MessageSegment}
-use Rattle.wire.specs.declared.Request.{Request}
-use Rattle.wire.specs.Parsed.{Refused, Stream, Message, Memory}
+use Rattle.wire.specs.Parsed.{Refused, Stream, Message}
 use Rattle.wire.specs.Type9.{same_flow}
 use Rattle.wire.specs.Parsed.{parsed}
 use Rattle.stream_rooms.specs.Placing.{data_of}
@@ -34,7 +33,7 @@ pub record OwnFlow (Ok : Desk → Type 0) (setup : Setup) (d : Desk) (p : List �
   pub tells : Tells setup.room (after d p).stream_memory g.flow (read d p).says (flow_step setup (view d g.flow) g (data_of p g)).told
   pub drops : (read d p).dropped ≡ (flow_step setup (view d g.flow) g (data_of p g)).dropped
 
--- any other packet: a message, a request for the memory, or one that rows 1 to 5 refuse
+-- any other packet: a message, or one that rows 1 to 5 refuse
 pub record NoFlow (Ok : Desk → Type 0) (setup : Setup) (d : Desk) (p : List ℕ) : Type 0 where
   pub ok : Ok (after d p)
   pub views : (flow : Flow) → view (after d p) flow ≡ view d flow
@@ -44,5 +43,4 @@ pub record NoFlow (Ok : Desk → Type 0) (setup : Setup) (d : Desk) (p : List �
 pub record ByFlow (setup : Setup) (flows : List Flow) (Ok : Desk → Type 0) : Type 0 where
   pub of_flow_lem : (d : Desk) (p : List ℕ) (g : Segment) → Ok d → AreBytes p → parsed setup p ≡ Stream g → among g.flow flows ≡ true → OwnFlow Ok setup d p g
   pub of_message_lem : (d : Desk) (p : List ℕ) (m : MessageSegment) → Ok d → AreBytes p → parsed setup p ≡ Message m → NoFlow Ok setup d p
-  pub of_memory_lem : (d : Desk) (p : List ℕ) (r : Request) → Ok d → AreBytes p → parsed setup p ≡ Memory r → NoFlow Ok setup d p
   pub of_refused : (d : Desk) (p : List ℕ) (number : ℕ) → Ok d → AreBytes p → parsed setup p ≡ Refused number → NoFlow Ok setup d p

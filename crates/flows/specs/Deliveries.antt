@@ -44,7 +44,6 @@ delivered_by room memory (answers.delivered context flow stream size) =
     delivery flow (pdu stream (in_room room memory context size)) ∷ []
 delivered_by room memory answers.held = []
 delivered_by room memory (answers.message context source letter mailbox size) = []
-delivered_by room memory (answers.done request source from size) = []
 delivered_by room memory (answers.refused number) = []
 
 -- of what a call says and leaves

@@ -1,7 +1,7 @@
 -- A desk that was just set up: what every statement over many calls begins with.
 use Rattle.std.specs.Prelude.{◌*◌, ◌^◌, ◌≤◌, ◌<◌, ◌≡◌, List, false, ℕ, length, replicate}
 use Rattle.sizes.specs.Sizes.{bad_mtu}
-use Rattle.responses.specs.Type13.{response_room}
+use Rattle.responses.specs.Type13.{response_size}
 use Rattle.wire.specs.declared.Setup.{Setup}
 use Rattle.wire.specs.Packet.{ids_of}
 use Rattle.contexts.specs.State.{fixed, fresh, stream_contexts}
@@ -16,11 +16,11 @@ pub record Allowed (setup : Setup) : Type 0 where
   pub allowed_MTU : bad_mtu setup.mtu ≡ false
   pub allowed_R : bad_room setup.mtu setup.room ≡ false
 
--- memories that 12 allows, whatever is in them; the one that boards read and write has any size
+-- memories that 12 allows, whatever is in them
 pub record Lends (setup : Setup) (d : Desk) : Type 0 where
   pub rooms : length d.stream_memory ≡ stream_contexts * setup.room
   pub boxes : length d.message_memory ≡ message_memory_bytes
-  pub reply : response_room (ids_of setup) ≤ length d.response
+  pub reply : response_size (ids_of setup) ≤ length d.response
 
 -- setup was ready, and the memories fit
 pub record Fresh (setup : Setup) (d : Desk) : Type 0 where
@@ -28,17 +28,12 @@ pub record Fresh (setup : Setup) (d : Desk) : Type 0 where
   pub words : d.words ≡ words_of (fresh setup)
   pub lends : Lends setup d
 
-abbrev pub fresh_desk : Setup → (stream_memory message_memory memory response : List ℕ) → Desk
-fresh_desk setup stream_memory message_memory memory response = desk (words_of (fresh setup)) stream_memory message_memory memory response
+abbrev pub fresh_desk : Setup → (stream_memory message_memory response : List ℕ) → Desk
+fresh_desk setup stream_memory message_memory response = desk (words_of (fresh setup)) stream_memory message_memory response
 
--- the bytes of the memory that boards read and write, in document 02's log program
-abbrev pub log_memory_bytes : ℕ
-log_memory_bytes = 4096
-
--- a fresh desk with memories of zeros and a response buffer of 263; with IDs of one byte, 261
+-- a fresh desk with memories of zeros and a response buffer of 7; with IDs of one byte, 5
 abbrev pub zero_desk : Setup → Desk
-zero_desk setup =
-    fresh_desk setup (replicate (stream_contexts * setup.room) 0) (replicate message_memory_bytes 0) (replicate log_memory_bytes 0) (replicate (response_room (ids_of setup)) 0)
+zero_desk setup = fresh_desk setup (replicate (stream_contexts * setup.room) 0) (replicate message_memory_bytes 0) (replicate (response_size (ids_of setup)) 0)
 
 -- the setup of document 01's examples and of its log program: device 1, MTU 32, R 2,048. With IDs of that width, and of 16 bits as there
 abbrev pub paper_setup_at : (narrow : ℕ) → Setup

@@ -4,4 +4,3 @@ pub mod Fresh
 pub mod ByFlow
 pub mod Apart
 pub mod Widths
-pub mod Vectors

@@ -4,7 +4,7 @@ use Rattle.std.specs.Prelude.{ℕ, ◌-◌, ◌≤◌, ◌<◌, ◌≡◌, List,
 use Rattle.lists.specs.Bytes.{byte, written}
 use Rattle.answers.specs.Answers.{refused}
 use Rattle.wire.specs.Packet.{header, tt, tt_of, destination, source}
-use Rattle.responses.specs.Type13.{response_room}
+use Rattle.responses.specs.Type13.{response_size}
 use Rattle.contexts.specs.State.{ids_in}
 use Rattle.reading.specs.Desk.{Desk, desk, state_on}
 use Rattle.reading.specs.Table.{lent_refusal}
@@ -36,7 +36,7 @@ at_width narrow p = cond (eqb narrow 0) p (narrowed p)
 
 -- a desk with another width word, the fourth of the state's, and a response buffer of its own; all else is the same
 abbrev pub with_width : (narrow : ℕ) → (response : List ℕ) → Desk → Desk
-with_width narrow response d = desk (set d.words 3 narrow) d.stream_memory d.message_memory d.memory response
+with_width narrow response d = desk (set d.words 3 narrow) d.stream_memory d.message_memory response
 
 -- what is answered and left, the same but for the IDs: answer, contexts and memories are the same; a response is two bytes shorter, and is written into
 -- the buffer that is lent there
@@ -49,7 +49,7 @@ abbrev pub SameButForIDs : Type 0
 SameButForIDs =
     (narrow : ℕ) (d : Desk) (response p : List ℕ)
     -- an endpoint of 16 bits, with a desk that rows 19 and 12 pass; one of 8 bits, and a response buffer that 12 allows there
-    → (state_on d).setup.narrow ≡ 0 → lent_refusal d ≡ 0 → (narrow ≡ 0 → ⊥) → response_room 1 ≤ length response
+    → (state_on d).setup.narrow ≡ 0 → lent_refusal d ≡ 0 → (narrow ≡ 0 → ⊥) → response_size 1 ≤ length response
     -- a packet with IDs of 16 bits, both below 256
     → header 2 ≤ length p → tt p ≡ tt_of 2 → destination 2 p < 256 → source 2 p < 256
     → read (with_width narrow response d) (narrowed p) ≡ narrowed_answer narrow response (read d p)

@@ -11,6 +11,5 @@ use Rattle.c_reports.specs.Reports.{report_of}
 use Rattle.c_bursts.specs.Bursts.{report_for}
 use Rattle.kaiverohm.specs.Exports.{ReadFromCPromise}
 
-pub handed : (x : Lent) (t : Figures) (report : Report) (after : Desk) → FiguresPromise x t after → report ≡ report_of (telling t) t.dropped t.response 0
-    → ReadFromCPromise x report after
-handed x t report after p e = record { report = e ∙ ap (report_for 0) p.promised; desk = ap (λ (l : Settled). l.desk) p.promised }
+pub handed : (x : Lent) (t : Figures) (report : Report) (after : Desk) → FiguresPromise x t after → report ≡ report_of (telling t) t.dropped t.response → ReadFromCPromise x report after
+handed x t report after p e = record { report = e ∙ ap report_for p.promised; desk = ap (λ (l : Settled). l.desk) p.promised }

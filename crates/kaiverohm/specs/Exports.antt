@@ -21,7 +21,7 @@ use Rattle.log_writer.specs.Writing.{recording}
 
 -- the interface: it rises whenever a function, a struct or a constant of include/kaiverohm.h changes, and additions leave it
 abbrev pub interface : ℕ
-interface = 4
+interface = 3
 
 -- the promise of `kaiverohm_interface`
 abbrev pub InterfacePromise : ℕ → Type 0
@@ -32,9 +32,9 @@ pub record SetupFromCPromise (words : List ℕ) (settings : Setup) (r : Numbers)
   pub answer : r ≡ numbers_of_setup (setup words settings).says
   pub state : after ≡ (setup words settings).words
 
--- the promise of `kaiverohm_read`: the report, whose response begins at byte 0, and the desk as it is left
+-- the promise of `kaiverohm_read`: the report, and the desk as it is left
 pub record ReadFromCPromise (x : Lent) (r : Report) (after : Desk) : Type 0 where
-  pub report : r ≡ report_for 0 (reading x)
+  pub report : r ≡ report_for (reading x)
   pub desk : after ≡ (reading x).desk
 
 -- the promises of `kaiverohm_abandon_stream` and `kaiverohm_abandon_message`

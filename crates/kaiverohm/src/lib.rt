@@ -23,7 +23,7 @@ use wire::Setup;
 pub extern "C" fn kaiverohm_interface() -> usize
     ensures { InterfacePromise result }
 {
-    4
+    3
 }
 
 // The words of a state.
@@ -48,22 +48,14 @@ pub extern "C" fn kaiverohm_read(
     state: &mut [usize],
     stream_memory: &mut [u8],
     message_memory: &mut [u8],
-    memory: &mut [u8],
     response: &mut [u8],
     packet: &[u8],
 ) -> Report
-    ensures { ReadFromCPromise (lent (desk state.old stream_memory.old message_memory.old memory.old response.old) packet.now)
-        result (desk state.new stream_memory.new message_memory.new memory.new response.new) }
+    ensures { ReadFromCPromise (lent (desk state.old stream_memory.old message_memory.old response.old) packet.now)
+        result (desk state.new stream_memory.new message_memory.new response.new) }
 {
-    let told = packets::read(
-        state,
-        stream_memory,
-        message_memory,
-        memory,
-        response,
-        packet,
-    );
-    c_reports::reported(told, 0)
+    let told = packets::read(state, stream_memory, message_memory, response, packet);
+    c_reports::reported(told)
 }
 
 // Reads the packets of a burst.
@@ -72,20 +64,18 @@ pub extern "C" fn kaiverohm_read_burst(
     state: &mut [usize],
     stream_memory: &mut [u8],
     message_memory: &mut [u8],
-    memory: &mut [u8],
     responses: &mut [u8],
     reports: &mut [usize],
     burst: &[u8],
     pause: usize,
 ) -> Burst
-    ensures { BurstPromise pause (desk state.old stream_memory.old message_memory.old memory.old responses.old) reports.old
-        burst.now result (desk state.new stream_memory.new message_memory.new memory.new responses.new) reports.new }
+    ensures { BurstPromise pause (desk state.old stream_memory.old message_memory.old responses.old) reports.old
+        burst.now result (desk state.new stream_memory.new message_memory.new responses.new) reports.new }
 {
     c_runs::read_burst(
         state,
         stream_memory,
         message_memory,
-        memory,
         responses,
         reports,
         burst,

@@ -53,9 +53,9 @@ module _ (words : List ℕ) where
 -- ---- rooms
 module _ (rooms room size n l : ℕ) where
   -- which rooms there are, by what the code asks
-  pub other-size : (size ≡ rooms * room → ⊥) → false ≡ has_room rooms room size n l
+  pub other_size : (size ≡ rooms * room → ⊥) → false ≡ has_room rooms room size n l
   unfolding has_room
-  other-size a = rw (ne_eqb size (rooms * room) a)
+  other_size a = rw (ne_eqb size (rooms * room) a)
 
   module _ (a : size ≡ rooms * room) where
     pub past_last_lem : rooms ≤ n → false ≡ has_room rooms room size n l

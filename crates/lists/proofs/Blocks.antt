@@ -7,13 +7,13 @@ use lib.ListN.{length, take, drop, length-take, length-drop, drop_of_length-le}
 use lib.Seq.{take_all, take-add, drop-drop}
 use borrow.Rule.Slice.PartMut.{mid_of, put_mid}
 use Rattle.lists.specs.Bytes.{written}
-use Rattle.lists.proofs.Written.{written-front, written-nothing, written-part, written_behind}
+use Rattle.lists.proofs.Written.{written_front, written-nothing, written-part, written_behind}
 
 -- ---- one block
 
 -- a run as long as what it is written over takes its place
 block_is : (old bytes : List ℕ) → length old ≤ length bytes → written old 0 bytes ≡ bytes
-block_is old bytes h = written-front old bytes ∙ (ap (λ (l : List ℕ). bytes ++ l) (drop_of_length-le old {i = length bytes} h) ∙ append-nil bytes)
+block_is old bytes h = written_front old bytes ∙ (ap (λ (l : List ℕ). bytes ++ l) (drop_of_length-le old {i = length bytes} h) ∙ append-nil bytes)
 
 -- k bytes from `at` on, copied to a block and from there to the same place of the memory
 pub block_written : (k : ℕ) (memory bytes zeros block part : List ℕ) (at : ℕ)
@@ -44,8 +44,8 @@ nothing_copied start bytes from =
     sym (ap (λ (j : ℕ). written start from (take j (drop from bytes))) none ∙ written-nothing start from)
 
 -- from the first byte on they are those before `at`
-pub front-copied : (start bytes : List ℕ) (at : ℕ) → written start 0 (take at bytes) ≡ copied_to start bytes 0 at
-front-copied start bytes at =
+pub front_copied : (start bytes : List ℕ) (at : ℕ) → written start 0 (take at bytes) ≡ copied_to start bytes 0 at
+front_copied start bytes at =
     let all : at ≡ at - 0 = omega arith in
     ap (λ (j : ℕ). written start 0 (take j bytes)) all
 

@@ -5,4 +5,3 @@ pub mod First
 pub mod Rows
 pub mod Below
 pub mod Numbers
-pub mod Every

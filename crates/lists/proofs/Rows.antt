@@ -61,12 +61,12 @@ rows_before k (suc n) at w values h fits =
     ∙ ap₂ (λ (x : List ℕ) (y : List (List ℕ)). x ∷ y) front (ap (λ (l : List ℕ). rows k n l) (drop-written k w values (at - k) room) ∙ rest)
 
 -- the rows are the words and no more
-pub joined-front : (k n : ℕ) (w : List ℕ) → k * n ≤ length w → joined (rows k n w) ≡ take (k * n) w
+pub joined_front : (k n : ℕ) (w : List ℕ) → k * n ≤ length w → joined (rows k n w) ≡ take (k * n) w
 unfolding rows joined
-joined-front k ℕ.zero w h = rw (mul-zero k)
-joined-front k (suc n) w h =
+joined_front k ℕ.zero w h = rw (mul-zero k)
+joined_front k (suc n) w h =
     let m = mul-suc k n in
-    ap (λ (l : List ℕ). take k w ++ l) (joined-front k n (drop k w) (simp length-drop (omega arith)))
+    ap (λ (l : List ℕ). take k w ++ l) (joined_front k n (drop k w) (simp length-drop (omega arith)))
     ∙ (sym (take-add k (k * n) w) ∙ ap (λ (j : ℕ). take j w) (step k n))
 
 pub map-set : {A B : Type 0} (f : A → B) (l : List A) (i : ℕ) (a : A) → map f (set l i a) ≡ set (map f l) i (f a)
@@ -191,7 +191,7 @@ module _ {A : Type 0} {width : ℕ} {from : List ℕ → A} {to : A → List ℕ
       → joined (map to (records_at from width count first w)) ≡ take (width * count) (drop first w)
   records_words count first w h =
       let fits : width * count ≤ length (drop first w) = simp length-drop (omega arith) in
-      ap joined (rows_again count (drop first w) fits) ∙ joined-front width count (drop first w) fits
+      ap joined (rows_again count (drop first w) fits) ∙ joined_front width count (drop first w) fits
 
   -- the records of a table made of records are those
   records-made : (l : List A) (rest : List ℕ) → map from (rows width (length l) (joined (map to l) ++ rest)) ≡ l

@@ -45,10 +45,3 @@ pub the_other : (a b : Bool) → not (a || b) ≡ false → a ≡ false → b �
 the_other true b e h = absurd (true≢false h)
 the_other false true e h = refl
 the_other false false e h = absurd (true≢false e)
-
--- two tests of which each holds where the other does
-pub agreed : (a b : Bool) → cond a b (not b) ≡ true → a ≡ b
-agreed true true e = refl
-agreed true false e = absurd (false≢true e)
-agreed false true e = absurd (false≢true e)
-agreed false false e = refl

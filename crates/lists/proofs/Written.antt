@@ -22,9 +22,9 @@ pub copied : (d s : List ℕ) → paste d 0 s (length s) ≡ written d 0 s
 unfolding written
 copied d s = simp take-length
 
-pub written-front : (memory bytes : List ℕ) → written memory 0 bytes ≡ bytes ++ drop (length bytes) memory
+pub written_front : (memory bytes : List ℕ) → written memory 0 bytes ≡ bytes ++ drop (length bytes) memory
 unfolding written
-written-front memory bytes = simp zero-add
+written_front memory bytes = simp zero-add
 
 pub written_is : (memory bytes : List ℕ) (at : ℕ) → written memory at bytes ≡ take at memory ++ (bytes ++ drop (at + length bytes) memory)
 unfolding written
@@ -35,12 +35,6 @@ pub written-nothing : (memory : List ℕ) (at : ℕ) → written memory at [] �
 unfolding written
 written-nothing memory at = simp (append-nil, add-zero at) (take-append-drop at memory)
 
--- a part that stands there, written once more
-pub written-own : (memory : List ℕ) (at : ℕ) → at ≤ length memory → written memory at (drop at memory) ≡ memory
-written-own memory at h =
-    let rest : drop (at + length (drop at memory)) memory ≡ [] = drop_of_length-le memory {i = at + length (drop at memory)} (simp length-drop (omega (arith, h))) in
-    written_is memory (drop at memory) at ∙ (ap (λ (l : List ℕ). take at memory ++ (drop at memory ++ l)) rest ∙ simp append-nil (take-append-drop at memory))
-
 -- a copy into the part from `at` on
 pub written-part : (memory bytes part : List ℕ) (at : ℕ) → at + length bytes ≤ length memory
     → part ≡ written (mid_of at (length memory - at) memory) 0 bytes
@@ -48,7 +42,7 @@ pub written-part : (memory bytes part : List ℕ) (at : ℕ) → at + length byt
 written-part memory bytes part at h e =
     let whole : take (length memory - at) (drop at memory) ≡ drop at memory = take_all (length memory - at) (drop at memory) (simp length-drop (omega arith)) in
     let rest : drop (length memory - at) (drop at memory) ≡ [] = drop_of_length-le (drop at memory) {i = length memory - at} (simp length-drop (omega arith)) in
-    rw (e, written-front) (simp (written_is, whole, rest, drop-drop, append-nil, append_assoc))
+    rw (e, written_front) (simp (written_is, whole, rest, drop-drop, append-nil, append_assoc))
 
 -- a run of single stores
 pub stores : (words values : List ℕ) (at : ℕ) → at + length values ≤ length words → sets words at values ≡ written words at values

@@ -6,7 +6,7 @@ use mathlib.Core.List.{List, [], ◌++◌}
 use native.Mathlib.Omega.{arith}
 use lib.ListN.{length}
 use Rattle.answers.specs.declared.Answer.{Answer}
-use Rattle.answers.specs.declared.Answer.TheVariants.{Held, Done, Refused}
+use Rattle.answers.specs.declared.Answer.TheVariants.{Held, Refused}
 use Rattle.answers.specs.Answers.{Said, said}
 use Rattle.log_lines.specs.Text.{text}
 use Rattle.log_lines.specs.Lines.{spaced, answer_text, line_of, end_line}
@@ -40,9 +40,6 @@ module _ {out after : List ℕ} {r : ℕ} {answer : Answer} where
 
   pub held_is : answer ≡ Held → Puts out 0 (text "held") after r → Within out 0 (answer_text (said answer)) after r 87
   held_is e p = says_is e refl (p, omega (arith, p.behind))
-
-  pub done_is : {request source from size : ℕ} → answer ≡ Done request source from size → Puts out 0 (text "done") after r → Within out 0 (answer_text (said answer)) after r 87
-  done_is e p = says_is e refl (p, omega (arith, p.behind))
 
   pub refused_is : {mid : List ℕ} {number r₁ : ℕ} → answer ≡ Refused number → 87 ≤ length out → Puts out 0 (text "refused") mid r₁
       → Within mid r₁ (spaced number) after r (r₁ + 21) → Within out 0 (answer_text (said answer)) after r 87

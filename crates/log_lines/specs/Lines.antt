@@ -1,6 +1,6 @@
 -- The lines that the log program prints (document 01, 'The log program').
 use Rattle.std.specs.Prelude.{ℕ, List, [], ◌++◌, Bool, cond}
-use Rattle.answers.specs.Answers.{Said, held, delivered, message, done, refused}
+use Rattle.answers.specs.Answers.{Said, held, delivered, message, refused}
 use Rattle.log_lines.specs.Text.{text}
 use Rattle.log_lines.specs.Decimal.{decimal}
 
@@ -8,12 +8,11 @@ use Rattle.log_lines.specs.Decimal.{decimal}
 unfoldable pub spaced : ℕ → List ℕ
 spaced n = text " " ++ decimal n
 
--- held, pdu SOURCE COS STREAM LENGTH (the priority is passed by), msg SOURCE LETTER MAILBOX LENGTH, done (document 02, M-100), refused N
+-- held, pdu SOURCE COS STREAM LENGTH (the priority is passed by), msg SOURCE LETTER MAILBOX LENGTH, refused N
 abbrev pub answer_text : Said → List ℕ
 answer_text held = text "held"
 answer_text (delivered context flow stream size) = text "pdu" ++ spaced flow.source ++ spaced flow.cos ++ spaced stream ++ spaced size
 answer_text (message context source letter mailbox size) = text "msg" ++ spaced source ++ spaced letter ++ spaced mailbox ++ spaced size
-answer_text (done request source from size) = text "done"
 answer_text (refused number) = text "refused" ++ spaced number
 
 -- then ` dropped` where so

@@ -82,12 +82,6 @@ fn put_answer(out: &mut [u8], answer: Answer) -> usize
             mailbox,
             length,
         } => put_four(out, b"msg", source, letter, mailbox, length),
-        Answer::Done {
-            request: _,
-            source: _,
-            from: _,
-            length: _,
-        } => put_text(out, 0, b"done"),
         Answer::Refused(number) => {
             let behind = put_text(out, 0, b"refused");
             put_spaced(out, behind, number)

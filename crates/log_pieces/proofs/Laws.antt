@@ -34,14 +34,14 @@ module _ (b : Desk) (log : List ℕ) (at count : ℕ) (out : List ℕ) where
   at_bad_lem r line e p = ap (λ (x : LinePut). printing (Last x.size) b x.out) p ∙ sym (ap (printed_by b log count out) e)
 
   -- a record
-  pub at_record : (from size next : ℕ) (packet : List ℕ) (r : Reading) (words streams messages memory response : List ℕ) (n : ℕ) (line : List ℕ)
+  pub at_record : (from size next : ℕ) (packet : List ℕ) (r : Reading) (words streams messages response : List ℕ) (n : ℕ) (line : List ℕ)
       → next_record log at ≡ Record from size next → packet ≡ take size (drop from log)
-      → ReadPromise (lent b packet) r (desk words streams messages memory response)
+      → ReadPromise (lent b packet) r (desk words streams messages response)
       → line_put n line ≡ put_line out (line_of (said r.answer) r.dropped)
-      → LinePromise b log at count out (Line n next) (desk words streams messages memory response) line
+      → LinePromise b log at count out (Line n next) (desk words streams messages response) line
   unfolding printed
-  at_record from size next packet r words streams messages memory response n line e same p q =
-      ap (λ (x : LinePut). printing (Line x.size next) (desk words streams messages memory response) x.out) q
+  at_record from size next packet r words streams messages response n line e same p q =
+      ap (λ (x : LinePut). printing (Line x.size next) (desk words streams messages response) x.out) q
       ∙ (ap (λ (x : Settled). printing (Line (put_line out (line_of x.says x.dropped)).size next) x.desk (put_line out (line_of x.says x.dropped)).out) p
       ∙ (ap (λ (l : List ℕ). record_printed b l out next) same
       ∙ sym (ap (printed_by b log count out) e)))

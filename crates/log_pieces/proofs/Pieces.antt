@@ -9,7 +9,7 @@ use lib.ListN.{length, take, drop, length-append, length-drop}
 use lib.Seq.{take_at}
 use borrow.Author.Tests.{le-ltb}
 use Rattle.lists.specs.Bytes.{written}
-use Rattle.lists.proofs.Written.{written-front}
+use Rattle.lists.proofs.Written.{written_front}
 use Rattle.reading.specs.Desk.{Desk}
 use Rattle.flows.specs.Fresh.{paper_desk}
 use Rattle.flows.specs.Deliveries.{read, after}
@@ -25,10 +25,10 @@ use Rattle.log_pieces.specs.Printing.{printed_by, printed, on_piece, pieces, Pie
 -- lines written in a buffer's front: its first bytes are the lines, and the room stays
 module _ (out lines : List ℕ) where
   pub written_lines : take (length lines) (written out 0 lines) ≡ lines
-  written_lines = ap (take (length lines)) (written-front out lines) ∙ take_at lines (drop (length lines) out) (length lines) refl
+  written_lines = ap (take (length lines)) (written_front out lines) ∙ take_at lines (drop (length lines) out) (length lines) refl
 
   pub still-room : 128 ≤ length out → 128 ≤ length (written out 0 lines)
-  still-room h = rw (written-front out lines) (simp (length-append, length-drop) (omega arith))
+  still-room h = rw (written_front out lines) (simp (length-append, length-drop) (omega arith))
 
 -- a line in a buffer with room
 pub put-there : (out line : List ℕ) → 128 ≤ length out → put_line out line ≡ line_put (length line) (written out 0 line)

@@ -18,15 +18,14 @@ pub fn next_line(
     state: &mut [usize],
     stream_memory: &mut [u8],
     message_memory: &mut [u8],
-    memory: &mut [u8],
     response: &mut [u8],
     log: &[u8],
     at: usize,
     count: usize,
     line: &mut [u8],
 ) -> Piece
-    ensures line_promise { LinePromise (desk state.old stream_memory.old message_memory.old memory.old response.old)
-        log.now at count line.old result (desk state.new stream_memory.new message_memory.new memory.new response.new) line.new }
+    ensures line_promise { LinePromise (desk state.old stream_memory.old message_memory.old response.old)
+        log.now at count line.old result (desk state.new stream_memory.new message_memory.new response.new) line.new }
     ensures onward { Onward (length log.now) at result }
 {
     let found = log_records::next_record(log, at);
@@ -49,7 +48,6 @@ pub fn next_line(
         state,
         stream_memory,
         message_memory,
-        memory,
         response,
         &log[from..next],
     );

@@ -28,11 +28,11 @@ set_up words r p = ap (λ (x : Stands SetupSaid). x.words) p
 
 -- nothing is put, and the whole output is still to come
 pub begins : (log words : List ℕ) (r : Begun) → length log ≤ 65536 → SetupPromise (replicate state_words 0) paper_setup r words
-    → 0 + length (still (desk words (replicate 32768 0) (replicate 32768 0) (replicate 4096 0) (replicate 263 0)) log 0 0) ≡ length (output log)
+    → 0 + length (still (desk words (replicate 32768 0) (replicate 32768 0) (replicate 7 0)) log 0 0) ≡ length (output log)
 unfolding id_bytes
 begins log words r small p =
     zero-add _
-    ∙ (ap (λ (w : List ℕ). length (still (desk w (replicate 32768 0) (replicate 32768 0) (replicate 4096 0) (replicate 263 0)) log 0 0)) (set_up words r p)
+    ∙ (ap (λ (w : List ℕ). length (still (desk w (replicate 32768 0) (replicate 32768 0) (replicate 7 0)) log 0 0)) (set_up words r p)
     ∙ ap length (short_log log small))
 
 pub too_long : (log : List ℕ) → 65536 < length log → 8 ≡ length (output log)

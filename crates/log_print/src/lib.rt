@@ -26,7 +26,6 @@ fn print_runs(log: &[u8]) -> usize
     let mut state = [0usize; contexts::WORDS];
     let mut streams = [0u8; 32768];
     let mut messages = [0u8; 32768];
-    let mut memory = [0u8; 4096];
     let mut response = [0u8; responses::LONGEST];
     let mut out = [0u8; 65536];
     endpoint::setup(
@@ -47,7 +46,6 @@ fn print_runs(log: &[u8]) -> usize
             &mut state,
             &mut streams,
             &mut messages,
-            &mut memory,
             &mut response,
             log,
             at,

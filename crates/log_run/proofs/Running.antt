@@ -9,7 +9,7 @@ use lib.Dec.{ltb}
 use borrow.Author.Tests.{le-ltb, lt-ltb}
 use borrow.Rule.Slice.PartMut.{mid_of, put_mid}
 use Rattle.lists.specs.Bytes.{written}
-use Rattle.lists.proofs.Written.{written-front, written-part, written_behind, length-written}
+use Rattle.lists.proofs.Written.{written_front, written-part, written_behind, length-written}
 use Rattle.reading.specs.Desk.{Desk}
 use Rattle.flows.specs.Deliveries.{read, after}
 use Rattle.log_records.specs.declared.Next.{Next}
@@ -102,7 +102,7 @@ begins b log at count out h = record {
   few = h;
   fits = omega arith;
   same = refl;
-  stored = sym (written-front out []);
+  stored = sym (written_front out []);
   whole = ap (rest b log at count) (let e : length out ≡ length out - 0 = omega arith in e);
 }
 
@@ -211,7 +211,7 @@ module _ (b₀ : Desk) (log : List ℕ) (at₀ count₀ : ℕ) (out₀ : List �
 pub refuses : (b : Desk) (log : List ℕ) (at count : ℕ) (out : List ℕ) → at < count
     → LogRunPromise b log at count out (record { used = 0; at = at; count = count; over = true }) b out
 unfolding log_run ran_of
-refuses b log at count out h = rw (lt-ltb at count h) (ap (run_settled (record { used = 0; at = at; count = count; over = true }) b) (sym (written-front out [])))
+refuses b log at count out h = rw (lt-ltb at count h) (ap (run_settled (record { used = 0; at = at; count = count; over = true }) b) (sym (written_front out [])))
 
 -- ---- what holds of every run: of one that puts nothing, or the last line alone; and of a record's line and a run behind it, if of that run
 module _ (log : List ℕ) (P : Desk → ℕ → ℕ → Running → Type 0)

@@ -1,4 +1,4 @@
--- Any two outcomes that a promise about the log allows are one: the answer, the desk (the state, the three memories, the response) and
+-- Any two outcomes that a promise about the log allows are one: the answer, the desk (the state, both memories, the response) and
 -- every byte of the buffer. For the reader that holds its log: crates/log_reader/specs/Once.antt.
 use Rattle.std.specs.Prelude.{ℕ, ◌≡◌, List}
 use Rattle.answers.specs.declared.Reading.{Reading}

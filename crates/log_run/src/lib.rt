@@ -22,15 +22,14 @@ pub fn run(
     state: &mut [usize],
     stream_memory: &mut [u8],
     message_memory: &mut [u8],
-    memory: &mut [u8],
     response: &mut [u8],
     log: &[u8],
     at: usize,
     count: usize,
     out: &mut [u8],
 ) -> Ran
-    ensures log_run_promise { LogRunPromise (desk state.old stream_memory.old message_memory.old memory.old response.old)
-        log.now at count out.old result (desk state.new stream_memory.new message_memory.new memory.new response.new) out.new }
+    ensures log_run_promise { LogRunPromise (desk state.old stream_memory.old message_memory.old response.old)
+        log.now at count out.old result (desk state.new stream_memory.new message_memory.new response.new) out.new }
     ensures run_onward { RunOnward (length log.now) at (length out.old) result }
 {
     if at < count {
@@ -49,7 +48,6 @@ pub fn run(
             state,
             stream_memory,
             message_memory,
-            memory,
             response,
             log,
             place,

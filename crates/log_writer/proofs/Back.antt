@@ -9,7 +9,7 @@ use lib.Dec.{ltb}
 use lib.ListN.{length, take, drop, length-append}
 use borrow.Author.Tests.{le-ltb, ltb-false}
 use Rattle.lists.specs.Bytes.{written}
-use Rattle.lists.proofs.Written.{written-front}
+use Rattle.lists.proofs.Written.{written_front}
 use Rattle.answers.specs.Answers.{wrote}
 use Rattle.tables.specs.Refusals.{row, all, verdict}
 use Rattle.writing.specs.Writer.{wrote_by}
@@ -53,7 +53,7 @@ record_reads_back out packet size e =
     let (fits, sized, left) = accepted out packet size e in
     let bytes : List ℕ = length_bytes (length packet) in
     let rest : List ℕ = drop (length (written_record packet)) out in
-    let is : (recording out packet).out ≡ bytes ++ (packet ++ rest) = left ∙ (written-front out (written_record packet) ∙ append_assoc bytes packet rest) in
+    let is : (recording out packet).out ≡ bytes ++ (packet ++ rest) = left ∙ (written_front out (written_record packet) ∙ append_assoc bytes packet rest) in
     let small : length packet < 16384 = omega arith in
     let there : length bytes + length packet ≡ size = sym (length-append bytes packet) ∙ sized in
     let first : 0 + length bytes ≡ length bytes = zero-add (length bytes) in

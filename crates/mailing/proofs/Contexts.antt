@@ -9,7 +9,7 @@ use lib.Dec.{eqb}
 use borrow.Author.Tests.{eq-eqb, eqb-true}
 use Rattle.lists.specs.First.{first_of}
 use Rattle.lists.proofs.Tests.{both}
-use Rattle.answers.specs.Answers.{Said, held, delivered, message, done, refused}
+use Rattle.answers.specs.Answers.{Said, held, delivered, message, refused}
 use Rattle.wire.specs.declared.MessageSegment.{MessageSegment}
 use Rattle.contexts.specs.declared.MessageContext.{MessageContext}
 use Rattle.contexts.specs.State.{closed_message, is_free_message, is_of_message}
@@ -26,7 +26,6 @@ abbrev pub is_told_of : Posted → Said → Bool
 is_told_of x (message context source letter mailbox size) = is_name x source letter (mailbox % 4)
 is_told_of x held = false
 is_told_of x (delivered context flow stream size) = false
-is_told_of x (done request source from size) = false
 is_told_of x (refused number) = false
 
 module _ (x : Posted) where
@@ -46,13 +45,13 @@ module _ (x : Posted) where
 
   -- another message's context is not this one's
   module _ (m : MessageSegment) (other : is_name x m.source m.letter m.mbox ≡ false) where
-    pub kept-other : (marks last : ℕ) → is_mine x (kept m marks last) ≡ false
+    pub kept_other : (marks last : ℕ) → is_mine x (kept m marks last) ≡ false
     unfolding is_of_message is_free_message
-    kept-other marks last = other
+    kept_other marks last = other
 
-    pub found-other : (c : MessageContext) → is_of_message m.source m.letter m.mbox c ≡ true → is_mine x c ≡ false
+    pub found_other : (c : MessageContext) → is_of_message m.source m.letter m.mbox c ≡ true → is_mine x c ≡ false
     unfolding is_of_message is_free_message
-    found-other c e =
+    found_other c e =
         let a = both (not (is_free_message c)) _ e in
         let b = both (eqb c.source m.source) _ a.1 in
         let d = both (eqb c.letter m.letter) _ b.1 in

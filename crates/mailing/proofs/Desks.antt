@@ -7,20 +7,16 @@ use native.Mathlib.Omega.{arith}
 use lib.ListN.{length}
 use Rattle.lists.specs.Bytes.{AreBytes}
 use Rattle.wire.specs.declared.MessageSegment.{MessageSegment}
-use Rattle.wire.specs.declared.Request.{Request}
-use Rattle.answers.specs.Answers.{Said}
-use Rattle.memories.specs.Serving.{Served, request_stepped}
-use Rattle.reading.proofs.Requests.{request_says}
 use Rattle.wire.specs.Segment.{Segment}
 use Rattle.wire.specs.Parsed.{Parsed}
-use Rattle.wire.specs.Parsed.{Refused, Stream, Message, Memory}
+use Rattle.wire.specs.Parsed.{Refused, Stream, Message}
 use Rattle.wire.specs.Parsed.{parsed}
 use Rattle.lists.specs.First.{first_of}
 use Rattle.lists.proofs.First.{first_passes}
 use Rattle.wire.specs.declared.Setup.{Setup}
 use Rattle.wire.specs.Packet.{header}
 use Rattle.wire.specs.Type11.{message_data_from}
-use Rattle.responses.specs.Type13.{response_room}
+use Rattle.responses.specs.Type13.{response_size}
 use Rattle.contexts.specs.State.{State, ids_in, message_in, closed_message, message_context}
 use Rattle.contexts.specs.Words.{state_of, words_of}
 use Rattle.contexts.proofs.Words.{sixteen, eight, state_of_lem}
@@ -30,13 +26,13 @@ use Rattle.message_rooms.specs.Placing.{MessageJoined}
 use Rattle.messages.specs.Joining.{message_stepped}
 use Rattle.reading.specs.Desk.{Desk, state_on, with_response}
 use Rattle.reading.specs.Table.{lent}
-use Rattle.reading.specs.Read.{Settled, of_stream, of_message, of_memory}
+use Rattle.reading.specs.Read.{Settled, of_stream, of_message}
 use Rattle.reading.proofs.Rows.{by_parsed}
 use Rattle.reading.proofs.Packets.{stream_parsed, message_parsed, message_small}
 use Rattle.flows.specs.Deliveries.{read, after}
 use Rattle.flows.specs.Fresh.{Lends}
 use Rattle.flows.proofs.Quiet.{Quiet}
-use Rattle.flows.proofs.Steady.{Steady, read_is, still-steady, quiet_read, request_read}
+use Rattle.flows.proofs.Steady.{Steady, read_is, still-steady, quiet_read}
 use Rattle.mailing.specs.Mail.{Posted}
 use Rattle.mailing.specs.Run.{is_of_mail}
 use Rattle.mailing.specs.ReadBack.{GoodDesk, setup_of, OthersLeaveMail}
@@ -65,7 +61,7 @@ ready {d = d} f = record {
 }
 
 -- it stays so with any response buffer that 12 allows
-pub with_buffer : {setup : Setup} {d : Desk} → Ready setup d → (given : List ℕ) → response_room (ids_in (state_on d)) ≤ length given → Ready setup (with_response d given)
+pub with_buffer : {setup : Setup} {d : Desk} → Ready setup d → (given : List ℕ) → response_size (ids_in (state_on d)) ≤ length given → Ready setup (with_response d given)
 with_buffer r given h = record {
   desk = record { good = r.desk.good; lends = record { rooms = r.desk.lends.rooms; boxes = r.desk.lends.boxes; reply = h } };
   own-setup = r.own-setup;
@@ -149,18 +145,6 @@ module _ (setup : Setup) (d : Desk) (p : List ℕ) (r : Ready setup d) (bytes : 
           silent = ap (λ (y : Settled). is_told_of x y.says) same;
         }
 
-    by_memory : (q : Request) → parsed setup p ≡ Memory q → ReadOther setup x d p
-    by_memory q e =
-        let v : Served = request_stepped (ids_in s) d.memory d.response p q in
-        let same : read d p ≡ of_memory (lent d p) v = read_as (Memory q) e in
-        record {
-          ready = subst (λ (y : Settled). Ready setup y.desk) (sym same) (still-ready (of_memory (lent d p) v) same refl refl (request_read (steady r) p q).reply);
-          stays = subst (λ (y : Settled). Stays x s d.message_memory (state_of y.desk.words) y.desk.message_memory) (sym same) (all_stays x s s d.message_memory refl);
-          silent =
-              ap (λ (y : Settled). is_told_of x y.says) same
-              ∙ request_says (ids_in s) d.memory d.response p q (λ (t : Said). is_told_of x t ≡ false) (λ request source from size. refl) (λ number. refl);
-        }
-
     by_stream : (g : Segment) → parsed setup p ≡ Stream g → ReadOther setup x d p
     by_stream g e =
         let j : stream_room.Joined = stream_step.stepped s d.stream_memory p g in
@@ -175,14 +159,13 @@ module _ (setup : Setup) (d : Desk) (p : List ℕ) (r : Ready setup d) (bytes : 
           silent = ap (λ (y : Settled). is_told_of x y.says) same ∙ beside.silent x;
         }
 
-    pub read-other : is_of_mail x (parsed setup p) ≡ false → ReadOther setup x d p
-    read-other = go (parsed setup p) refl
+    pub read_other : is_of_mail x (parsed setup p) ≡ false → ReadOther setup x d p
+    read_other = go (parsed setup p) refl
       where
         go : (y : Parsed) → parsed setup p ≡ y → is_of_mail x y ≡ false → ReadOther setup x d p
         go (Refused number) e other = by_refused number e
         go (Stream g) e other = by_stream g e
         go (Message m) e other = by_message m e other
-        go (Memory q) e other = by_memory q e
 
 -- ---- The statement
 
@@ -190,7 +173,7 @@ pub others_leave_mail : OthersLeaveMail
 unfolding message_context
 others_leave_mail d x p n g found below bytes other =
     let s : State = state_on d in
-    let t = (read-other (setup_of d) d p (record { desk = g; own-setup = refl }) bytes x other).stays in
+    let t = (read_other (setup_of d) d p (record { desk = g; own-setup = refl }) bytes x other).stays in
     let inside : first_of (is_mine x) s.messages < length s.messages = omega (arith, found, eight d.words) in
     let mine : is_mine x (message_in s n) ≡ true = ap (λ (i : ℕ). is_mine x (message_in s i)) (sym found) ∙ first_passes (is_mine x) s.messages closed_message inside in
     record { found = t.found ∙ found; context = t.context n mine; bytes = t.room n (n * 4096) 4096 mine (omega arith) (omega arith) }

@@ -6,7 +6,7 @@ use mathlib.Core.List.{List, [], ◌∷◌}
 use mathlib.Core.Bool.{false}
 use native.Mathlib.Nat.{zero-add}
 use lib.ListN.{length, take, drop}
-use Rattle.answers.specs.Answers.{Said, held, delivered, message, done, refused}
+use Rattle.answers.specs.Answers.{Said, held, delivered, message, refused}
 use Rattle.reading.specs.Desk.{Desk}
 use Rattle.room_parts.specs.Parts.{Part, part, message_room}
 use Rattle.room_parts.proofs.Laws.{message_room_itself}
@@ -34,8 +34,8 @@ hands_room d n l bytes g h fits c =
     ∙ (ap (λ (p : Part). take p.size (drop p.from c.memory.now)) place ∙ ap (λ (memory : List ℕ). in_room 4096 memory n l) c.own))
 
 -- and there is such a call, wherever the memory lies
-pub room-call : (d : Desk) (n l : ℕ) → message_room d.words (length d.message_memory) n l ≡ part (n * 4096) l → RoomCall d n l (in_room 4096 d.message_memory n l)
-room-call d n l place = record {
+pub room_call : (d : Desk) (n l : ℕ) → message_room d.words (length d.message_memory) n l ≡ part (n * 4096) l → RoomCall d n l (in_room 4096 d.message_memory n l)
+room_call d n l place = record {
   memory = record { ref_ptr = (0, 0); now = d.message_memory };
   room = record { ref_ptr = (0, n * 4096); now = in_room 4096 d.message_memory n l };
   own = refl;
@@ -63,7 +63,6 @@ module _ (x : Posted) where
       go (message context source letter mailbox size) e = rw e
       go held e = refl
       go (delivered context flow stream size) e = refl
-      go (done request source from size) e = refl
       go (refused number) e = refl
 
   -- by the calls
@@ -74,7 +73,6 @@ module _ (x : Posted) where
       go (message context source letter mailbox size) f e = ap (of_name x) f.2 ∙ rw e
       go held f e = ap (of_name x) f
       go (delivered context flow stream size) f e = ap (of_name x) f
-      go (done request source from size) f e = ap (of_name x) f
       go (refused number) f e = ap (of_name x) f
 
       itself : (n : ℕ) → n < 8 → GoodDesk d → in_room 4096 d.message_memory n (length x.mail.bytes) ≡ x.mail.bytes → FetchesMail d (mail_answer x n) mail → mail ≡ x.mail ∷ []

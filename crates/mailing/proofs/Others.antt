@@ -32,7 +32,7 @@ use Rattle.flows.proofs.Quiet.{free_there, single_shut}
 use Rattle.mailing.specs.Mail.{Posted}
 use Rattle.mailing.specs.Run.{is_name}
 use Rattle.mailing.proofs.Rooms.{before_stays, behind_stays}
-use Rattle.mailing.proofs.Contexts.{is_mine, is_told_of, free_none, closed_none, kept-other, found-other}
+use Rattle.mailing.proofs.Contexts.{is_mine, is_told_of, free_none, closed_none, kept_other, found_other}
 
 -- ---- What stays
 
@@ -122,7 +122,7 @@ module _ (x : Posted) (s : State) (eight : length s.messages ≡ 8) (memory : Li
       where
         not_kept : (b : Bool) (marks last : ℕ) → is_mine x (cond b closed_message (kept m marks last)) ≡ false
         not_kept true marks last = closed_none x
-        not_kept false marks last = kept-other x m other marks last
+        not_kept false marks last = kept_other x m other marks last
 
         told : (b : Bool) (count : ℕ) → is_told_of x (cond b (message n m.source m.letter (mailbox m) count) held) ≡ false
         told true count = own_name n count
@@ -138,7 +138,7 @@ module _ (x : Posted) (s : State) (eight : length s.messages ≡ 8) (memory : Li
   own_not t h =
       let n : ℕ = first_of (is_of_message m.source m.letter m.mbox) s.messages in
       let below : n < 8 = rw t at h in
-      rw t (found-other x m other (message_in s n) (first_passes (is_of_message m.source m.letter m.mbox) s.messages closed_message (omega arith)))
+      rw t (found_other x m other (message_in s n) (first_passes (is_of_message m.source m.letter m.mbox) s.messages closed_message (omega arith)))
 
   undisturbed_accepted : m.raw ≤ bytes_of m.ssize → needed_none_free s m ≡ false → Undisturbed x s memory (message_accepted s memory response p m)
   unfolding message_accepted

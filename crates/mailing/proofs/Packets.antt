@@ -190,7 +190,7 @@ module _ (setup : Setup) (x : Posted) (k : ℕ) (p : Postable setup x) (below : 
         ne_eqb (packet_type packet) 9 (λ e. omega (arith, type_is)),
         eq-eqb (packet_type packet) 11 type_is,
         le-ltb (length packet) (header ids + 2) (omega (arith, size_is)),
-      ) (rw (ne_eqb (packet_type packet) 9 (λ e. omega (arith, type_is)), eq-eqb (packet_type packet) 11 type_is) (ap Message is_message_lem))
+      ) (rw (ne_eqb (packet_type packet) 9 (λ e. omega (arith, type_is))) (ap Message is_message_lem))
 
   -- rows 20 to 22
   last_or_full : cond (eqb (msglen_of x) 0 || eqb (last_field x k) (msglen_of x)) (not (in_eights (length (data_at x k)) (segment_size x))) (not (eqb (length (data_at x k)) (segment_size x))) ≡ false

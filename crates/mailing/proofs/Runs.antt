@@ -29,7 +29,7 @@ use Rattle.mailing.proofs.Rooms.{inside, fits-room}
 use Rattle.mailing.proofs.Contexts.{is_mine, is_told_of, kept_mine}
 use Rattle.mailing.proofs.Segments.{Open, Holds, Delivers, only, first, next, final}
 use Rattle.mailing.proofs.Others.{Stays}
-use Rattle.mailing.proofs.Desks.{Ready, with_buffer, Read11, read_11, read-other}
+use Rattle.mailing.proofs.Desks.{Ready, with_buffer, Read11, read_11, read_other}
 use Rattle.mailing.proofs.Fetched.{Has}
 use Rattle.mailing.proofs.Calls.{Calls, none, one, call_with, of_definitions, of_promises}
 
@@ -87,8 +87,8 @@ module _ (setup : Setup) (x : Posted) (post : Postable setup x) where
 
   -- one whose answer is not of the message
   module _ (call : MailCall) {ts : List MailTurn} {cs : List MailCall} (nothing : of_name x call.mail ≡ []) where
-    other-over : {p : List ℕ} → Over ts cs → Over (other p ∷ ts) (call ∷ cs)
-    other-over h = record { none_left = h.none_left; silent = in_front call cs nothing h.silent }
+    other_over : {p : List ℕ} → Over ts cs → Over (other p ∷ ts) (call ∷ cs)
+    other_over h = record { none_left = h.none_left; silent = in_front call cs nothing h.silent }
 
     other_result : {p : List ℕ} {n c : ℕ} → Result ts cs n c → Result (other p ∷ ts) (call ∷ cs) n c
     other_result h = record { answers = h.answers; responses = h.responses; delivers = in_front call cs nothing h.delivers }
@@ -115,8 +115,8 @@ module _ (setup : Setup) (x : Posted) (post : Postable setup x) where
   over [] none r e fair = record { none_left = refl; silent = refl }
   over (segment k ∷ ts) calls r e fair = absurd (let clash : ◌≡◌ {A = ℕ} 0 1 = cc in omega arith)
   over {d} (other p ∷ ts) (one given mail h has rest) r e fair =
-      let q = read-other setup (with_response d given) p (with_buffer r given h) fair.0.0 x fair.0.1 in
-      other-over _ (has.silent q.silent) (over ts rest q.ready e fair.1)
+      let q = read_other setup (with_response d given) p (with_buffer r given h) fair.0.0 x fair.0.1 in
+      other_over _ (has.silent q.silent) (over ts rest q.ready e fair.1)
 
   -- as many numbers as a list has
   nothing_left : (ks : List ℕ) → length ks ≡ 0 → ks ≡ []
@@ -206,7 +206,7 @@ module _ (setup : Setup) (x : Posted) (post : Postable setup x) where
         → Awaits (msglen_of x) marks (arrivals ts) → length (arrivals ts) ≡ suc c → Each (FairMailTurn setup x) ts → Result ts cs n c
     joining [] n marks last c none r o w count fair = absurd (omega arith)
     joining {d} (other p ∷ ts) n marks last c (one given mail h has rest) r o w count fair =
-        let q = read-other setup (with_response d given) p (with_buffer r given h) fair.0.0 x fair.0.1 in
+        let q = read_other setup (with_response d given) p (with_buffer r given h) fair.0.0 x fair.0.1 in
         other_result _ (has.silent q.silent) (joining ts n marks last c rest q.ready (stays_open x z q.stays o) w count fair.1)
     joining {d} (segment k ∷ ts) n marks last zero (one given mail h has rest) r o w count fair =
         let e : Desk = with_response d given in
@@ -231,7 +231,7 @@ module _ (setup : Setup) (x : Posted) (post : Postable setup x) where
         → Awaits (msglen_of x) 0 (arrivals ts) → length (arrivals ts) ≡ suc (suc c) → Each (FairMailTurn setup x) ts → Result ts cs (context_at_first (of_segments ts cs)) (suc c)
     waiting [] c none r shut free w count fair = absurd (omega arith)
     waiting {d} (other p ∷ ts) c (one given mail h has rest) r shut free w count fair =
-        let q = read-other setup (with_response d given) p (with_buffer r given h) fair.0.0 x fair.0.1 in
+        let q = read_other setup (with_response d given) p (with_buffer r given h) fair.0.0 x fair.0.1 in
         other_result _ (has.silent q.silent) (waiting ts c rest q.ready (still-none q.stays shut) free w count fair.1)
     waiting {d} (segment k ∷ ts) c (one given mail h has rest) r shut free w count fair =
         let e : Desk = with_response d given in
@@ -247,7 +247,7 @@ module _ (setup : Setup) (x : Posted) (post : Postable setup x) where
       → Awaits (msglen_of x) 0 (arrivals ts) → length (arrivals ts) ≡ 1 → Each (FairMailTurn setup x) ts → Result ts cs (context_at_first (of_segments ts cs)) 0
   alone [] t none r free w count fair = absurd (omega arith)
   alone {d} (other p ∷ ts) t (one given mail h has rest) r free w count fair =
-      let q = read-other setup (with_response d given) p (with_buffer r given h) fair.0.0 x fair.0.1 in
+      let q = read_other setup (with_response d given) p (with_buffer r given h) fair.0.0 x fair.0.1 in
       other_result _ (has.silent q.silent) (alone ts t rest q.ready free w count fair.1)
   alone {d} (segment k ∷ ts) t (one given mail h has rest) r free w count fair =
       let e : Desk = with_response d given in

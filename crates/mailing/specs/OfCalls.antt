@@ -1,9 +1,9 @@
 -- A message is read back by the calls that people make: `read` for each packet, and `message_room` for the message that is delivered.
 use Rattle.std.specs.Prelude.{ℕ, ◌≤◌, ◌≡◌, List, [], ◌∷◌, length}
 use Rattle.std.specs.Borrow.{Bor}
-use Rattle.answers.specs.Answers.{Said, said, held, delivered, message, done, refused}
+use Rattle.answers.specs.Answers.{Said, said, held, delivered, message, refused}
 use Rattle.answers.specs.declared.Reading.{Reading}
-use Rattle.responses.specs.Type13.{response_room}
+use Rattle.responses.specs.Type13.{response_size}
 use Rattle.contexts.specs.State.{ids_in}
 use Rattle.reading.specs.Desk.{Desk, state_on, with_response}
 use Rattle.reading.specs.Table.{lent}
@@ -28,15 +28,14 @@ FetchesMail d (message context source letter mailbox size) mail =
     (bytes : List ℕ) × RoomCall d context size bytes × (mail ≡ record { source = source; letter = letter; mailbox = mailbox; bytes = bytes } ∷ [])
 FetchesMail d held mail = mail ≡ []
 FetchesMail d (delivered context flow stream size) mail = mail ≡ []
-FetchesMail d (done request source from size) mail = mail ≡ []
 FetchesMail d (refused number) mail = mail ≡ []
 
--- `read` for each packet, each with the state and the three memories that the call before left, and with any response buffer that 12 allows;
+-- `read` for each packet, each with the state and the two memories that the call before left, and with any response buffer that 12 allows;
 -- each outcome one that its promise allows; and where it delivers a message, `message_room` before the next call of `read`
 pub data MailCalls : Desk → List (List ℕ) → List MailCall → Type 0 where
   all_made : {d : Desk} → MailCalls d [] []
   made : {d : Desk} {p : List ℕ} {ps : List (List ℕ)} {cs : List MailCall} (given : List ℕ) (r : Reading) (left : Desk) (mail : List Mail)
-      → response_room (ids_in (state_on d)) ≤ length given
+      → response_size (ids_in (state_on d)) ≤ length given
       → ReadPromise (lent (with_response d given) p) r left
       → FetchesMail left (said r.answer) mail
       → MailCalls left ps cs

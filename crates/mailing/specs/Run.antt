@@ -1,10 +1,10 @@
 -- A run: a message's segments come among other packets, and the endpoint reads them all, a call for each packet.
 use Rattle.std.specs.Prelude.{ℕ, ◌+◌, ◌%◌, ◌≡◌, List, [], ◌∷◌, ◌++◌, map, Bool, false, cond, ◌&&◌, eqb}
 use Rattle.lists.specs.Bytes.{AreBytes}
-use Rattle.answers.specs.Answers.{Said, held, delivered, message, done, refused}
+use Rattle.answers.specs.Answers.{Said, held, delivered, message, refused}
 use Rattle.wire.specs.declared.Setup.{Setup}
 use Rattle.wire.specs.Parsed.{Parsed}
-use Rattle.wire.specs.Parsed.{Refused, Stream, Message, Memory}
+use Rattle.wire.specs.Parsed.{Refused, Stream, Message}
 use Rattle.wire.specs.Parsed.{parsed}
 use Rattle.responses.specs.Type13.{DONE, answered}
 use Rattle.contexts.specs.State.{ids_in, free_message, message_contexts}
@@ -46,7 +46,6 @@ is_name x source letter mbox = eqb source x.mail.source && (eqb letter x.mail.le
 abbrev pub is_of_mail : Posted → Parsed → Bool
 is_of_mail x (Refused number) = false
 is_of_mail x (Stream g) = false
-is_of_mail x (Memory r) = false
 is_of_mail x (Message m) = is_name x m.source m.letter m.mbox
 
 -- any other packet: made of bytes, and none of these
@@ -102,7 +101,6 @@ mail_by memory (message context source letter mailbox size) =
     record { source = source; letter = letter; mailbox = mailbox; bytes = in_room message_room_bytes memory context size } ∷ []
 mail_by memory held = []
 mail_by memory (delivered context flow stream size) = []
-mail_by memory (done request source from size) = []
 mail_by memory (refused number) = []
 
 abbrev pub call_of : Desk → List ℕ → MailCall

@@ -1,7 +1,7 @@
 -- What a type 11 packet leaves, accepted or refused (document 01, 'Cutting and joining PDUs', messages).
 use Rattle.std.specs.Prelude.{ℕ, ◌*◌, List, cond}
 use Rattle.lists.specs.Bytes.{written}
-use Rattle.tables.specs.Refusals.{Leaves, all, flow_closed, all_error, all_retry, all_request_error, verdict, by_verdict}
+use Rattle.tables.specs.Refusals.{Leaves, all, flow_closed, all_error, all_retry, verdict, by_verdict}
 use Rattle.answers.specs.Answers.{message, refused}
 use Rattle.wire.specs.declared.MessageSegment.{MessageSegment}
 use Rattle.wire.specs.Type11.{is_single, mailbox}
@@ -36,7 +36,6 @@ message_refusing s memory response p number all = message_joining (refused numbe
 message_refusing s memory response p number flow_closed = message_joining (refused number) s memory response
 message_refusing s memory response p number all_error = refused_with s memory response p number ERROR
 message_refusing s memory response p number all_retry = refused_with s memory response p number RETRY
-message_refusing s memory response p number all_request_error = message_joining (refused number) s memory response
 
 -- a type 11 packet from row 20 on: the first row that holds decides
 unfoldable pub message_stepped : State → List ℕ → List ℕ → List ℕ → MessageSegment → MessageJoined

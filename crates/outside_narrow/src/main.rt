@@ -7,9 +7,9 @@ use libc::STDIN_FILENO;
 use log_records::Next;
 use printing::{print_bytes, print_number, print_text};
 
-// The bytes of a response; none where none was written.
-fn print_response(response: &[u8]) {
-    if response.len() == 0 {
+// With IDs of 8 bits every response has five bytes, and none begins with 0.
+fn print_response(response: &[u8; 5]) {
+    if response[0] == 0 {
         print_text(b"none\n");
         return;
     }
@@ -17,29 +17,19 @@ fn print_response(response: &[u8]) {
     print_text(b"\n");
 }
 
-// Reads one packet, with a response buffer of zeros. It has room for a response with IDs of either width: the smallest buffer that is allowed,
-// 261 bytes, is not tried here.
+// Reads one packet, with a response buffer of zeros that has room for a response and no more.
 fn print_packet(
     state: &mut [usize],
     stream_memory: &mut [u8],
     message_memory: &mut [u8],
-    memory: &mut [u8],
     packet: &[u8],
 ) {
-    let mut response = [0u8; responses::LONGEST];
+    let mut response = [0u8; 5];
     let mut line = [0u8; 128];
-    let reading = endpoint::read(
-        state,
-        stream_memory,
-        message_memory,
-        memory,
-        &mut response,
-        packet,
-    );
-    let written = reading.response;
+    let reading = endpoint::read(state, stream_memory, message_memory, &mut response, packet);
     let size = log_lines::write_line(&mut line, reading);
-    print_text(&line[0..size]);
-    print_response(&response[0..written]);
+    print_text(&line[..size]);
+    print_response(&response);
 }
 
 // Reads the packet of the record at that place, and answers the place behind it. Where there is none, at the end or in a bad log, it answers
@@ -48,7 +38,6 @@ fn print_record(
     state: &mut [usize],
     stream_memory: &mut [u8],
     message_memory: &mut [u8],
-    memory: &mut [u8],
     log: &[u8],
     at: usize,
 ) -> usize
@@ -63,13 +52,7 @@ fn print_record(
     else {
         return log.len();
     };
-    print_packet(
-        state,
-        stream_memory,
-        message_memory,
-        memory,
-        &log[from..next],
-    );
+    print_packet(state, stream_memory, message_memory, &log[from..next]);
     next
 }
 
@@ -78,12 +61,11 @@ fn print_records(
     state: &mut [usize],
     stream_memory: &mut [u8],
     message_memory: &mut [u8],
-    memory: &mut [u8],
     log: &[u8],
 ) {
     let mut at = 0;
     while at < log.len() {
-        at = print_record(state, stream_memory, message_memory, memory, log, at);
+        at = print_record(state, stream_memory, message_memory, log, at);
     }
 }
 
@@ -92,7 +74,6 @@ fn print_log(log: &[u8]) {
     let mut state = [0usize; contexts::WORDS];
     let mut streams = [0u8; 32768];
     let mut messages = [0u8; 32768];
-    let mut memory = [0u8; 4096];
     let settings = Setup {
         device: 1,
         mtu: 32,
@@ -103,7 +84,7 @@ fn print_log(log: &[u8]) {
     print_text(b"log ");
     print_number(log.len());
     print_text(b"\n");
-    print_records(&mut state, &mut streams, &mut messages, &mut memory, log);
+    print_records(&mut state, &mut streams, &mut messages, log);
 }
 
 // Prints the log whose length stands at that place, and answers the place behind it. A log that is cut is not printed.
@@ -128,7 +109,7 @@ fn print_bundle(bundle: &[u8]) {
 }
 
 fn main() {
-    let mut bundle = [0u8; 327680];
+    let mut bundle = [0u8; 262144];
     let n = io::read_full(STDIN_FILENO, &mut bundle);
     print_bundle(&bundle[..n]);
 }

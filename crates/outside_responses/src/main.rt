@@ -7,9 +7,9 @@ use libc::STDIN_FILENO;
 use log_records::Next;
 use printing::{print_bytes, print_text};
 
-// The bytes of a response; none where none was written.
-fn print_response(response: &[u8]) {
-    if response.len() == 0 {
+// With IDs of 16 bits every response has seven bytes, and none begins with 0.
+fn print_response(response: &[u8; 7]) {
+    if response[0] == 0 {
         print_text(b"none\n");
         return;
     }
@@ -22,23 +22,14 @@ fn print_packet(
     state: &mut [usize],
     stream_memory: &mut [u8],
     message_memory: &mut [u8],
-    memory: &mut [u8],
     packet: &[u8],
 ) {
-    let mut response = [0u8; responses::LONGEST];
+    let mut response = [0u8; 7];
     let mut line = [0u8; 128];
-    let reading = endpoint::read(
-        state,
-        stream_memory,
-        message_memory,
-        memory,
-        &mut response,
-        packet,
-    );
-    let written = reading.response;
+    let reading = endpoint::read(state, stream_memory, message_memory, &mut response, packet);
     let size = log_lines::write_line(&mut line, reading);
-    print_text(&line[0..size]);
-    print_response(&response[0..written]);
+    print_text(&line[..size]);
+    print_response(&response);
 }
 
 // Reads the packet that was found in the log, if one was. Answers whether one was.
@@ -46,7 +37,6 @@ fn print_found<'a, 'b>(
     state: &'a mut [usize],
     stream_memory: &'a mut [u8],
     message_memory: &'a mut [u8],
-    memory: &'a mut [u8],
     log: &'b [u8],
     found: Next,
 ) -> bool
@@ -61,13 +51,7 @@ fn print_found<'a, 'b>(
     else {
         return false;
     };
-    print_packet(
-        state,
-        stream_memory,
-        message_memory,
-        memory,
-        &log[from..next],
-    );
+    print_packet(state, stream_memory, message_memory, &log[from..next]);
     true
 }
 
@@ -76,13 +60,12 @@ fn print_packets(
     state: &mut [usize],
     stream_memory: &mut [u8],
     message_memory: &mut [u8],
-    memory: &mut [u8],
     log: &[u8],
 ) {
     let mut reader = log_reader::new(log);
     loop {
         let found = log_reader::next(&mut reader);
-        if !print_found(state, stream_memory, message_memory, memory, log, found) {
+        if !print_found(state, stream_memory, message_memory, log, found) {
             return;
         }
     }
@@ -92,7 +75,6 @@ fn main() {
     let mut state = [0usize; contexts::WORDS];
     let mut streams = [0u8; 32768];
     let mut messages = [0u8; 32768];
-    let mut memory = [0u8; 4096];
     let mut log = [0u8; 65536];
     endpoint::setup(
         &mut state,
@@ -104,11 +86,5 @@ fn main() {
         },
     );
     let n = io::read_full(STDIN_FILENO, &mut log);
-    print_packets(
-        &mut state,
-        &mut streams,
-        &mut messages,
-        &mut memory,
-        &log[..n],
-    );
+    print_packets(&mut state, &mut streams, &mut messages, &log[..n]);
 }

@@ -1,1 +1,1 @@
-pub mod Parting
+mod Parting

@@ -1,7 +1,6 @@
 -- Each example by computation.
 use mathlib.Core.Path.{refl}
 use Rattle.paper_examples.specs.Table.{ExamplesHold, ExamplesOf02}
-use Rattle.paper_examples.specs.Memory.{MemoryExampleHolds}
 use Rattle.paper_examples.proofs.Computing.{computing}
 
 pub examples_hold : ExamplesHold
@@ -11,7 +10,3 @@ examples_hold = (refl, (refl, (refl, (refl, (refl, (refl, (refl, (refl, (refl, (
 pub examples_of_02 : ExamplesOf02
 unfolding computing
 examples_of_02 = ((refl, (refl, (refl, (refl, (refl, tt))))), ((refl, (refl, (refl, (refl, (refl, tt))))), tt))
-
-pub memory_example_holds : MemoryExampleHolds
-unfolding computing
-memory_example_holds = (refl, (refl, tt))

@@ -1,7 +1,7 @@
 -- What an example of document 01 is, and what it means that it comes out: the packets are read one after the other by the written definitions.
-use Rattle.std.specs.Prelude.{ℕ, zero, suc, ◌+◌, ◌%◌, ◌≡◌, List, [], ◌∷◌, map, Bool, true, false, cond, ◌&&◌, length, take, drop, eqb}
+use Rattle.std.specs.Prelude.{ℕ, zero, suc, ◌+◌, ◌%◌, ◌≡◌, List, [], ◌∷◌, map, Bool, true, false, cond, ◌&&◌, length, eqb}
 use Rattle.lists.specs.Bytes.{byte, word}
-use Rattle.answers.specs.Answers.{Said, held, delivered, message, done, refused}
+use Rattle.answers.specs.Answers.{Said, held, delivered, message, refused}
 use Rattle.wire.specs.Packet.{header}
 use Rattle.contexts.specs.declared.StreamContext.{StreamContext}
 use Rattle.contexts.specs.State.{ids_in, stream_in}
@@ -41,10 +41,8 @@ pub data Fact : Type 0 where
   delivers : List ℕ → Fact
   -- what is delivered is not this
   delivers_not : List ℕ → Fact
-  -- the response that is written
+  -- what the response buffer then holds
   response : List ℕ → Fact
-  -- the bytes that the memory then holds from an address on
-  memory_holds : (at : ℕ) → List ℕ → Fact
   -- what a stream context then holds
   context_holds : (context : ℕ) → StreamContext → Fact
 
@@ -60,7 +58,7 @@ gets says facts = arrives says false facts
 abbrev pub gets_dropped : Said → List Fact → Line
 gets_dropped says facts = arrives says true facts
 
--- an example: its number in the paper (of a request of document 02, the request's), the width of an ID, the packets that are sent, and a line for each
+-- an example: its number in the paper, the width of an ID, the packets that are sent, and a line for each
 pub record Example : Type 0 where
   pub number : ℕ
   pub narrow : ℕ
@@ -82,7 +80,6 @@ abbrev pub delivered_bytes : Desk → Said → List ℕ
 delivered_bytes d (delivered context flow stream size) = in_room (state_on d).setup.room d.stream_memory context size
 delivered_bytes d (message context source letter mailbox size) = in_room message_room_bytes d.message_memory context size
 delivered_bytes d held = []
-delivered_bytes d (done request source from size) = []
 delivered_bytes d (refused number) = []
 
 abbrev pub same_bytes : List ℕ → List ℕ → Bool
@@ -98,8 +95,7 @@ found d p (has_byte place n) = has_byte place (byte p place)
 found d p (length_field n) = length_field (word p (header (ids_in (state_on d)) + 2))
 found d p (delivers bytes) = delivers (delivered_bytes (after d p) (read d p).says)
 found d p (delivers_not bytes) = cond (same_bytes (delivered_bytes (after d p) (read d p).says) bytes) (delivers bytes) (delivers_not bytes)
-found d p (response bytes) = response (take (read d p).replied (after d p).response)
-found d p (memory_holds at bytes) = memory_holds at (take (length bytes) (drop at (after d p).memory))
+found d p (response bytes) = response (after d p).response
 found d p (context_holds context c) = context_holds context (stream_in (state_on (after d p)) context)
 
 -- the lines as they are for these packets, each read with what the one before left. Where there are more packets than lines, a line too many

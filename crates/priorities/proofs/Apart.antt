@@ -12,7 +12,7 @@ use Rattle.wire.specs.declared.Setup.{Setup}
 use Rattle.wire.specs.Segment.{Segment}
 use Rattle.wire.specs.Packet.{priority, ids_of}
 use Rattle.wire.specs.Type9.{flow_of}
-use Rattle.wire.specs.Parsed.{Parsed, Refused, Stream, Message, Memory, parsed}
+use Rattle.wire.specs.Parsed.{Parsed, Refused, Stream, Message, parsed}
 use Rattle.wire.proofs.Fields.{flow_is}
 use Rattle.wire.proofs.SameFlow.{ne_same}
 use Rattle.contexts.specs.State.{closed_stream, is_of_flow, flow_context, stream_in}
@@ -54,8 +54,8 @@ packets-without setup flow [] q behind e = rw e
 packets-without setup flow (x ∷ xs) q behind e =
     ap (λ (l : List (List ℕ)). cond (is_of flow (parsed setup x)) (x ∷ l) l) (packets-without setup flow xs q behind e)
 
-pub priority-apart : PriorityApart
-priority-apart setup d p q flows before behind but fresh = record {
+pub priority_apart : PriorityApart
+priority_apart setup d p q flows before behind but fresh = record {
   two_flows = ne_same (flow_of ids p) (flow_of ids q) differ;
   two_contexts = never_shared (flow_of ids p) (flow_of ids q) differ;
   never_joined = λ n mine yours.
@@ -80,4 +80,3 @@ priority-apart setup d p q flows before behind but fresh = record {
         ne_same g.flow (flow_of ids p)
         (λ same. differ (sym (sym (ap (λ (y : Segment). y.flow) (stream_parsed q setup g e).0 ∙ flow_is ids q) ∙ same)))
     others (Message m) e = refl
-    others (Memory r) e = refl

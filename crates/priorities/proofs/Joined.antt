@@ -20,17 +20,16 @@ use Rattle.answers.specs.Answers.{Said, held, delivered, refused}
 use Rattle.wire.specs.declared.Flow.{Flow}
 use Rattle.wire.specs.declared.Setup.{Setup}
 use Rattle.wire.specs.declared.MessageSegment.{MessageSegment}
-use Rattle.wire.specs.declared.Request.{Request}
 use Rattle.wire.specs.Segment.{Segment}
 use Rattle.wire.specs.Packet.{ids_of}
 use Rattle.wire.specs.Head.{is9}
-use Rattle.wire.specs.Parsed.{Parsed, Refused, Stream, Message, Memory, parsed}
+use Rattle.wire.specs.Parsed.{Parsed, Refused, Stream, Message, parsed}
 use Rattle.wire.specs.Type9.{flow_of, segment_of}
 use Rattle.wire.proofs.Fields.{begins_is, flow_is}
-use Rattle.wire.proofs.HeadLaws.{not_9, no_segment, stream_passed, message_passed, memory_passed}
+use Rattle.wire.proofs.HeadLaws.{stream_passed, message_passed}
 use Rattle.sizes.specs.Sizes.{data_length}
 use Rattle.contexts.specs.declared.StreamContext.{StreamContext}
-use Rattle.contexts.specs.State.{State, ids_in, fresh, stream_in, with_stream, closed_stream, open_stream, is_free_stream, is_of_flow, flow_context, free_stream}
+use Rattle.contexts.specs.State.{State, fresh, stream_in, with_stream, closed_stream, open_stream, is_free_stream, is_of_flow, flow_context, free_stream}
 use Rattle.contexts.specs.Words.{state_of, words_of}
 use Rattle.contexts.proofs.Words.{sixteen, eight, state_of_lem}
 use Rattle.contexts.proofs.Flows.{of_flow_lem}
@@ -40,19 +39,18 @@ use Rattle.streams.specs.Rows.{found_for, flow_open, held_before, not_open, pass
 use Rattle.streams.specs.Joining.{context_for, stream_id, accepted, refused_closing, refused_staying, stream_refusing, stepped}
 use Rattle.messages.specs.Joining.{message_stepped}
 use Rattle.message_rooms.specs.Placing.{MessageJoined}
-use Rattle.memories.specs.Serving.{Served, request_stepped}
 use Rattle.reading.specs.Desk.{Desk, state_on}
 use Rattle.reading.specs.Table.{lent}
-use Rattle.reading.specs.Read.{Settled, of_stream, of_message, of_memory}
+use Rattle.reading.specs.Read.{Settled, of_stream, of_message}
 use Rattle.reading.proofs.Packets.{stream_parsed}
 use Rattle.flows.specs.Deliveries.{in_room, read, after, desk_after, delivered_by}
 use Rattle.flows.specs.Fresh.{Fresh}
 use Rattle.flows.proofs.Contexts.{at, within, closed_free, of_open, put_closed, Place, here, there, place}
-use Rattle.flows.proofs.Rooms.{stored-length, stored-own, stored-apart}
+use Rattle.flows.proofs.Rooms.{stored-length, stored-own, stored_apart}
 use Rattle.flows.proofs.Quiet.{Quiet}
 use Rattle.flows.proofs.Machine.{data_length_lem}
 use Rattle.flows.proofs.Fine.{fresh_at}
-use Rattle.flows.proofs.Steady.{Steady, Asked, fresh_back, fresh-steady, rooms_on, read_is, still-steady, quiet_read, request_read}
+use Rattle.flows.proofs.Steady.{Steady, fresh_back, fresh-steady, rooms_on, read_is, still-steady, quiet_read}
 use Rattle.priorities.specs.Joined.{is_stored, Parts, with_part, parts_with, parts_after, joined_to, HasFlow, JoinedOf, DeliveredFlow}
 
 -- ---- Packets joined, and one more behind them
@@ -235,7 +233,7 @@ module _ (setup : Setup) (b : Desk) (p : List ℕ) (parts : Parts) (f : Steady s
       others says n ne opened =
           let small = stream_holds room (at s.streams n) ((good s f.good).streams n (within s.streams n opened)) opened in
           subst (JoinedOf setup (at s.streams n).flow (in_room room stored n (at s.streams n).held)) (sym (elsewhere says n ne))
-          (subst (λ (l : List ℕ). JoinedOf setup (at s.streams n).flow l (parts n)) (sym (stored-apart room memory (rooms_on f) mine in_place base bytes fits n (at s.streams n).held ne small.1)) (so_made n opened))
+          (subst (λ (l : List ℕ). JoinedOf setup (at s.streams n).flow l (parts n)) (sym (stored_apart room memory (rooms_on f) mine in_place base bytes fits n (at s.streams n).held ne small.1)) (so_made n opened))
 
       -- an answer that is stored, and the context as it is left
       left_with : (says : Said) (c : StreamContext) (dropped : Bool) → is_stored says ≡ true
@@ -335,17 +333,6 @@ module _ (setup : Setup) (b : Desk) (p : List ℕ) (parts : Parts) (k : Kept set
             subst (λ (t : Setup). JoinedOf setup flow (in_room t.room j.memory context size) (parts_with setup b p j.says parts context)) k.steady.same-setup (l.tells context flow stream size is),
       )
 
-  -- of a packet that is not of type 9 nothing is joined
-  none-joined : is9 p ≡ false → (says : Said) (n : ℕ) → parts_with setup b p says parts n ≡ parts n
-  none-joined f says n = rw f (go (is_stored says))
-    where
-      go : (x : Bool) → cond (x && false) (with_part setup p (parts n)) (parts n) ≡ parts n
-      go true = refl
-      go false = refl
-
-  silent : {A : Type 0} (context : ℕ) (flow : Flow) (stream size : ℕ) → delivered_by 0 [] (delivered context flow stream size) ≡ [] → A
-  silent context flow stream size none_of = absurd (let z : ◌≡◌ {A = ℕ} 0 1 = cc in omega arith)
-
   by_message : (m : MessageSegment) → parsed setup p ≡ Message m → Goal setup b p parts (read b p)
   by_message m e =
       let j : MessageJoined = message_stepped (state_on b) b.message_memory b.response p m in
@@ -366,23 +353,16 @@ module _ (setup : Setup) (b : Desk) (p : List ℕ) (parts : Parts) (k : Kept set
       Made· : List ℕ → List StreamContext → Type 0
       Made· memory cs = Made setup setup.room cs memory parts
 
+      -- nothing is joined
       stays : (says : Said) (n : ℕ) → parts_with setup b p says parts n ≡ parts n
-      stays = none-joined (not_9 p (message_passed p setup m e).1)
+      stays says n = rw (message_passed p setup m e).1 (go (is_stored says))
+        where
+          go : (x : Bool) → cond (x && false) (with_part setup p (parts n)) (parts n) ≡ parts n
+          go true = refl
+          go false = refl
 
-  by_memory : (r : Request) → parsed setup p ≡ Memory r → Goal setup b p parts (read b p)
-  by_memory r e =
-      let v : Served = request_stepped (ids_in (state_on b)) b.memory b.response p r in
-      let asked : Asked b v = request_read k.steady p r in
-      let stays : (says : Said) (n : ℕ) → parts_with setup b p says parts n ≡ parts n = none-joined (no_segment p (memory_passed p setup r e).1).0 in
-      let same : read b p ≡ of_memory (lent b p) v = read_is k.steady p (Memory r) e in
-      subst (Goal setup b p parts) (sym same) (
-        record {
-          steady = still-steady k.steady p bytes (of_memory (lent b p) v) same refl refl asked.reply;
-          common = λ n. subst (Common setup) (sym (stays v.says n)) (k.common n);
-          made = λ n opened. subst (JoinedOf setup _ _) (sym (stays v.says n)) (k.made n opened);
-        },
-        λ context flow stream size is. silent context flow stream size (ap (delivered_by 0 []) (sym is) ∙ asked.tells 0 []),
-      )
+      silent : {A : Type 0} (context : ℕ) (flow : Flow) (stream size : ℕ) → delivered_by 0 [] (delivered context flow stream size) ≡ [] → A
+      silent context flow stream size none_of = absurd (let z : ◌≡◌ {A = ℕ} 0 1 = cc in omega arith)
 
   step : Goal setup b p parts (read b p)
   step = go (parsed setup p) refl
@@ -391,7 +371,6 @@ module _ (setup : Setup) (b : Desk) (p : List ℕ) (parts : Parts) (k : Kept set
       go (Refused number) e = by_refused number e
       go (Stream g) e = by_stream (e ∙ ap Stream (stream_parsed p setup g e).0)
       go (Message m) e = by_message m e
-      go (Memory r) e = by_memory r e
 
 -- ---- Packet after packet, from fresh
 

@@ -4,7 +4,7 @@ use Rattle.std.specs.Prelude.{ℕ, ◌≡◌, List, [], ◌∷◌, ◌++◌, map
 use Rattle.lists.specs.Bytes.{AreBytes}
 use Rattle.lists.specs.Each.{Each}
 use Rattle.lists.specs.Rows.{joined}
-use Rattle.answers.specs.Answers.{Said, held, delivered, message, done, refused}
+use Rattle.answers.specs.Answers.{Said, held, delivered, message, refused}
 use Rattle.wire.specs.declared.Flow.{Flow}
 use Rattle.wire.specs.declared.Setup.{Setup}
 use Rattle.wire.specs.Packet as packet
@@ -25,7 +25,6 @@ abbrev pub is_stored : Said → Bool
 is_stored held = true
 is_stored (delivered context flow stream size) = true
 is_stored (message context source letter mailbox size) = false
-is_stored (done request source from size) = false
 is_stored (refused number) = false
 
 -- at an answer: they go into the room of context n, the one that the PDU uses

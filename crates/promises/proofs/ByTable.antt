@@ -5,25 +5,25 @@ use mathlib.Core.List.{List}
 use mathlib.Core.Bool.{Bool}
 use native.Mathlib.Omega.{arith}
 use Rattle.lists.proofs.Tests.{chosen}
-use Rattle.tables.specs.Refusals.{RowOf, Leaves, all, flow_closed, all_error, all_retry, all_request_error, VerdictOf, refuse, accept, verdict, by_verdict, Decides, none}
+use Rattle.tables.specs.Refusals.{RowOf, Leaves, all, flow_closed, all_error, all_retry, VerdictOf, refuse, accept, verdict, by_verdict, Decides, none}
 use Rattle.tables.proofs.Exactly.{answered, decided, accepted, none-held}
 use Rattle.answers.specs.Answers.{Said, held, refused, AbandonSaid, abandon_refused, StreamContextSaid, stream_ask_refused, MessageContextSaid, message_ask_refused}
 use Rattle.wire.specs.Parsed.{Parsed}
-use Rattle.wire.specs.Parsed.{Refused}
+use Rattle.wire.specs.Parsed.{Refused, Stream, Message}
 use Rattle.wire.specs.Packet.{ids_of}
-use Rattle.wire.specs.Type11.{is_single}
-use Rattle.wire.specs.Head.{is9, is11, head_rows}
+use Rattle.wire.specs.Type9.{segment_of}
+use Rattle.wire.specs.Type11.{is_single, message_of}
+use Rattle.wire.specs.Head.{is9, head_rows}
 use Rattle.wire.specs.Parsed.{parsed, parsed_by}
-use Rattle.contexts.specs.State.{State, ids_in, stream_in, message_in, with_stream, with_message, closed_stream, closed_message, is_free_stream, is_free_message, stream_contexts, message_contexts}
+use Rattle.contexts.specs.State.{State, stream_in, message_in, with_stream, with_message, closed_stream, closed_message, is_free_stream, is_free_message, stream_contexts, message_contexts}
 use Rattle.contexts.specs.Words.{state_of}
 use Rattle.stream_rooms.specs.Placing as stream_room
 use Rattle.streams.specs.Joining as stream
 use Rattle.message_rooms.specs.Placing as message_room
 use Rattle.messages.specs.Joining as message
 use Rattle.messages.specs.Rows.{message_open}
-use Rattle.reading.specs.Table.{Lent, state_in, segment_in, message_segment_in, request_in, table}
+use Rattle.reading.specs.Table.{Lent, state_in, segment_in, message_segment_in, table}
 use Rattle.reading.specs.Read.{Settled, refusing, accepting, outcome, reading}
-use Rattle.reading.proofs.Requests.{served_says, refused_says}
 use Rattle.endpoint.specs.Calls.{setup_table, setup_by, setup}
 use Rattle.answers.specs.Stands.{Stands}
 use Rattle.abandoning.specs.Abandoning.{context_table, abandon_by, abandon_stream, abandon_message}
@@ -72,7 +72,6 @@ number-said x number all = refl
 number-said x number flow_closed = refl
 number-said x number all_error = refl
 number-said x number all_retry = refl
-number-said x number all_request_error = refused_says (ids_in (state_in x)) x.desk.memory x.desk.response x.packet (request_in x) (λ (s : Said). s ≡ refused number) number refl
 
 module _ (x : Lent) where
   stream_no : no_refusal (stream.accepted (state_in x) x.desk.stream_memory x.packet (segment_in x)).says
@@ -91,10 +90,7 @@ module _ (x : Lent) where
       (chosen (λ (j : message_room.MessageJoined). no_refusal j.says) (message_open (state_in x) (message_segment_in x)) _ _ (placed_no _ _ _) (placed_no _ 0 0))
 
   accepted_no : no_refusal (accepting x).says
-  accepted_no =
-      chosen (λ (l : Settled). no_refusal l.says) (is9 x.packet) _ _ stream_no
-      (chosen (λ (l : Settled). no_refusal l.says) (is11 x.packet) _ _ message_no
-      (served_says (ids_in (state_in x)) x.desk.memory x.desk.response x.packet (request_in x) no_refusal (λ a b c d number e. let z : ◌≡◌ {A = ℕ} 0 1 = cc in omega arith)))
+  accepted_no = chosen (λ (l : Settled). no_refusal l.says) (is9 x.packet) _ _ stream_no message_no
 
 pub reading_by_table : ReadingByTable
 unfolding reading
@@ -108,8 +104,8 @@ pub head_by_table : HeadByTable
 unfolding parsed
 head_by_table settings p =
     by_table (head_rows settings.device (ids_of settings) p) (λ (n : ℕ) (o : Parsed). o ≡ Refused n) (parsed_by (ids_of settings) p) (λ number leaves. refl) (λ n number leaves e. cc)
-    (λ n. chosen (λ (o : Parsed). o ≡ Refused n → ⊥) (is9 p) _ _ (λ e. let z : ◌≡◌ {A = ℕ} 0 1 = cc in omega arith)
-    (chosen (λ (o : Parsed). o ≡ Refused n → ⊥) (is11 p) _ _ (λ e. let z : ◌≡◌ {A = ℕ} 0 1 = cc in omega arith) (λ e. let z : ◌≡◌ {A = ℕ} 0 1 = cc in omega arith)))
+    (λ n. chosen (λ (o : Parsed). o ≡ Refused n → ⊥) (is9 p) (Stream (segment_of (ids_of settings) p)) (Message (message_of (ids_of settings) p)) (λ e. let z : ◌≡◌ {A = ℕ} 0 1 = cc in omega arith)
+    (λ e. let z : ◌≡◌ {A = ℕ} 0 1 = cc in omega arith))
 
 pub setup_by-table : SetupByTable
 unfolding setup

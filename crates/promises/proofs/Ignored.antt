@@ -232,13 +232,13 @@ unfolding below agree has_ignored is_pad segment_of segment_at id_bytes narrowed
 ignored_not_empty = (
   record {
     alike = record { size = refl; others = all_agree 2 plain_packet strange_packet refl; S-E = refl; xh_O_P = refl };
-    other-bits = λ e. omega arith;
+    other_bits = λ e. omega arith;
     other_pad = λ e. omega arith;
   },
   (
     record {
       alike = record { size = refl; others = all_agree 1 (narrowed plain_packet) (narrowed strange_packet) refl; S-E = refl; xh_O_P = refl };
-      other-bits = λ e. omega arith;
+      other_bits = λ e. omega arith;
       other_pad = λ e. omega arith;
     },
     tt,

@@ -1,6 +1,6 @@
 -- The promises hold: each by the theorem that is cited.
 use Rattle.sending.proofs.Cut.{segments-read_back}
-use Rattle.sending.proofs.Meaning.{in_order, whole_is-intact}
+use Rattle.sending.proofs.Meaning.{in_order, whole_is_intact}
 use Rattle.sending.proofs.Joint.{joint_exactly, joint_only, joint-length, joint_unsent}
 use Rattle.sending.proofs.Untold.{joint_untold}
 use Rattle.sending.proofs.Mixture.{mixture-is_fair}
@@ -9,17 +9,14 @@ use Rattle.sending.proofs.Widths.{segment_of_other_width_refused, segments_same_
 use Rattle.flows.proofs.Apart.{flows_apart, same_packets_same_answers}
 use Rattle.flows.proofs.Widths.{other_width_refused, same_but_for_ids}
 use Rattle.priorities.proofs.Joined.{delivered_flow}
-use Rattle.priorities.proofs.Apart.{priority-apart}
+use Rattle.priorities.proofs.Apart.{priority_apart}
 use Rattle.counting.proofs.Complete.{complete_by_count, marks_within}
 use Rattle.mailing.proofs.Packets.{mail_read}
 use Rattle.mailing.proofs.Desks.{others_leave_mail}
 use Rattle.mailing.proofs.Runs.{message_read_back_of_calls}
 use Rattle.eleven.proofs.Eleven.{mail_runs_not_empty}
 use Rattle.eleven.proofs.LastFirst.{last_first_delivered}
-use Rattle.paper_examples.proofs.Table.{examples_hold, examples_of_02, memory_example_holds}
-use Rattle.exchanging.proofs.Exchanging.{memory_read_exactly, memory_written_exactly, memory_apart, read_after_write}
-use Rattle.exchanging.proofs.Outcomes.{memory_decides_nothing}
-use Rattle.exchanging.proofs.Witnesses.{exchanging_not_empty}
+use Rattle.paper_examples.proofs.Table.{examples_hold, examples_of_02}
 use Rattle.calls.proofs.Rooms.{room_of_delivered}
 use Rattle.demands.proofs.Demands.{ours_meets, our_writer_meets, corollary3}
 use Rattle.demands.proofs.OfCalls.{demand2_of_calls, demand3_of_calls, demand3_any_loss}
@@ -49,7 +46,6 @@ premises_can_be_met = record {
   flows = flows_not_empty;
   priority = priority_not_empty;
   widths = widths_not_empty;
-  exchanging = exchanging_not_empty;
   joint = joint_not_empty;
 }
 
@@ -77,7 +73,7 @@ promises = record {
   corollary3 = corollary3;
   any_loss = demand3_any_loss;
   in_order = in_order;
-  whole_is-intact = whole_is-intact;
+  whole_is_intact = whole_is_intact;
   flows_apart = flows_apart;
   same_answers = same_packets_same_answers;
   ours = ours_meets;
@@ -89,20 +85,14 @@ promises = record {
   joint_unsent = joint_unsent;
   joint_untold = joint_untold;
   other_width = other_width_refused;
-  other-segment = segment_of_other_width_refused;
+  other_segment = segment_of_other_width_refused;
   same-segments = segments_same_but_for_ids;
   same-packets = same_but_for_ids;
   delivered_flow = delivered_flow;
-  priority-apart = priority-apart;
+  priority_apart = priority_apart;
   complete_by_count = complete_by_count;
   marks_within = marks_within;
-  memory_read = memory_read_exactly;
-  memory_written_lem = memory_written_exactly;
-  memory_apart = memory_apart;
-  memory_decides_nothing = memory_decides_nothing;
-  read_after_write = read_after_write;
   examples = examples_hold;
   examples_of_02 = examples_of_02;
-  memory_example_lem = memory_example_holds;
   witnesses = premises_can_be_met;
 }

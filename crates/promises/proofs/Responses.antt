@@ -1,6 +1,6 @@
 -- Responses: when one is written, by whom, its fields, and that its buffer decides nothing.
-use Prim.Native.Nat.{ℕ, ◌+◌, ◌/◌, ◌%◌, ◌≤◌}
-use mathlib.Core.Path.{◌≡◌, refl, ap, sym, subst, ◌∙◌}
+use Prim.Native.Nat.{ℕ, ◌+◌, ◌*◌, ◌/◌, ◌%◌, ◌≤◌}
+use mathlib.Core.Path.{◌≡◌, refl, ◌∙◌}
 use mathlib.Core.Bool.{Bool, true, false, cond}
 use native.Mathlib.Omega.{arith}
 use lib.Dec.{ltb}
@@ -9,15 +9,12 @@ use Rattle.lists.specs.Bytes.{byte, AreBytes, bytes_from}
 use Rattle.lists.proofs.Numbers.{read-from}
 use Rattle.wire.specs.declared.Setup.{Setup}
 use Rattle.wire.specs.Packet.{header, ids_of, priority, tt_of, first_byte_of}
-use Rattle.wire.proofs.Addressed.{swapped, append-headed, length-headed, byte-headed, next_headed, destination-headed, source-headed}
+use Rattle.wire.proofs.Addressed.{swapped, length-headed, byte-headed, next_headed, destination-headed, source-headed}
 use Rattle.wire.proofs.Widths.{some_byte, two_bytes}
-use Rattle.responses.specs.Type13.{above, reply_to}
-use Rattle.responses.proofs.Replied.{length_reply}
-use lib.ListN.{drop}
-use lib.Seq.{drop_at}
+use Rattle.responses.specs.Type13.{above, response_to}
 use mathlib.Core.List.{List, [], ◌∷◌, ◌++◌}
 use Rattle.reading.proofs.Response.{response_decides_nothing}
-use Rattle.promises.specs.Responses.{ResponseOf, IsResponse, ResponsesExactly}
+use Rattle.promises.specs.Responses.{IsResponse, ResponsesExactly}
 use Rattle.promises.proofs.Status.{written_by_lem, counted}
 use Rattle.promises.proofs.FromUs.{from_us}
 
@@ -38,34 +35,23 @@ record Begins (ids n b : ℕ) : Type 0 where
 begins : (ids n : ℕ) → 1 ≤ ids → ids ≤ 2 → n ≤ 3 → Begins ids n (first_byte_of ids n 13)
 begins ids n least most small = omega arith
 
-response_layout : (settings : Setup) (p : List ℕ) (r : ResponseOf) → AreBytes p → IsResponse (ids_of settings) p (reply_to (ids_of settings) p r.code ++ r.payload) r
-response_layout settings p r bytes = subst (λ (whole : List ℕ). IsResponse ids p whole r) (sym as_headed) (record {
-  size = length-headed (swapped ids p) first fields ∙ omega arith;
-  kind = b.type;
-  same_width = b.width;
-  higher = b.priority_is;
-  to_sender = destination-headed (swapped ids p) first fields ∙ read-from ids p (1 + ids) (bytes_from ids p 1 ++ fields);
-  from_us = source-headed (swapped ids p) first fields ∙ read-from ids p 1 fields;
-  says = next_headed (swapped ids p) first fields;
-  asked = byte-headed (swapped ids p) first fields 1;
-  target_tid = byte-headed (swapped ids p) first fields 1;
-  data_of_lem = ap (drop (header ids + 2)) (sym as_headed) ∙ drop_at (reply_to ids p r.code) r.payload (header ids + 2) (length_reply ids p r.code);
-})
-  where
-    ids : ℕ
-    ids = ids_of settings
-
-    first : ℕ
-    first = first_byte_of ids (above (priority p)) 13
-
-    fields : List ℕ
-    fields = r.code ∷ byte p (header ids + 1) ∷ r.payload
-
-    as_headed : reply_to ids p r.code ++ r.payload ≡ first ∷ (bytes_from ids p (1 + ids) ++ (bytes_from ids p 1 ++ fields))
-    as_headed = append-headed (swapped ids p) first (r.code ∷ byte p (header ids + 1) ∷ []) r.payload
-
-    b : Begins ids (above (priority p)) first
-    b = begins ids (above (priority p)) (some_byte settings.narrow) (two_bytes settings.narrow) (above-small (priority p))
+response_layout : (settings : Setup) (p : List ℕ) (status : ℕ) → AreBytes p → IsResponse (ids_of settings) p (response_to (ids_of settings) p status) status
+unfolding response_to
+response_layout settings p status bytes =
+    let ids : ℕ = ids_of settings in
+    let first : ℕ = first_byte_of ids (above (priority p)) 13 in
+    let fields : List ℕ = (0b0001 * 16 + status) ∷ byte p (header ids + 1) ∷ [] in
+    let b = begins ids (above (priority p)) (some_byte settings.narrow) (two_bytes settings.narrow) (above-small (priority p)) in
+    record {
+      size = length-headed (swapped ids p) first fields;
+      kind = b.type;
+      same_width = b.width;
+      higher = b.priority_is;
+      to_sender = destination-headed (swapped ids p) first fields ∙ read-from ids p (1 + ids) (bytes_from ids p 1 ++ fields);
+      from_us = source-headed (swapped ids p) first fields ∙ read-from ids p 1 fields;
+      says = next_headed (swapped ids p) first fields;
+      letter_mbox_msgseg = byte-headed (swapped ids p) first fields 1;
+    }
 
 pub responses_exactly : ResponsesExactly
 responses_exactly = record {
@@ -73,5 +59,5 @@ responses_exactly = record {
   counted = counted;
   from_us = from_us;
   layout = response_layout;
-  decides_nothing = λ d response p h h'. response_decides_nothing d.words d.stream_memory d.message_memory d.memory d.response response p h h';
+  decides_nothing = λ d response p h h'. response_decides_nothing d.words d.stream_memory d.message_memory d.response response p h h';
 }

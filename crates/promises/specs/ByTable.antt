@@ -4,8 +4,11 @@ use Rattle.lists.specs.Bytes.{written}
 use Rattle.tables.specs.Refusals.{RowOf, Leaves, Decides, none}
 use Rattle.answers.specs.Answers.{refused, SetupSaid, ready, setup_refused, AbandonSaid, closed, free, abandon_refused, wrote, write_refused}
 use Rattle.wire.specs.Parsed.{Parsed}
-use Rattle.wire.specs.Parsed.{Refused, fields_of, parsed}
-use Rattle.wire.specs.Head.{head_rows}
+use Rattle.wire.specs.Parsed.{Refused, Stream, Message}
+use Rattle.wire.specs.Type9.{segment_of}
+use Rattle.wire.specs.Type11.{message_of}
+use Rattle.wire.specs.Head.{is9, head_rows}
+use Rattle.wire.specs.Parsed.{parsed}
 use Rattle.wire.specs.declared.Setup.{Setup}
 use Rattle.wire.specs.Packet.{ids_of}
 use Rattle.contexts.specs.State.{fresh, stream_in, message_in, with_stream, with_message, closed_stream, closed_message, is_free_stream, is_free_message}
@@ -41,7 +44,7 @@ abbrev pub HeadByTable : Type 0
 HeadByTable =
     (settings : Setup) (p : List ℕ)
     → ByTable (head_rows settings.device (ids_of settings) p) (λ (n : ℕ) (o : Parsed). o ≡ Refused n) (λ (n : ℕ) (l : Leaves). Refused n)
-    (fields_of (ids_of settings) p) (parsed settings p)
+    (cond (is9 p) (Stream (segment_of (ids_of settings) p)) (Message (message_of (ids_of settings) p))) (parsed settings p)
 
 -- setup: refused, it hands back a state of zeros (a buffer that is no state stays as it is); else a state of that device, MTU, R and width, all free
 abbrev pub SetupByTable : Type 0

@@ -1,4 +1,4 @@
--- Reserved bits and the pad byte of type 9 are ignored on reading (document 01, 'Packet bytes').
+-- Reserved bits and the pad byte are ignored on reading (document 01, 'Packet bytes').
 use Rattle.std.specs.Prelude.{ℕ, ◌+◌, ◌/◌, ◌%◌, ◌<◌, ◌≡◌, List, [], ◌∷◌, Bool, false, ◌||◌, ◌&&◌, length, eqb, ltb}
 use Rattle.lists.specs.Bytes.{byte}
 use Rattle.lists.specs.Each.{Each}
@@ -41,7 +41,7 @@ strange_packet = 0x19 ∷ 0x00 ∷ 0x01 ∷ 0x00 ∷ 0x02 ∷ 0x05 ∷ 0xF9 ∷ 
 
 pub record IgnoredAt (narrow : ℕ) : Type 0 where
   pub alike : DifferInIgnored (id_bytes narrow) (at_width narrow plain_packet) (at_width narrow strange_packet)
-  pub other-bits : flags (id_bytes narrow) (at_width narrow plain_packet) ≡ flags (id_bytes narrow) (at_width narrow strange_packet) → ⊥
+  pub other_bits : flags (id_bytes narrow) (at_width narrow plain_packet) ≡ flags (id_bytes narrow) (at_width narrow strange_packet) → ⊥
   -- the last of four data bytes, which come behind the streamID
   pub other_pad : byte (at_width narrow plain_packet) (header (id_bytes narrow) + 7) ≡ byte (at_width narrow strange_packet) (header (id_bytes narrow) + 7) → ⊥
 

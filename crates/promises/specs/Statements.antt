@@ -21,8 +21,6 @@ use Rattle.mailing.specs.Mail.{MailSegmentsReadBack}
 use Rattle.mailing.specs.ReadBack.{OthersLeaveMail}
 use Rattle.mailing.specs.OfCalls.{MessageReadBackOfCalls}
 use Rattle.paper_examples.specs.Table.{ExamplesHold, ExamplesOf02}
-use Rattle.paper_examples.specs.Memory.{MemoryExampleHolds}
-use Rattle.exchanging.specs.Exchanging.{MemoryReadExactly, MemoryWrittenExactly, MemoryApart, MemoryDecidesNothing, ReadAfterWrite}
 use Rattle.calls.specs.Rooms.{RoomOfDelivered}
 use Rattle.demands.specs.Demands.{OursMeets, OurWriterMeets}
 use Rattle.demands.specs.OfCalls.{Demand2OfCalls, Demand3OfCalls, Demand3AnyLoss, Corollary3}
@@ -55,7 +53,7 @@ pub record Promises : Type 0 where
   -- ==== 2. 'Packets are read, and segments and message responses written, exactly as RapidIO Parts 2 and 10 define them with 01's choices.
   -- What the segment writer makes, a fresh endpoint of that address and MTU reads back, if its room holds it.'
 
-  -- a packet's head is refused by rows 1 to 5, else read as the fields of its type; reserved bits and the pad of type 9 are ignored
+  -- a packet's head is refused by rows 1 to 5, else read as the fields of its type; reserved bits and the pad are ignored
   pub head : HeadByTable
   pub ignored : ReservedAndPadIgnored
   -- a segment of a PDU and a segment of a message give back every field and their data
@@ -82,7 +80,7 @@ pub record Promises : Type 0 where
   pub any_loss : Demand3AnyLoss
   -- what its words mean: a flow's packets stand in its order; `whole` is exactly what lost nothing
   pub in_order : InOrder
-  pub whole_is-intact : WholeIsIntact
+  pub whole_is_intact : WholeIsIntact
   -- each flow is answered as if its packets came alone, so no flow disturbs another
   pub flows_apart : FlowsApart
   pub same_answers : SamePacketsSameAnswers
@@ -104,7 +102,7 @@ pub record Promises : Type 0 where
 
   -- a packet of the other width is refused 2 and leaves all, whatever its IDs; so is every segment that was cut for it
   pub other_width : OtherWidthRefused
-  pub other-segment : SegmentOfOtherWidthRefused
+  pub other_segment : SegmentOfOtherWidthRefused
   -- the same but for the IDs: a segment with IDs of 8 bits is the one of 16 with tt 00 and the two high bytes left out, and the two endpoints answer
   -- the same to it; and to every packet
   pub same-segments : SegmentsSameButForIDs
@@ -115,29 +113,14 @@ pub record Promises : Type 0 where
   pub delivered_flow : DeliveredFlow
   -- two type 9 packets that agree in all but their priority are of two flows, which never share a stream context; from fresh, with at most sixteen
   -- flows, what the one's flow is answered does not depend on the other
-  pub priority-apart : PriorityApart
+  pub priority_apart : PriorityApart
   -- ==== COMPLETE BY THE COUNT OF ONES (document 02, M-102). In every line above a message is complete where all its segments are marked.
 
   -- the count says the same: a segment of several that rows 20 to 24 pass is answered by a message exactly if msglen+1 marks, its own with them, are ones
   pub complete_by_count : CompleteByCount
   -- why the count is right: an open message has no mark past msglen
   pub marks_within : MarksWithin
-  -- ==== BOARDS READ AND WRITE OUR MEMORY (document 02, M-100). Where a line above speaks of any packets, these may be requests: in demand 3 they come
-  -- between as messages do.
-
-  -- a read that is done returns exactly the bytes that it names, by table 4-3, and 0 beside them; the memory stays
-  pub memory_read : MemoryReadExactly
-  -- a write that is done changes exactly the bytes that it names, by table 4-4, to those that the packet has in their lanes; every other byte stays
-  pub memory_written_lem : MemoryWrittenExactly
-  -- a request leaves the words and both other memories; every other packet leaves the memory, and so does a refused one; and of other packets the memory decides
-  -- nothing
-  pub memory_apart : MemoryApart
-  pub memory_decides_nothing : MemoryDecidesNothing
-  -- a byte that was written is what a later read returns of it, whatever came between that did not write it
-  pub read_after_write : ReadAfterWrite
-  -- ==== The paper's starred examples come out as it says, and so does document 02's (M-103), with more of its kind; requests for the memory come out to the byte,
-  -- with the order of the fields of docs/DECISIONS.md; and every premise above can be met
+  -- ==== The paper's starred examples come out as it says, and so does document 02's, with more of its kind; and every premise above can be met
   pub examples : ExamplesHold
   pub examples_of_02 : ExamplesOf02
-  pub memory_example_lem : MemoryExampleHolds
   pub witnesses : PremisesCanBeMet

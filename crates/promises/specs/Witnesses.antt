@@ -4,7 +4,6 @@ use Rattle.eleven.specs.Eleven.{MailRunsNotEmpty}
 use Rattle.eleven.specs.LastFirst.{LastFirstDelivered}
 use Rattle.demands.specs.Witnesses.{CallsNotEmpty, AllowedNotEmpty, FlowsNotEmpty, PriorityNotEmpty, JointNotEmpty, WidthsNotEmpty}
 use Rattle.sixteen.specs.Sixteen.{SixteenAtOnce, SixteenDelivered}
-use Rattle.exchanging.specs.Witnesses.{ExchangingNotEmpty}
 use Rattle.promises.specs.Ignored.{IgnoredNotEmpty}
 
 pub record PremisesCanBeMet : Type 0 where
@@ -17,7 +16,7 @@ pub record PremisesCanBeMet : Type 0 where
   pub mail : MailRunsNotEmpty
   -- a message of sixteen segments that comes last-first
   pub last_first_lem : LastFirstDelivered
-  -- a fair sending with a loss, mixed flows, messages and requests for the memory between, to the byte; read by the definitions it delivers what is whole
+  -- a fair sending with a loss, mixed flows and messages between, to the byte; read by the definitions it delivers what is whole
   pub mixture : MixtureIsFair
   pub mixture_delivered : MixtureDelivered
   -- sixteen PDUs open at once, a lost start, a lost middle, packets of every other kind between
@@ -29,7 +28,5 @@ pub record PremisesCanBeMet : Type 0 where
   pub priority : PriorityNotEmpty
   -- a packet of one width, and the same of the other
   pub widths : WidthsNotEmpty
-  -- requests of each kind that are done, and a byte that is written and read back with others between
-  pub exchanging : ExchangingNotEmpty
   -- the joint happens: example 9
   pub joint : JointNotEmpty

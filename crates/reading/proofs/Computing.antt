@@ -6,18 +6,10 @@ use Rattle.tables.specs.Refusals.{verdict, given}
 use Rattle.wire.specs.Packet.{id_bytes, addressed}
 use Rattle.wire.specs.Type9.{same_flow, segment_at, segment_of}
 use Rattle.wire.specs.Type11.{message_of}
-use Rattle.wire.specs.Type2.{read_request_of}
-use Rattle.wire.specs.Type5.{write_request_of}
-use Rattle.wire.specs.Type6.{streaming_request_of}
 use Rattle.wire.specs.Head.{head_rows}
-use Rattle.wire.specs.Parsed.{request_of, parsed}
+use Rattle.wire.specs.Parsed.{parsed}
 use Rattle.sizes.specs.Sizes.{bad_mtu, pdu_length, data_length, bytes_of, in_eights}
-use Rattle.responses.specs.Type13.{response_to, answered, in_double_words, replied_with}
-use Rattle.lanes.specs.Tables.{read_size, write_size}
-use Rattle.requests.specs.Transactions.{transaction_of}
-use Rattle.requests.specs.Rows.{size_in, reserved_request, wrong_data, named_by}
-use Rattle.memories.specs.Rows.{outside, request_rows}
-use Rattle.memories.specs.Serving.{read_data, memory_written, nread, nwrite, nwrite_r, request_served, refused_asking, request_stepped}
+use Rattle.responses.specs.Type13.{response_to, answered}
 use Rattle.rules.specs.Segments.{malformed, wrong_form}
 use Rattle.rules.specs.Messages.{reserved_size, bad_length, past_last, form_rows}
 use Rattle.marks.specs.Marks.{marked, all_marked}
@@ -41,7 +33,5 @@ unfolding bytes_from number in_bytes written first_of any rows joined verdict gi
     bad_room bad_stream bad_last bad_marks bad_message named_by_19
     stream_rooms.placed stream.accepted stream.refused_closing missized not_open passes_room none_free length_differs stream_rows
     message.delivered_at_once message_rooms.message_placed message.message_accepted message_found other_message already_marked needed_none_free message_rows
-    read_request_of write_request_of streaming_request_of request_of in_double_words replied_with read_size write_size transaction_of
-    size_in reserved_request wrong_data named_by outside request_rows read_data memory_written nread nwrite nwrite_r request_served refused_asking request_stepped
     wrong_sizes lent_rows table reading
 reads = tt

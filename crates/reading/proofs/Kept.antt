@@ -5,8 +5,8 @@ use mathlib.Core.List.{List}
 use mathlib.Core.Bool.{true, false}
 use native.Mathlib.Omega.{arith}
 use lib.ListN.{length, get_or, length-set}
-use Rattle.lists.proofs.Tests.{by_test, not-second}
-use Rattle.tables.specs.Refusals.{Leaves, all, flow_closed, all_error, all_retry, all_request_error, Verdict, refuse, accept, verdict, given, none}
+use Rattle.lists.proofs.Tests.{by_test, not-second, the_other}
+use Rattle.tables.specs.Refusals.{Leaves, all, flow_closed, all_error, all_retry, Verdict, refuse, accept, verdict, given, none}
 use Rattle.tables.proofs.Exactly.{none-held}
 use Rattle.wire.specs.Packet.{header}
 use Rattle.wire.specs.Type11.{message_of, is_single}
@@ -85,10 +85,7 @@ module _ (x : Lent) where
       by_verdict_lem (refuse number flow_closed) = same-setup _ (closing_same number)
       by_verdict_lem (refuse number all_error) = refl
       by_verdict_lem (refuse number all_retry) = refl
-      by_verdict_lem (refuse number all_request_error) = refl
-      by_verdict_lem accept =
-          by_test (is9 x.packet) (λ t. rw t (same-setup _ stream_same))
-          (λ t. by_test (is11 x.packet) (λ u. rw (t, u) (same-setup _ message_same)) (λ u. rw (t, u)))
+      by_verdict_lem accept = by_test (is9 x.packet) (λ t. rw t (same-setup _ stream_same)) (λ t. rw t (same-setup _ message_same))
 
   pub room-kept : (state_of (reading x).desk.words).setup.room ≡ (state_in x).setup.room
   room-kept = ap (λ (f : Setup). f.room) setup-kept
@@ -96,6 +93,11 @@ module _ (x : Lent) where
   -- every row of an accepted packet has failed
   abbrev Passed : Type 0
   Passed = none (table x)
+
+  -- an accepted packet that is not of type 9 is of type 11
+  pub other_type : Passed → is9 x.packet ≡ false → is11 x.packet ≡ true
+  unfolding none table lent_rows head_rows given stream_rows message_rows form_rows
+  other_type n f = the_other (is9 x.packet) (is11 x.packet) n.1.1.1.1.1.0 f
 
   module _ (whole : length x.desk.words ≡ state_words) (fine : named_by_19 (state_in x) ≡ false) (small : get_or x.packet (header (ids_in (state_in x))) 0 < 256) where
     stream_good : Passed → is9 x.packet ≡ true → StillGood (state_in x) (words_of (stream.accepted (state_in x) x.desk.stream_memory x.packet (segment_in x)).state)
@@ -110,10 +112,11 @@ module _ (x : Lent) where
     unfolding message_of
     few = omega (arith, small)
 
-    message_good : Passed → is11 x.packet ≡ true
+    message_good : Passed → is9 x.packet ≡ false
         → StillGood (state_in x) (words_of (message.message_accepted (state_in x) x.desk.message_memory x.desk.response x.packet (message_segment_in x)).state)
     unfolding none table lent_rows head_rows given stream_rows message_rows form_rows
-    message_good n t =
+    message_good n f =
+        let t : is11 x.packet ≡ true = other_type n f in
         let row_20 = n.1.1.1.1.1.1.1.1.1.1.1.1.1.1.1 in
         let row_21 = row_20.1 in
         let row_22 = row_21.1 in
@@ -133,11 +136,10 @@ module _ (x : Lent) where
         by_leaves number flow_closed = good_words x.desk.words _ (closing_same number) (streams.closing-kept (state_in x) x.desk.stream_memory x.packet (segment_in x) fine number)
         by_leaves number all_error = unchanged x.desk.words whole fine
         by_leaves number all_retry = unchanged x.desk.words whole fine
-        by_leaves number all_request_error = unchanged x.desk.words whole fine
 
         by_verdict_lem : (v : Verdict) → verdict (table x) ≡ v → StillGood (state_in x) (outcome x v).desk.words
         by_verdict_lem (refuse number leaves) e = by_leaves number leaves
         by_verdict_lem accept e =
             by_test (is9 x.packet)
             (λ t. rw t (stream_good (none-held (table x) e) t))
-            (λ t. by_test (is11 x.packet) (λ u. rw (t, u) (message_good (none-held (table x) e) u)) (λ u. rw (t, u) (unchanged x.desk.words whole fine)))
+            (λ t. rw t (message_good (none-held (table x) e) t))

@@ -11,7 +11,7 @@ use Rattle.answers.specs.declared.Figures.{Figures}
 use Rattle.answers.specs.Figures.{figures_of, telling, AllSet}
 use Rattle.answers.proofs.Telling.{told_says, told_dropped, told_response, told_tells_whole}
 use Rattle.tables.specs.Refusals.{all}
-use Rattle.responses.specs.Type13.{response_size, response_room}
+use Rattle.responses.specs.Type13.{response_size}
 use Rattle.contexts.specs.State.{ids_in, stream_contexts}
 use Rattle.contexts.specs.Words.{state_of, state_words}
 use Rattle.contexts.proofs.Words.{words_of_lem}
@@ -19,10 +19,9 @@ use Rattle.lists.proofs.Tests.{neither}
 use Rattle.stream_rooms.specs.Placing as stream_room
 use Rattle.message_rooms.specs.Placing as message_room
 use Rattle.message_rooms.specs.Placing.{message_memory_bytes}
-use Rattle.memories.specs.Serving.{Served, serving}
-use Rattle.reading.specs.Desk.{Desk, state_on, with_streams, with_messages, with_memory}
+use Rattle.reading.specs.Desk.{Desk, state_on, with_streams, with_messages}
 use Rattle.reading.specs.Table.{Lent, state_in, wrong_sizes}
-use Rattle.reading.specs.Read.{settled, refusing, of_stream, of_message, of_memory, reading}
+use Rattle.reading.specs.Read.{settled, refusing, of_stream, of_message, reading}
 use Rattle.reading.specs.Inside.{FiguresPromise}
 
 -- a refusal that changes nothing
@@ -60,31 +59,23 @@ message_promised x t words memory response j z k e =
     let dropped = told_dropped t (telling t) false (response_size (ids_in (state_in x))) k.1 in
     record { promised = rw (written, dropped) (message_settled x (telling t) words memory response j z k.0 ∙ e); numbers = told_tells_whole t (telling t) false (response_size (ids_in (state_in x))) k.1 }
 
--- a request leaves the words
-pub memory_promised : (x : Lent) (t : Figures) (memory response : List ℕ) (v : Served)
-    → (serving (telling t) t.response memory response ≡ v) × AllSet t false t.response → of_memory x v ≡ reading x
-    → FiguresPromise x t (with_memory x.desk memory response)
-memory_promised x t memory response v k e =
-    let dropped = told_dropped t (telling t) false t.response k.1 in
-    record { promised = rw dropped (ap (of_memory x) k.0 ∙ e); numbers = told_tells_whole t (telling t) false t.response k.1 }
-
 -- row 12 passed
-pub sizes_right : (d : Desk) → length d.stream_memory ≡ stream_contexts * (state_on d).setup.room → length d.message_memory ≡ message_memory_bytes → response_room (ids_in (state_on d)) ≤ length d.response
+pub sizes_right : (d : Desk) → length d.stream_memory ≡ stream_contexts * (state_on d).setup.room → length d.message_memory ≡ message_memory_bytes → response_size (ids_in (state_on d)) ≤ length d.response
     → wrong_sizes d ≡ false
 unfolding wrong_sizes
 sizes_right d a b e = rw (eq-eqb (length d.stream_memory) _ a, eq-eqb (length d.message_memory) _ b, le-ltb (length d.response) _ e)
 
 -- where the memories are right, the response buffer decides, by the bytes of an ID
 pub by_reply : (d : Desk) {room ids size : ℕ} → room ≡ (state_on d).setup.room → length d.stream_memory ≡ stream_contexts * room → length d.message_memory ≡ message_memory_bytes
-    → ids_in (state_on d) ≡ ids → size ≡ response_room ids → ltb (length d.response) size ≡ wrong_sizes d
+    → ids_in (state_on d) ≡ ids → size ≡ response_size ids → ltb (length d.response) size ≡ wrong_sizes d
 unfolding wrong_sizes
 by_reply d r a b e z = sym (rw (← r, eq-eqb (length d.stream_memory) _ a, eq-eqb (length d.message_memory) _ b, e, ← z))
 
 pub sizes_fit : (d : Desk) → wrong_sizes d ≡ false
-    → (length d.stream_memory ≡ stream_contexts * (state_on d).setup.room) × (length d.message_memory ≡ message_memory_bytes) × (response_room (ids_in (state_on d)) ≤ length d.response)
+    → (length d.stream_memory ≡ stream_contexts * (state_on d).setup.room) × (length d.message_memory ≡ message_memory_bytes) × (response_size (ids_in (state_on d)) ≤ length d.response)
 unfolding wrong_sizes
 sizes_fit d e =
     let a = neither (not (eqb (length d.stream_memory) (stream_contexts * (state_on d).setup.room)) || not (eqb (length d.message_memory) message_memory_bytes))
-    (ltb (length d.response) (response_room (ids_in (state_on d)))) e in
+    (ltb (length d.response) (response_size (ids_in (state_on d)))) e in
     let b = neither (not (eqb (length d.stream_memory) (stream_contexts * (state_on d).setup.room))) (not (eqb (length d.message_memory) message_memory_bytes)) a.0 in
     (eqb-true (length d.stream_memory) _ (not-false _ b.0), eqb-true (length d.message_memory) _ (not-false _ b.1), ltb-false (length d.response) _ a.1)

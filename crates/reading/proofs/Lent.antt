@@ -13,8 +13,7 @@ use Rattle.tables.proofs.Numbers.{number_refused, number-accepted}
 use Rattle.contexts.specs.Words.{state_words}
 use Rattle.refusal19.specs.Refusal19.{named_by_19}
 use Rattle.lent_state.specs.Lent.{state_refusal}
-use mathlib.Core.List.{List}
-use Rattle.reading.specs.Desk.{Desk, state_on, with_memory}
+use Rattle.reading.specs.Desk.{Desk, state_on}
 use Rattle.reading.specs.Table.{is_state_words, wrong_sizes, lent_rows, lent_refusal}
 use Rattle.reading.specs.Inside.{ReadyToRead}
 use Rattle.reading.proofs.Laws.{sizes_fit}
@@ -65,8 +64,3 @@ module _ (d : Desk) where
         };
         reply = sizes.2;
       }
-
--- the memory that boards read and write decides nothing of it
-pub memory_any : (d : Desk) (memory : List ℕ) → lent_refusal (with_memory d memory d.response) ≡ lent_refusal d
-unfolding lent_refusal lent_rows wrong_sizes
-memory_any d memory = refl

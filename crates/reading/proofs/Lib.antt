@@ -2,9 +2,7 @@ pub mod Rows
 pub mod Packets
 pub mod Kept
 pub mod Laws
-pub mod Requests
 pub mod Response
 pub mod Spoken
 pub mod Computing
 pub mod Lent
-pub mod HeadFor

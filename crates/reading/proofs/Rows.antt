@@ -1,23 +1,21 @@
 -- The table by its parts: rows 19 and 12, then what the packet is, then the step of its type.
 use Prim.Native.Nat.{ℕ}
-use mathlib.Core.Path.{◌≡◌, refl, ap, ap₂, sym, ◌∙◌}
+use mathlib.Core.Path.{◌≡◌, refl, ap, sym, ◌∙◌}
 use mathlib.Core.List.{List, ◌++◌}
 use mathlib.Core.Bool.{Bool, true, false, cond, not, ◌||◌, ◌&&◌}
 use lib.ListN.{length}
-use native.Mathlib.Omega.{arith}
-use borrow.Author.Tests.{eq-eqb, eqb-true}
+use borrow.Author.Tests.{eq-eqb}
 use Rattle.lists.specs.Each.{Each}
 use Rattle.lists.proofs.Tests.{by_test, ◌and◌}
-use Rattle.tables.specs.Refusals.{Row, Leaves, all, flow_closed, all_error, all_retry, all_request_error, Verdict, refuse, accept, verdict, given}
-use Rattle.tables.proofs.Exactly.{every-row, none-held}
-use Rattle.tables.proofs.Joined.{or_else, verdict-joined, joined-refuses, first_given, second_given, third_given}
+use Rattle.tables.specs.Refusals.{Row, Leaves, all, flow_closed, all_error, all_retry, Verdict, refuse, accept, verdict, given}
+use Rattle.tables.proofs.Exactly.{every_row, none-held}
+use Rattle.tables.proofs.Joined.{or_else, verdict-joined, joined-refuses, first_given, second_given}
 use Rattle.tables.proofs.Cases.{by_row, carried}
 use Rattle.wire.specs.Parsed.{Parsed}
-use Rattle.wire.specs.Parsed.{Refused, Stream, Message, Memory}
+use Rattle.wire.specs.Parsed.{Refused, Stream, Message}
 use Rattle.wire.specs.Parsed.{parsed_by, parsed}
-use Rattle.wire.specs.Head.{is9, is11, is_request, head_rows}
-use Rattle.wire.specs.Packet.{packet_type}
-use Rattle.wire.proofs.HeadLaws.{one_type, not_9, not_request, no_segment, third_type}
+use Rattle.wire.specs.Head.{is9, is11, head_rows}
+use Rattle.wire.proofs.HeadLaws.{one_type, other_type}
 use Rattle.responses.specs.Type13.{ERROR, RETRY}
 use Rattle.rules.specs.Messages.{form_rows}
 use Rattle.contexts.specs.State.{ids_in}
@@ -28,11 +26,8 @@ use Rattle.streams.specs.Rows.{stream_rows}
 use Rattle.streams.specs.Joining as stream
 use Rattle.messages.specs.Rows.{message_rows}
 use Rattle.messages.specs.Joining as message
-use Rattle.memories.specs.Rows.{request_rows}
-use Rattle.memories.specs.Serving.{serving, refused_asking, request_stepped}
-use Rattle.answers.specs.Answers.{refused}
-use Rattle.reading.specs.Table.{Lent, state_in, segment_in, message_segment_in, request_in, is_state_words, wrong_sizes, lent_rows, lent_refusal, table}
-use Rattle.reading.specs.Read.{Settled, of_stream, of_message, of_memory, refusing, accepting, reading, outcome}
+use Rattle.reading.specs.Table.{Lent, state_in, segment_in, message_segment_in, is_state_words, wrong_sizes, lent_rows, lent_refusal, table}
+use Rattle.reading.specs.Read.{Settled, of_stream, of_message, refusing, accepting, reading, outcome}
 use Rattle.reading.proofs.Lent.{lent_refused}
 
 -- what is left by what the packet is
@@ -40,14 +35,10 @@ abbrev pub by_parsed : Lent → Parsed → Settled
 by_parsed x (Refused number) = refusing x number all
 by_parsed x (Stream g) = of_stream x (stream.stepped (state_in x) x.desk.stream_memory x.packet g)
 by_parsed x (Message m) = of_message x (message.message_stepped (state_in x) x.desk.message_memory x.desk.response x.packet m)
-by_parsed x (Memory r) = of_memory x (request_stepped (ids_in (state_in x)) x.desk.memory x.desk.response x.packet r)
 
 -- the rows behind the head's: from 6 on
 unfoldable typed_rows : Lent → List Row
-typed_rows x =
-    given (is9 x.packet) (stream_rows (state_in x) (segment_in x))
-    ++ (given (is11 x.packet) (message_rows (state_in x) (message_segment_in x))
-    ++ given (is_request x.packet) (request_rows (length x.desk.memory) x.packet (request_in x)))
+typed_rows x = given (is9 x.packet) (stream_rows (state_in x) (segment_in x)) ++ given (is11 x.packet) (message_rows (state_in x) (message_segment_in x))
 
 -- rows 19 and 12, then those of the head and those of its type
 flat : (x : Lent) → reading x ≡ cond (is_state_words x.desk && named_by_19 (state_in x)) (refusing x 19 all)
@@ -71,9 +62,7 @@ module _ (x : Lent) (whole : length x.desk.words ≡ state_words) where
 
   only_9 : is9 x.packet ≡ true → verdict (typed_rows x) ≡ verdict (stream_rows (state_in x) (segment_in x))
   unfolding typed_rows
-  only_9 n =
-      rw (n, one_type x.packet n, not_request x.packet 9 (eqb-true (packet_type x.packet) 9 n) (omega arith))
-      (first_given (stream_rows (state_in x) (segment_in x)) (message_rows (state_in x) (message_segment_in x)) _)
+  only_9 n = rw (n, one_type x.packet n) (first_given (stream_rows (state_in x) (segment_in x)) (message_rows (state_in x) (message_segment_in x)))
 
   stream_typed : is9 x.packet ≡ true → outcome x (verdict (typed_rows x)) ≡ by_parsed x (Stream (segment_in x))
   unfolding stream_rows stream.stepped
@@ -90,51 +79,30 @@ module _ (x : Lent) (whole : length x.desk.words ≡ state_words) where
   unfolding message.refused_with
   retries number = rw (words_of_lem x.desk.words whole)
 
-  only_11 : is11 x.packet ≡ true → verdict (typed_rows x) ≡ verdict (message_rows (state_in x) (message_segment_in x))
+  only_11 : is9 x.packet ≡ false → is11 x.packet ≡ true → verdict (typed_rows x) ≡ verdict (message_rows (state_in x) (message_segment_in x))
   unfolding typed_rows
-  only_11 e =
-      rw (not_9 x.packet e, e, not_request x.packet 11 (eqb-true (packet_type x.packet) 11 e) (omega arith))
-      (second_given (stream_rows (state_in x) (segment_in x)) (message_rows (state_in x) (message_segment_in x)) _)
+  only_11 n e = rw (n, e) (second_given (stream_rows (state_in x) (segment_in x)) (message_rows (state_in x) (message_segment_in x)))
 
-  message_typed : is11 x.packet ≡ true → outcome x (verdict (typed_rows x)) ≡ by_parsed x (Message (message_segment_in x))
+  message_typed : is9 x.packet ≡ false → is11 x.packet ≡ true → outcome x (verdict (typed_rows x)) ≡ by_parsed x (Message (message_segment_in x))
   unfolding message_rows form_rows message.message_stepped
-  message_typed e =
-      ap (outcome x) (only_11 e)
-      ∙ sym (carried (of_message x) _ _ (refusing x) (accepting x) (message_rows (state_in x) (message_segment_in x)) (errs and errs and errs and errs and errs and retries and tt) (rw (not_9 x.packet e, e)))
-
-  -- types 2, 5 and 6
-  asks : (number : ℕ) → of_memory x (serving (refused number) 0 x.desk.memory x.desk.response) ≡ refusing x number all
-  asks number = refl
-
-  errs_asking : (number : ℕ) → of_memory x (refused_asking (ids_in (state_in x)) x.desk.memory x.desk.response x.packet (request_in x) number) ≡ refusing x number all_request_error
-  errs_asking number = refl
-
-  only_requests : is_request x.packet ≡ true → verdict (typed_rows x) ≡ verdict (request_rows (length x.desk.memory) x.packet (request_in x))
-  unfolding typed_rows
-  only_requests e = rw ((no_segment x.packet e).0, (no_segment x.packet e).1, e) (third_given (stream_rows (state_in x) (segment_in x)) (message_rows (state_in x) (message_segment_in x)) _)
-
-  request_typed : is_request x.packet ≡ true → outcome x (verdict (typed_rows x)) ≡ by_parsed x (Memory (request_in x))
-  unfolding request_rows request_stepped
-  request_typed e =
-      ap (outcome x) (only_requests e)
-      ∙ sym (carried (of_memory x) _ _ (refusing x) (accepting x) (request_rows (length x.desk.memory) x.packet (request_in x)) (asks and errs_asking and errs_asking and errs_asking and tt)
-      (rw ((no_segment x.packet e).0, (no_segment x.packet e).1)))
+  message_typed n e =
+      ap (outcome x) (only_11 n e)
+      ∙ sym (carried (of_message x) _ _ (refusing x) (accepting x) (message_rows (state_in x) (message_segment_in x)) (errs and errs and errs and errs and errs and retries and tt) (rw n))
 
   packet-rows : outcome x (verdict (head_rows (state_in x).setup.device (ids_in (state_in x)) x.packet ++ typed_rows x)) ≡ by_parsed x (parsed (state_in x).setup x.packet)
   unfolding parsed
   packet-rows = ap (outcome x) (verdict-joined (head_rows (state_in x).setup.device (ids_in (state_in x)) x.packet) (typed_rows x)) ∙ go (verdict (head_rows (state_in x).setup.device (ids_in (state_in x)) x.packet)) refl
     where
-      by_type : Bool → Bool → Settled
-      by_type a b = by_parsed x (cond a (Stream (segment_in x)) (cond b (Message (message_segment_in x)) (Memory (request_in x))))
+      by_type : Bool → Settled
+      by_type b = by_parsed x (cond b (Stream (segment_in x)) (Message (message_segment_in x)))
 
       go : (v : Verdict) → verdict (head_rows (state_in x).setup.device (ids_in (state_in x)) x.packet) ≡ v → outcome x (or_else v (verdict (typed_rows x))) ≡ by_parsed x (parsed_by (ids_in (state_in x)) x.packet v)
       go (refuse number leaves) e =
-          rw (every-row (λ (l : Leaves). l ≡ all) (head_rows (state_in x).setup.device (ids_in (state_in x)) x.packet) number leaves (head_leaves (state_in x).setup.device (ids_in (state_in x)) x.packet) e)
+          rw (every_row (λ (l : Leaves). l ≡ all) (head_rows (state_in x).setup.device (ids_in (state_in x)) x.packet) number leaves (head_leaves (state_in x).setup.device (ids_in (state_in x)) x.packet) e)
       go accept e =
           by_test (is9 x.packet)
-          (λ n. stream_typed n ∙ sym (ap (λ (a : Bool). by_type a (is11 x.packet)) n))
-          (λ n. by_test (is11 x.packet) (λ m. message_typed m ∙ sym (ap₂ by_type n m))
-          (λ m. request_typed (third_type (ids_in (state_in x)) x.packet (state_in x).setup.device (none-held _ e) n m) ∙ sym (ap₂ by_type n m)))
+          (λ n. stream_typed n ∙ sym (ap by_type n))
+          (λ n. message_typed n (other_type (ids_in (state_in x)) x.packet (state_in x).setup.device (none-held _ e) n) ∙ sym (ap by_type n))
 
 module _ (x : Lent) where
   -- rows 19 and 12

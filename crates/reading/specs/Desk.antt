@@ -9,19 +9,11 @@ pub record Desk : Type 0 where
   pub words : List ℕ
   pub stream_memory : List ℕ
   pub message_memory : List ℕ
-  -- the memory that boards read and write
-  pub memory : List ℕ
   -- the response buffer
   pub response : List ℕ
 
-abbrev pub desk : (words stream_memory message_memory memory response : List ℕ) → Desk
-desk words stream_memory message_memory memory response = record {
-  words = words;
-  stream_memory = stream_memory;
-  message_memory = message_memory;
-  memory = memory;
-  response = response;
-}
+abbrev pub desk : (words stream_memory message_memory response : List ℕ) → Desk
+desk words stream_memory message_memory response = record { words = words; stream_memory = stream_memory; message_memory = message_memory; response = response }
 
 -- the state that the words are
 abbrev pub state_on : Desk → State
@@ -29,16 +21,12 @@ state_on d = state_of d.words
 
 -- the same desk with other words and another stream memory
 abbrev pub with_streams : Desk → (words stream_memory : List ℕ) → Desk
-with_streams d words stream_memory = desk words stream_memory d.message_memory d.memory d.response
+with_streams d words stream_memory = desk words stream_memory d.message_memory d.response
 
 -- with other words, another message memory and another response buffer
 abbrev pub with_messages : Desk → (words message_memory response : List ℕ) → Desk
-with_messages d words message_memory response = desk words d.stream_memory message_memory d.memory response
-
--- with another memory and another response buffer
-abbrev pub with_memory : Desk → (memory response : List ℕ) → Desk
-with_memory d memory response = desk d.words d.stream_memory d.message_memory memory response
+with_messages d words message_memory response = desk words d.stream_memory message_memory response
 
 -- with another response buffer
 abbrev pub with_response : Desk → (response : List ℕ) → Desk
-with_response d response = desk d.words d.stream_memory d.message_memory d.memory response
+with_response d response = desk d.words d.stream_memory d.message_memory response

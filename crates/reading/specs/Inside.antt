@@ -1,20 +1,15 @@
 -- What packets, and a burst, rely on and promise those above. No promise of a public call speaks of it.
-use Rattle.std.specs.Prelude.{ℕ, ◌≤◌, ◌*◌, ◌≡◌, List, false, length}
+use Rattle.std.specs.Prelude.{ℕ, ◌≤◌, ◌*◌, ◌≡◌, false, length}
 use Rattle.answers.specs.declared.Figures.{Figures}
 use Rattle.answers.specs.Figures.{telling, AllSet}
-use Rattle.wire.specs.Inside.{headed}
-use Rattle.responses.specs.Type13.{response_room}
-use Rattle.contexts.specs.State.{State, ids_in, stream_contexts}
+use Rattle.responses.specs.Type13.{response_size}
+use Rattle.contexts.specs.State.{ids_in, stream_contexts}
 use Rattle.contexts.specs.Words.{state_words}
 use Rattle.refusal19.specs.Refusal19.{named_by_19}
 use Rattle.message_rooms.specs.Placing.{message_memory_bytes}
 use Rattle.reading.specs.Desk.{Desk, state_on}
 use Rattle.reading.specs.Table.{Lent}
 use Rattle.reading.specs.Read.{settled, reading}
-
--- the number that a packet's head answers at a state: the refusal's, which is under 16; or 16 and its type
-abbrev pub head_for : State → List ℕ → ℕ
-head_for s p = headed s.setup.device (ids_in s) p
 
 -- the promise of reading, of an answer as numbers
 pub record FiguresPromise (x : Lent) (t : Figures) (after : Desk) : Type 0 where
@@ -31,4 +26,4 @@ pub record Fit (d : Desk) : Type 0 where
 -- and a response buffer that 12 allows: what reading one packet may rely on
 pub record ReadyToRead (d : Desk) : Type 0 where
   pub fit : Fit d
-  pub reply : response_room (ids_in (state_on d)) ≤ length d.response
+  pub reply : response_size (ids_in (state_on d)) ≤ length d.response

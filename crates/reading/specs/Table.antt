@@ -1,15 +1,13 @@
--- The refusal table of documents 01 and 02, in its order: rows of what is lent, of the packet's head, of type 9, of type 11, of types 2, 5 and 6. Each part
--- stands beside its tests, with its numbers, 'given exactly if' and what it leaves.
+-- The refusal table of document 01, in its order: rows of what is lent, of the packet's head, of type 9, of type 11. Each part stands beside its
+-- tests, with its numbers, 'given exactly if' and what it leaves.
 use Rattle.std.specs.Prelude.{ℕ, ◌*◌, List, [], ◌∷◌, ◌++◌, Bool, not, ◌||◌, ◌&&◌, length, eqb, ltb}
 use Rattle.tables.specs.Refusals.{Row, row, all, number_of, verdict, given}
 use Rattle.wire.specs.Segment.{Segment}
 use Rattle.wire.specs.declared.MessageSegment.{MessageSegment}
-use Rattle.wire.specs.declared.Request.{Request}
 use Rattle.wire.specs.Type9.{segment_of}
 use Rattle.wire.specs.Type11.{message_of}
-use Rattle.wire.specs.Parsed.{request_of}
-use Rattle.wire.specs.Head.{is9, is11, is_request, head_rows}
-use Rattle.responses.specs.Type13.{response_room}
+use Rattle.wire.specs.Head.{is9, is11, head_rows}
+use Rattle.responses.specs.Type13.{response_size}
 use Rattle.contexts.specs.State.{State, ids_in, stream_contexts}
 use Rattle.contexts.specs.Words.{state_words}
 use Rattle.refusal19.specs.Refusal19.{named_by_19}
@@ -17,7 +15,6 @@ use Rattle.message_rooms.specs.Placing.{message_memory_bytes}
 use Rattle.streams.specs.Rows.{stream_rows}
 use Rattle.messages.specs.Rows.{message_rows}
 use Rattle.reading.specs.Desk.{Desk, state_on}
-use Rattle.memories.specs.Rows.{request_rows}
 
 -- what the caller lends for a packet: the desk and the packet
 pub record Lent : Type 0 where
@@ -36,27 +33,24 @@ segment_in x = segment_of (ids_in (state_in x)) x.packet
 abbrev pub message_segment_in : Lent → MessageSegment
 message_segment_in x = message_of (ids_in (state_in x)) x.packet
 
-abbrev pub request_in : Lent → Request
-request_in x = request_of (ids_in (state_in x)) x.packet
-
 -- so many words are a state; a buffer of another length is a lent memory of the wrong size
 abbrev pub is_state_words : Desk → Bool
 is_state_words d = eqb (length d.words) state_words
 
--- 12: a stream memory that is not 16 R bytes long, a message memory that is not 32,768, or a response buffer under 263; with
--- IDs of one byte, under 261
+-- 12: a stream memory that is not 16 R bytes long, a message memory that is not 32,768, or a response buffer under 7; with IDs
+-- of one byte, under 5
 unfoldable pub wrong_sizes : Desk → Bool
 wrong_sizes d =
     not (eqb (length d.stream_memory) (stream_contexts * (state_on d).setup.room))
     || not (eqb (length d.message_memory) message_memory_bytes)
-    || ltb (length d.response) (response_room (ids_in (state_on d)))
+    || ltb (length d.response) (response_size (ids_in (state_on d)))
 
--- the rows of what is lent; with IDs of one byte 263 is 261
+-- the rows of what is lent; with IDs of one byte 7 is 5
 unfoldable pub lent_rows : Desk → List Row
 lent_rows d =
     -- a state that 19 names
     row 19 (is_state_words d && named_by_19 (state_on d)) all
-    -- a lent memory of the wrong size, or response buffer under 263; the memory that boards read and write has any size
+    -- a lent memory of the wrong size, or response buffer under 7
     ∷ row 12 (not (is_state_words d) || wrong_sizes d) all
     ∷ []
 
@@ -73,6 +67,4 @@ table x =
     -- type 9: 6 to 11 (streams/specs/Rows.antt)
     ++ (given (is9 x.packet) (stream_rows (state_in x) (segment_in x))
     -- type 11: 20 to 25 (messages/specs/Rows.antt)
-    ++ (given (is11 x.packet) (message_rows (state_in x) (message_segment_in x))
-    -- types 2, 5, 6: 1 under 11 bytes or under 9, 31, 32, 30 (requests/specs/Rows.antt)
-    ++ given (is_request x.packet) (request_rows (length x.desk.memory) x.packet (request_in x)))))
+    ++ given (is11 x.packet) (message_rows (state_in x) (message_segment_in x))))

@@ -1,12 +1,11 @@
 // Reading one packet: the table, what it leaves, and rows 19 and 12's test of everything lent. packets is the code that reads.
-ghost use Rattle.std.specs.Prelude.{◌≡◌, false, [], length};
+ghost use Rattle.std.specs.Prelude.{◌≡◌, false, length};
 ghost use Rattle.contexts.specs.Words.{state_of, state_words};
 ghost use Rattle.refusal19.specs.Refusal19.{named_by_19};
 ghost use Rattle.reading.specs.Desk.{desk};
 ghost use Rattle.reading.specs.Table.{wrong_sizes, lent_refusal};
 
-// Row 12 of the memories and the response buffer. The memory that boards read and write has any size, so it is not asked for, and the promise speaks of an
-// empty one. The caller has found that 19 does not name the state.
+// Row 12 of the memories and the response buffer. The caller has found that 19 does not name the state.
 fn wrong_memory(
     state: &[usize],
     stream_memory: &[u8],
@@ -14,7 +13,7 @@ fn wrong_memory(
     response: &[u8],
 ) -> bool
     requires { (length state.now ≡ state_words) × (named_by_19 (state_of state.now) ≡ false) }
-    ensures { result ≡ wrong_sizes (desk state.now stream_memory.now message_memory.now [] response.now) }
+    ensures { result ≡ wrong_sizes (desk state.now stream_memory.now message_memory.now response.now) }
 {
     if stream_memory.len() != contexts::STREAM_CONTEXTS * contexts::room(state) {
         return true;
@@ -23,9 +22,9 @@ fn wrong_memory(
         return true;
     }
     if contexts::narrow(state) == 0 {
-        return response.len() < responses::room(2);
+        return response.len() < responses::size(2);
     }
-    response.len() < responses::room(1)
+    response.len() < responses::size(1)
 }
 
 // What everything lent is refused with, rows 19 and 12: 19, 12 or 0. A run over many packets asks once.
@@ -35,7 +34,7 @@ pub fn lent_refusal(
     message_memory: &[u8],
     response: &[u8],
 ) -> usize
-    ensures { result ≡ lent_refusal (desk state.now stream_memory.now message_memory.now [] response.now) }
+    ensures { result ≡ lent_refusal (desk state.now stream_memory.now message_memory.now response.now) }
 {
     let number = lent_state::state_refusal(state);
     if number != 0 {

@@ -11,7 +11,7 @@ use Rattle.lists.specs.Each.{Each}
 use Rattle.lists.proofs.Tests.{both}
 use Rattle.lists.proofs.Below.{below, are_bytes}
 use Rattle.wire.specs.Parsed.{Parsed}
-use Rattle.wire.specs.Parsed.{Refused, Stream, Message, Memory}
+use Rattle.wire.specs.Parsed.{Refused, Stream, Message}
 use Rattle.wire.specs.Packet.{ids_of}
 use Rattle.wire.specs.Parsed.{parsed}
 use Rattle.wire.specs.declared.Setup.{Setup}
@@ -68,7 +68,6 @@ unfoldable pub is_segment : Parsed → Bool
 is_segment (Refused number) = false
 is_segment (Stream g) = true
 is_segment (Message m) = false
-is_segment (Memory r) = false
 
 unfoldable pub is_fair_turn : Setup → Turn → Bool
 is_fair_turn setup (next flow) = true

@@ -100,8 +100,8 @@ sent_fair setup (x ∷ xs) fair flow = go (same_flow flow x.flow) (sent_fair set
     go true rest = fair.0.PDUs
     go false rest = rest
 
-pub whole_is-intact : WholeIsIntact
-whole_is-intact setup s flow allowed fair done =
+pub whole_is_intact : WholeIsIntact
+whole_is_intact setup s flow allowed fair done =
     let on : List Put = put_by flow (events (queues setup s) s.turns) in
     let all : on ≡ queues setup s flow = sym (append-nil on) ∙ ap (λ (l : List Put). on ++ l) (sym done) ∙ in_order setup s flow in
     completes flow (events (queues setup s) s.turns) ∙ ap completed all

@@ -10,19 +10,19 @@ use lib.Dec.{eqb, ltb}
 use borrow.Author.Tests.{eqb-true, ltb-true, ltb-false, not-false}
 use Rattle.lists.proofs.Tests.{neither}
 use Rattle.answers.specs.Answers as answers
-use Rattle.tables.specs.Refusals.{Row, Leaves, all, flow_closed, all_error, all_retry, all_request_error, Verdict, refuse, accept, verdict, none, given}
+use Rattle.tables.specs.Refusals.{Row, Leaves, all, flow_closed, all_error, all_retry, Verdict, refuse, accept, verdict, none, given}
 use Rattle.tables.proofs.Exactly.{none-held}
 use Rattle.wire.specs.declared.Flow.{Flow}
 use Rattle.wire.specs.Segment.{Segment}
 use Rattle.wire.specs.declared.MessageSegment.{MessageSegment}
 use Rattle.wire.specs.Type11.{is_single, mailbox}
-use Rattle.wire.specs.Head.{is9, is11, head_rows}
+use Rattle.wire.specs.Head.{is9, head_rows}
 use Rattle.sizes.specs.Sizes.{bytes_of, data_length}
 use Rattle.rules.specs.Segments.{malformed}
 use Rattle.rules.specs.Messages.{last_with, form_rows}
 use Rattle.messages.specs.Rows.{message_found as found, message_open, message_rows}
 use Rattle.wire.specs.declared.Setup.{Setup}
-use Rattle.contexts.specs.State.{State, ids_in, free_stream, free_message, message_in}
+use Rattle.contexts.specs.State.{State, free_stream, free_message, message_in}
 use Rattle.contexts.specs.Words.{state_words}
 use Rattle.refusal19.specs.Refusal19.{named_by_19}
 use Rattle.streams.specs.Rows.{found_for, flow_open, held_before, total, not_open, passes_room, none_free, stream_rows}
@@ -31,12 +31,10 @@ use Rattle.streams.specs.Joining as stream
 use Rattle.streams.proofs.Kept as streams
 use Rattle.message_rooms.specs.Placing as boxes
 use Rattle.messages.specs.Joining as message
-use Rattle.reading.specs.Table.{Lent, lent, state_in, segment_in, message_segment_in, request_in, is_state_words, wrong_sizes, lent_rows, table}
-use Rattle.reading.specs.Read.{Settled, of_stream, of_message, of_memory, refusing, outcome, reading}
+use Rattle.reading.specs.Table.{Lent, lent, state_in, segment_in, message_segment_in, is_state_words, wrong_sizes, lent_rows, table}
+use Rattle.reading.specs.Read.{Settled, of_stream, of_message, refusing, outcome, reading}
 use Rattle.reading.specs.Inside.{Fit, ReadyToRead}
-use Rattle.memories.specs.Serving.{request_served}
 use Rattle.reading.proofs.Laws.{sizes_fit}
-use Rattle.reading.proofs.Requests.{served_says, refused_says}
 use Rattle.reading.proofs.Kept.{good_words, room-kept}
 use Rattle.flows.proofs.Rooms.{stored-length, room-length}
 use Rattle.sending.specs.OfSendings.{LengthIsMeasured}
@@ -54,9 +52,6 @@ held_none context flow stream size e = let z : ◌≡◌ {A = ℕ} 0 1 = cc in o
 message_none : (n s l m z : ℕ) → NoDelivery (answers.message n s l m z)
 message_none n s l m z context flow stream size e = let w : ◌≡◌ {A = ℕ} 0 1 = cc in omega arith
 
-done_none : (a b c d : ℕ) → NoDelivery (answers.done a b c d)
-done_none a b c d context flow stream size e = let w : ◌≡◌ {A = ℕ} 0 1 = cc in omega arith
-
 -- refused, nothing is delivered
 leaving_none : (x : Lent) (number : ℕ) (leaves : Leaves) → NoDelivery (refusing x number leaves).says
 unfolding stream.refused_closing
@@ -64,7 +59,6 @@ leaving_none x number all = refused_none number
 leaving_none x number flow_closed = refused_none number
 leaving_none x number all_error = refused_none number
 leaving_none x number all_retry = refused_none number
-leaving_none x number all_request_error = refused_says (ids_in (state_in x)) x.desk.memory x.desk.response x.packet (request_in x) NoDelivery number (refused_none number)
 
 -- nor is a PDU by a message
 answer_none : (m : MessageSegment) (n marks last : ℕ) → NoDelivery (boxes.answer_with m n marks last)
@@ -202,25 +196,19 @@ pub delivers : (x : Lent) (context : ℕ) (flow : Flow) (st size : ℕ) → (rea
 unfolding reading
 delivers x context flow st size = by_verdict_lem (verdict (table x)) refl
   where
-    of_stream_lem : Settled
-    of_stream_lem = of_stream x (stream.accepted (state_in x) x.desk.stream_memory x.packet (segment_in x))
-
-    of_message_lem : Settled
-    of_message_lem = of_message x (message.message_accepted (state_in x) x.desk.message_memory x.desk.response x.packet (message_segment_in x))
-
-    of_memory_lem : Settled
-    of_memory_lem = of_memory x (request_served (ids_in (state_in x)) x.desk.memory x.desk.response x.packet (request_in x))
-
-    by_type : (t u : Bool) → is9 x.packet ≡ t → none (table x) → (cond t of_stream_lem (cond u of_message_lem of_memory_lem)).says ≡ answers.delivered context flow st size
-        → Delivers 16 (state_in x).setup.room (cond t of_stream_lem (cond u of_message_lem of_memory_lem)) context size
-    by_type true u nine passed e = stream_delivers x passed nine context flow st size e
-    by_type false true nine passed e = absurd (messages_none (state_in x) x.desk.message_memory x.desk.response x.packet (message_segment_in x) context flow st size e)
-    by_type false false nine passed e =
-        absurd (served_says (ids_in (state_in x)) x.desk.memory x.desk.response x.packet (request_in x) NoDelivery done_none context flow st size e)
+    by_type : (t : Bool) → is9 x.packet ≡ t → none (table x)
+        → (cond t
+        (of_stream x (stream.accepted (state_in x) x.desk.stream_memory x.packet (segment_in x)))
+        (of_message x (message.message_accepted (state_in x) x.desk.message_memory x.desk.response x.packet (message_segment_in x)))).says ≡ answers.delivered context flow st size
+        → Delivers 16 (state_in x).setup.room (cond t
+        (of_stream x (stream.accepted (state_in x) x.desk.stream_memory x.packet (segment_in x)))
+        (of_message x (message.message_accepted (state_in x) x.desk.message_memory x.desk.response x.packet (message_segment_in x)))) context size
+    by_type true nine passed e = stream_delivers x passed nine context flow st size e
+    by_type false nine passed e = absurd (messages_none (state_in x) x.desk.message_memory x.desk.response x.packet (message_segment_in x) context flow st size e)
 
     by_verdict_lem : (v : Verdict) → verdict (table x) ≡ v → (outcome x v).says ≡ answers.delivered context flow st size → Delivers 16 (state_in x).setup.room (outcome x v) context size
     by_verdict_lem (refuse number leaves) e d = absurd (leaving_none x number leaves context flow st size d)
-    by_verdict_lem accept e d = by_type (is9 x.packet) (is11 x.packet) refl (none-held (table x) e) d
+    by_verdict_lem accept e d = by_type (is9 x.packet) refl (none-held (table x) e) d
 
 pub length_is_measured : LengthIsMeasured
 length_is_measured d p context flow st size e =

@@ -8,7 +8,7 @@ use mathlib.Core.Option.{Option, none}
 use lib.ListN.{take}
 use Rattle.wire.specs.declared.Flow.{Flow}
 use Rattle.wire.specs.Parsed.{Parsed}
-use Rattle.wire.specs.Parsed.{Refused, Stream, Message, Memory}
+use Rattle.wire.specs.Parsed.{Refused, Stream, Message}
 use Rattle.wire.specs.Packet.{ids_of}
 use Rattle.wire.specs.Type9.{same_flow}
 use Rattle.wire.specs.Parsed.{parsed}
@@ -112,7 +112,6 @@ module _ (setup : Setup) (flows : List Flow) (Ok : Desk → Type 0) (law : ByFlo
       go (Refused number) e = law.of_refused b p number ok fair.1 e
       go (Stream g) e = absurd (fair.0 g e)
       go (Message m) e = law.of_message_lem b p m ok fair.1 e
-      go (Memory r) e = law.of_memory_lem b p r ok fair.1 e
 
   merge : (ts : List Turn) (q : Flow → List Put) (b : Desk) → Ok b → AllGood b q → Listed q → Each (FairTurn setup) ts → deliveries b (packets_left (events q ts)) ≡ wholes (events q ts)
   merge [] q b ok good listed fair = refl

@@ -47,7 +47,6 @@ module _ (R : ℕ) (memory : List ℕ) (flow : Flow) (p : PDU) where
       }
   numbers answers.held e = nothing e
   numbers (answers.message context source letter mailbox size) e = nothing e
-  numbers (answers.done request source from size) e = nothing e
   numbers (answers.refused number) e = nothing e
 
 -- the same with the length, which is that of the bytes

@@ -8,7 +8,7 @@ use Rattle.lists.proofs.Numbers.{number_two}
 use Rattle.wire.specs.Packet.{header, tt as tt·of, tt_of, destination, source, id_bytes, first_byte_of, addressed}
 use Rattle.wire.proofs.Widths.{some_byte, two_bytes, narrow_is}
 use Rattle.wire.proofs.Addressed.{length-addressed, destination-addressed, source-addressed}
-use Rattle.responses.specs.Type13.{response_room}
+use Rattle.responses.specs.Type13.{response_size}
 use Rattle.contexts.specs.State.{ids_in}
 use Rattle.reading.specs.Desk.{Desk, state_on}
 use Rattle.reading.specs.Table.{lent_refusal}
@@ -57,33 +57,33 @@ module _ (h : Heading) (mtu : ℕ) (pdu : List ℕ) (k narrow : ℕ) where
   abbrev wide : List ℕ
   wide = packet_of (heading_with 0 h) mtu pdu k
 
-  wide-cut : wide ≡ cut h mtu pdu k 2
+  wide_cut : wide ≡ cut h mtu pdu k 2
   unfolding packet_of id_bytes
-  wide-cut = refl
+  wide_cut = refl
 
   slim_cut : (narrow ≡ 0 → ⊥) → packet_of (heading_with narrow h) mtu pdu k ≡ narrowed wide
   unfolding packet_of
   slim_cut slim =
       ap (cut h mtu pdu k) (narrow_is narrow slim)
       ∙ (ap (λ (first : ℕ). addressed 1 first h.destination h.source (rest h mtu pdu k)) (sym (first_narrowed h.priority 9))
-      ∙ (sym (narrowed-addressed (first_byte_of 2 h.priority 9) h.destination h.source (rest h mtu pdu k)) ∙ ap narrowed (sym wide-cut)))
+      ∙ (sym (narrowed-addressed (first_byte_of 2 h.priority 9) h.destination h.source (rest h mtu pdu k)) ∙ ap narrowed (sym wide_cut)))
 
   module _ (to : h.destination < 256) (by : h.source < 256) where
     to_is : destination 2 wide ≡ h.destination
     to_is =
-        ap (destination 2) wide-cut
+        ap (destination 2) wide_cut
         ∙ destination-addressed 2 (first_byte_of 2 h.priority 9) h.destination h.source (rest h mtu pdu k) (let e : h.destination < 65536 = omega arith in e)
 
     by_is : source 2 wide ≡ h.source
     by_is =
-        ap (source 2) wide-cut
+        ap (source 2) wide_cut
         ∙ source-addressed 2 (first_byte_of 2 h.priority 9) h.destination h.source (rest h mtu pdu k) (let e : h.source < 65536 = omega arith in e)
 
-    answered-alike : (narrow ≡ 0 → ⊥) → (d : Desk) (response : List ℕ) → (state_on d).setup.narrow ≡ 0 → lent_refusal d ≡ 0 → response_room 1 ≤ length response
+    answered-alike : (narrow ≡ 0 → ⊥) → (d : Desk) (response : List ℕ) → (state_on d).setup.narrow ≡ 0 → lent_refusal d ≡ 0 → response_size 1 ≤ length response
         → read (with_width narrow response d) (packet_of (heading_with narrow h) mtu pdu k) ≡ narrowed_answer narrow response (read d wide)
     answered-alike slim d response at_16 passed room =
-        let long : header 2 ≤ length wide = rw wide-cut (omega (arith, long-cut h mtu pdu k 2)) in
-        let two : tt·of wide ≡ tt_of 2 = ap tt·of wide-cut ∙ tt-cut h mtu pdu k 2 (omega arith) (omega arith) in
+        let long : header 2 ≤ length wide = rw wide_cut (omega (arith, long-cut h mtu pdu k 2)) in
+        let two : tt·of wide ≡ tt_of 2 = ap tt·of wide_cut ∙ tt-cut h mtu pdu k 2 (omega arith) (omega arith) in
         ap (read (with_width narrow response d)) (slim_cut slim)
         ∙ same_but_for_ids narrow d response wide at_16 passed slim room long two (omega (arith, to_is)) (omega (arith, by_is))
 

@@ -1,4 +1,4 @@
--- The premises can be met: three flows, two of which differ in priority alone, a loss, and messages and requests for the memory between. MTU 32, R 64, device 1, IDs of either
+-- The premises can be met: three flows, two of which differ in priority alone, a loss, and messages between. MTU 32, R 64, device 1, IDs of either
 -- width.
 use Rattle.std.specs.Prelude.{ℕ, ◌≡◌, List, [], ◌∷◌, map, replicate}
 use Rattle.lists.specs.Each.{Each}
@@ -9,7 +9,6 @@ use Rattle.contexts.specs.State.{fixed}
 use Rattle.flows.specs.Deliveries.{delivery, deliveries}
 use Rattle.flows.specs.Fresh.{zero_desk}
 use Rattle.flows.specs.Widths.{both_widths, at_width}
-use Rattle.flows.specs.Vectors.{write_one, read_outside}
 use Rattle.sending.specs.Sending.{Sent, next, between, Sending, losses, packets, whole, Fair}
 
 abbrev pub small_setup : (narrow : ℕ) → Setup
@@ -48,7 +47,6 @@ letter_one = 0x1B ∷ 0x00 ∷ 0x01 ∷ 0x00 ∷ 0x02 ∷ 0x09 ∷ 0x60 ∷ 0x11
 abbrev pub reserved_ssize : List ℕ
 reserved_ssize = 0x1B ∷ 0x00 ∷ 0x01 ∷ 0x00 ∷ 0x02 ∷ 0x00 ∷ 0x60 ∷ []
 
--- three flows; between their packets a message, a write of a byte, a refused message and a refused read
 abbrev pub mixture : (narrow : ℕ) → Sending
 mixture narrow = record {
   flows =
@@ -57,8 +55,8 @@ mixture narrow = record {
       ∷ record { flow = six; sent = odd ∷ [] }
       ∷ [];
   turns =
-      next five ∷ next six ∷ between (at_width narrow letter_one) ∷ between (at_width narrow write_one) ∷ next five ∷ next five ∷ next urgent_five
-      ∷ between (at_width narrow reserved_ssize) ∷ next six ∷ between (at_width narrow read_outside) ∷ next urgent_five ∷ next five ∷ next six ∷ [];
+      next five ∷ next six ∷ between (at_width narrow letter_one) ∷ next five ∷ next five ∷ next urgent_five ∷ between (at_width narrow reserved_ssize)
+      ∷ next six ∷ next urgent_five ∷ next five ∷ next six ∷ [];
 }
 
 -- it is fair; a packet of it is lost; these are left, to the byte; and these are whole, in the order of their last packets
@@ -70,12 +68,10 @@ pub record FairMixture (narrow : ℕ) : Type 0 where
       ((0x19 ∷ 0x00 ∷ 0x01 ∷ 0x00 ∷ 0x05 ∷ 0x01 ∷ 0x80 ∷ 0x00 ∷ 0x01 ∷ replicate 32 7)
       ∷ (0x59 ∷ 0x00 ∷ 0x01 ∷ 0x00 ∷ 0x06 ∷ 0x02 ∷ 0x80 ∷ 0x00 ∷ 0x03 ∷ replicate 32 3)
       ∷ letter_one
-      ∷ write_one
       ∷ (0x19 ∷ 0x00 ∷ 0x01 ∷ 0x00 ∷ 0x05 ∷ 0x01 ∷ 0x80 ∷ 0x00 ∷ 0x02 ∷ replicate 32 9)
       ∷ (0xD9 ∷ 0x00 ∷ 0x01 ∷ 0x00 ∷ 0x05 ∷ 0x01 ∷ 0x80 ∷ 0x00 ∷ 0x02 ∷ replicate 32 9)
       ∷ reserved_ssize
       ∷ (0x59 ∷ 0x00 ∷ 0x01 ∷ 0x00 ∷ 0x06 ∷ 0x02 ∷ 0x43 ∷ 0x00 ∷ 0x21 ∷ 0x03 ∷ 0x00 ∷ [])
-      ∷ read_outside
       ∷ (0xD9 ∷ 0x00 ∷ 0x01 ∷ 0x00 ∷ 0x05 ∷ 0x01 ∷ 0x40 ∷ 0x00 ∷ 0x24 ∷ replicate 4 9)
       ∷ (0x19 ∷ 0x00 ∷ 0x01 ∷ 0x00 ∷ 0x05 ∷ 0x01 ∷ 0x40 ∷ 0x00 ∷ 0x28 ∷ replicate 8 9)
       ∷ [])

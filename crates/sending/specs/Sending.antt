@@ -176,7 +176,7 @@ pub record FairFlow (setup : Setup) (x : FlowSent) : Type 0 where
   pub cos : x.flow.cos < 256
   pub PDUs : Each (FairPDU setup.room) x.sent
 
--- any other packet is made of bytes, and is no type 9 segment for us: a message, a request for the memory, or one that rows 1 to 5 refuse
+-- any other packet is made of bytes, and is no type 9 segment for us: a message, or one that rows 1 to 5 refuse
 abbrev pub FairTurn : Setup → Turn → Type 0
 FairTurn setup (next flow) = Unit {0}
 FairTurn setup (between p) = ((g : Segment) → parsed setup p ≡ Stream g → ⊥) × AreBytes p

@@ -2,7 +2,7 @@
 use Rattle.std.specs.Prelude.{ℕ, ◌≤◌, ◌<◌, ◌≡◌, List, false, length}
 use Rattle.lists.specs.Bytes.{byte}
 use Rattle.answers.specs.Answers.{refused}
-use Rattle.responses.specs.Type13.{response_room}
+use Rattle.responses.specs.Type13.{response_size}
 use Rattle.contexts.specs.State.{ids_in}
 use Rattle.reading.specs.Desk.{Desk, state_on}
 use Rattle.reading.specs.Table.{lent_refusal}
@@ -36,7 +36,7 @@ pub record CutAlike (h : Heading) (mtu : ℕ) (pdu : List ℕ) (k narrow : ℕ) 
   -- and which are 0
   pub high_bytes : (byte (packet_of (heading_with 0 h) mtu pdu k) 1 ≡ 0) × (byte (packet_of (heading_with 0 h) mtu pdu k) 3 ≡ 0)
   -- two endpoints whose states differ in the width word alone answer the same to it
-  pub answers : (d : Desk) (response : List ℕ) → (state_on d).setup.narrow ≡ 0 → lent_refusal d ≡ 0 → response_room 1 ≤ length response
+  pub answers : (d : Desk) (response : List ℕ) → (state_on d).setup.narrow ≡ 0 → lent_refusal d ≡ 0 → response_size 1 ≤ length response
       → read (with_width narrow response d) (packet_of (heading_with narrow h) mtu pdu k) ≡ narrowed_answer narrow response (read d (packet_of (heading_with 0 h) mtu pdu k))
 
 abbrev pub SegmentsSameButForIDs : Type 0

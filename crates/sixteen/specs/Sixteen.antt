@@ -9,7 +9,6 @@ use Rattle.flows.specs.OneFlow.{pdu}
 use Rattle.flows.specs.Deliveries.{delivery, desk_after, deliveries}
 use Rattle.flows.specs.Fresh.{zero_desk}
 use Rattle.flows.specs.Widths.{both_widths, at_width}
-use Rattle.flows.specs.Vectors.{write_one, read_outside}
 use Rattle.sending.specs.Sending.{Sent, losses, FlowSent, Turn, next, between, Sending, packets, whole, Fair}
 use Rattle.sending.specs.OfSendings.{first_turns}
 use Rattle.sending.specs.Mixture.{letter_one, reserved_ssize}
@@ -37,16 +36,14 @@ sends_forty n = record { flow = source_of n; sent = forty n ∷ [] }
 abbrev pub each_puts : List ℕ → List Turn
 each_puts sources = map (λ (n : ℕ). next (source_of n)) sources
 
--- packets between: a message; a reserved ssize; a write of the memory that is done, and a read that is refused; type 8; a start for device 2; a start on flow 3 with xh=1; one of flow 4 that is cut short; no
+-- packets between: a message; a reserved ssize; type 5; a start for device 2; a start on flow 3 with xh=1; one of flow 4 that is cut short; no
 -- byte at all; and a start on flow 4 with IDs of the other width
 abbrev pub others : (narrow : ℕ) → List (List ℕ)
 others narrow =
     map (at_width narrow)
     (letter_one
     ∷ reserved_ssize
-    ∷ write_one
-    ∷ read_outside
-    ∷ (0x18 ∷ 0x00 ∷ 0x01 ∷ 0x00 ∷ 0x03 ∷ 0x05 ∷ 0x80 ∷ 0x00 ∷ 0x07 ∷ replicate 32 9)
+    ∷ (0x15 ∷ 0x00 ∷ 0x01 ∷ 0x00 ∷ 0x03 ∷ 0x05 ∷ 0x80 ∷ 0x00 ∷ 0x07 ∷ replicate 32 9)
     ∷ (0x19 ∷ 0x00 ∷ 0x02 ∷ 0x00 ∷ 0x03 ∷ 0x05 ∷ 0x80 ∷ 0x00 ∷ 0x07 ∷ replicate 32 9)
     ∷ (0x19 ∷ 0x00 ∷ 0x01 ∷ 0x00 ∷ 0x03 ∷ 0x05 ∷ 0x84 ∷ 0x00 ∷ 0x07 ∷ replicate 32 9)
     ∷ (0x19 ∷ 0x00 ∷ 0x01 ∷ 0x00 ∷ 0x04 ∷ 0x05 ∷ 0x80 ∷ 0x00 ∷ [])

@@ -1,5 +1,4 @@
--- Sizes of types 9 and 11: document 01, 'Packet bytes'; 002 (Part 2, rev. 2.1), 4.2.5 and table 4-4, for the ssize codes. `in_eights` is also of the data of types
--- 5 and 6 (document 02, M-100).
+-- Sizes of types 9 and 11: document 01, 'Packet bytes'; 002 (Part 2, rev. 2.1), 4.2.5 and table 4-4, for the ssize codes.
 use Rattle.std.specs.Prelude.{ℕ, ◌-◌, ◌%◌, List, [], ◌∷◌, Bool, cond, not, ◌||◌, ◌&&◌, get_or, eqb, ltb, leb}
 use Rattle.wire.specs.Segment.{Segment}
 

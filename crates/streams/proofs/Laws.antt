@@ -223,8 +223,8 @@ module _ (ids : ℕ) (p : List ℕ) {bits : ℕ} (w : bits ≡ flags ids p) wher
   pub begins_by : {r b : Bool} → r ≡ bit bits 128 → r ≡ b → (segment_of ids p).begins ≡ b
   begins_by t e = begins_is ids p ∙ rw (← w) (sym t ∙ e)
 
-  pub size_by_lem : (n mtu : ℕ) {r b : Bool} → r ≡ wrong_size (bit bits 64) n mtu → r ≡ b → wrong_size (segment_of ids p).ends n mtu ≡ b
-  size_by_lem n mtu t e = rw (ends_is ids p, ← w) (sym t ∙ e)
+  pub size_by : (n mtu : ℕ) {r b : Bool} → r ≡ wrong_size (bit bits 64) n mtu → r ≡ b → wrong_size (segment_of ids p).ends n mtu ≡ b
+  size_by n mtu t e = rw (ends_is ids p, ← w) (sym t ∙ e)
 
 -- an end has a field, and by it its length differs or not
 module _ (ids : ℕ) (p : List ℕ) (e : (segment_of ids p).ends ≡ true) where

@@ -1,6 +1,6 @@
 -- What a type 9 packet leaves, accepted or refused (document 01, 'Cutting and joining PDUs').
 use Rattle.std.specs.Prelude.{ℕ, List, false, cond, ◌&&◌}
-use Rattle.tables.specs.Refusals.{Leaves, all, flow_closed, all_error, all_retry, all_request_error, verdict, by_verdict}
+use Rattle.tables.specs.Refusals.{Leaves, all, flow_closed, all_error, all_retry, verdict, by_verdict}
 use Rattle.answers.specs.Answers.{refused}
 use Rattle.wire.specs.Segment.{Segment}
 use Rattle.contexts.specs.State.{State, stream_in, with_stream, closed_stream, free_stream}
@@ -33,7 +33,6 @@ stream_refusing s memory g number all = refused_staying s memory number
 stream_refusing s memory g number flow_closed = refused_closing s memory g number
 stream_refusing s memory g number all_error = refused_staying s memory number
 stream_refusing s memory g number all_retry = refused_staying s memory number
-stream_refusing s memory g number all_request_error = refused_staying s memory number
 
 -- a type 9 packet from row 6 on: the first row that holds decides
 unfoldable pub stepped : State → List ℕ → List ℕ → Segment → Joined

@@ -5,7 +5,7 @@ use mathlib.Core.List.{List, [], ◌∷◌}
 use mathlib.Core.Bool.{Bool, true, false, cond}
 use Rattle.lists.specs.Each.{Each}
 use Rattle.tables.specs.Refusals.{RowOf, row, VerdictOf, refuse, accept, verdict, by_verdict, none}
-use Rattle.tables.proofs.Exactly.{every-row, none-held}
+use Rattle.tables.proofs.Exactly.{every_row, none-held}
 
 module _ {L O : Type 0} (refusing : ℕ → L → O) (accepting : O) where
   -- what the first row leaves, or what the others do
@@ -26,7 +26,7 @@ module _ {L O : Type 0} (refusing : ℕ → L → O) (accepting : O) where
   whichever P rows each accepts = go (verdict rows) refl
     where
       go : (v : VerdictOf L) → verdict rows ≡ v → P (by_verdict refusing accepting v)
-      go (refuse number leaves) e = every-row (λ (l : L). (n : ℕ) → P (refusing n l)) rows number leaves each e number
+      go (refuse number leaves) e = every_row (λ (l : L). (n : ℕ) → P (refusing n l)) rows number leaves each e number
       go accept e = accepts (none-held rows e)
 
 -- a part of a table with its own outcomes, carried over into those of the whole: row by row, and where it accepts
@@ -39,5 +39,5 @@ module _ {L P O : Type 0} (carry : P → O) (refusing-part : ℕ → L → P) (a
   carried rows each accepts = go (verdict rows) refl
     where
       go : (v : VerdictOf L) → verdict rows ≡ v → carry (by_verdict refusing-part accepting-part v) ≡ by_verdict refusing accepting v
-      go (refuse number leaves) e = every-row Carries rows number leaves each e number
+      go (refuse number leaves) e = every_row Carries rows number leaves each e number
       go accept e = accepts

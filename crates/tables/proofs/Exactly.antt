@@ -36,10 +36,10 @@ module _ {L : Type 0} where
           (w.0, record { earlier = r ∷ d.earlier; later = d.later; place = ap (λ (l : List (RowOf L)). r ∷ l) d.place; before = (h, d.before); this = d.this }, w.2, w.3)
 
   -- what every row of a table leaves, a refusal by it leaves
-  pub every-row : (P : L → Type 0) (table : List (RowOf L)) (number : ℕ) (leaves : L) → Each (λ (r : RowOf L). P r.leaves) table → verdict table ≡ refuse number leaves → P leaves
+  pub every_row : (P : L → Type 0) (table : List (RowOf L)) (number : ℕ) (leaves : L) → Each (λ (r : RowOf L). P r.leaves) table → verdict table ≡ refuse number leaves → P leaves
   unfolding verdict
-  every-row P [] number leaves rows e = absurd (let z : ◌≡◌ {A = ℕ} 0 1 = cc in omega arith)
-  every-row P (r ∷ table) number leaves rows e = go r.holds e (every-row P table number leaves rows.1)
+  every_row P [] number leaves rows e = absurd (let z : ◌≡◌ {A = ℕ} 0 1 = cc in omega arith)
+  every_row P (r ∷ table) number leaves rows e = go r.holds e (every_row P table number leaves rows.1)
     where
       go : (b : Bool) → cond b (refuse r.number r.leaves) (verdict table) ≡ refuse number leaves → (verdict table ≡ refuse number leaves → P leaves) → P leaves
       go true e ih = let same : r.leaves ≡ leaves = cc in rw (← same) rows.0

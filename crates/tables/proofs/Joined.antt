@@ -1,6 +1,6 @@
 -- Tables made of tables: two joined, and rows that ask one thing more first.
 use Prim.Native.Nat.{ℕ}
-use mathlib.Core.Path.{◌≡◌, refl, ap, ap₂, ◌∙◌}
+use mathlib.Core.Path.{◌≡◌, refl, ap, ◌∙◌}
 use mathlib.Core.List.{List, [], ◌∷◌, ◌++◌}
 use mathlib.Core.Bool.{Bool, true, false, cond}
 use Rattle.tables.specs.Refusals.{RowOf, VerdictOf, refuse, accept, verdict, given, none}
@@ -43,25 +43,16 @@ module _ {L : Type 0} where
   verdict-given true rows = given_true rows
   verdict-given false rows = given_false rows
 
-  -- three parts of which one is asked for: the one
-  or_accept : (v : VerdictOf L) → or_else v accept ≡ v
-  or_accept (refuse number leaves) = refl
-  or_accept accept = refl
+  -- two parts of which one is asked for: the one
+  pub first_given : (first second : List (RowOf L)) → verdict (given true first ++ given false second) ≡ verdict first
+  first_given first second = verdict-joined (given true first) (given false second) ∙ rw (given_true first, given_false second) (or_accept (verdict first))
+    where
+      or_accept : (v : VerdictOf L) → or_else v accept ≡ v
+      or_accept (refuse number leaves) = refl
+      or_accept accept = refl
 
-  three_given : (a b c : Bool) (first second third : List (RowOf L)) → verdict (given a first ++ (given b second ++ given c third))
-      ≡ or_else (cond a (verdict first) accept) (or_else (cond b (verdict second) accept) (cond c (verdict third) accept))
-  three_given a b c first second third =
-      verdict-joined (given a first) (given b second ++ given c third)
-      ∙ ap₂ or_else (verdict-given a first) (verdict-joined (given b second) (given c third) ∙ ap₂ or_else (verdict-given b second) (verdict-given c third))
-
-  pub first_given : (first second third : List (RowOf L)) → verdict (given true first ++ (given false second ++ given false third)) ≡ verdict first
-  first_given first second third = three_given true false false first second third ∙ or_accept (verdict first)
-
-  pub second_given : (first second third : List (RowOf L)) → verdict (given false first ++ (given true second ++ given false third)) ≡ verdict second
-  second_given first second third = three_given false true false first second third ∙ or_accept (verdict second)
-
-  pub third_given : (first second third : List (RowOf L)) → verdict (given false first ++ (given false second ++ given true third)) ≡ verdict third
-  third_given first second third = three_given false false true first second third
+  pub second_given : (first second : List (RowOf L)) → verdict (given false first ++ given true second) ≡ verdict second
+  second_given first second = joined_passes (given false first) (given true second) (given_false first) ∙ given_true second
 
   -- where no row of the joined table holds, none of either part does
   pub none-joined : (first second : List (RowOf L)) → none (first ++ second) → none first × none second

@@ -6,14 +6,14 @@ use mathlib.Core.Bool.{Bool, true, false, cond}
 use native.Mathlib.Omega.{arith}
 use Rattle.lists.specs.Each.{Each}
 use Rattle.tables.specs.Refusals.{RowOf, VerdictOf, refuse, accept, number_of, verdict}
-use Rattle.tables.proofs.Exactly.{every-row}
+use Rattle.tables.proofs.Exactly.{every_row}
 
 module _ {L : Type 0} where
   -- what every row's number has, a refusal's has
-  pub every-number : (P : ℕ → Type 0) (table : List (RowOf L)) (number : ℕ) (leaves : L) → Each (λ (r : RowOf L). P r.number) table → verdict table ≡ refuse number leaves → P number
+  pub every_number : (P : ℕ → Type 0) (table : List (RowOf L)) (number : ℕ) (leaves : L) → Each (λ (r : RowOf L). P r.number) table → verdict table ≡ refuse number leaves → P number
   unfolding verdict
-  every-number P [] number leaves rows e = absurd (let z : ◌≡◌ {A = ℕ} 0 1 = cc in omega arith)
-  every-number P (r ∷ table) number leaves rows e = go r.holds e (every-number P table number leaves rows.1)
+  every_number P [] number leaves rows e = absurd (let z : ◌≡◌ {A = ℕ} 0 1 = cc in omega arith)
+  every_number P (r ∷ table) number leaves rows e = go r.holds e (every_number P table number leaves rows.1)
     where
       go : (b : Bool) → cond b (refuse r.number r.leaves) (verdict table) ≡ refuse number leaves → (verdict table ≡ refuse number leaves → P number) → P number
       go true e ih = let same : r.number ≡ number = cc in rw (← same) rows.0
@@ -25,7 +25,7 @@ module _ {L : Type 0} where
   number_refused leaves table number same e n = go (verdict table) refl
     where
       go : (v : VerdictOf L) → verdict table ≡ v → verdict table ≡ refuse number leaves
-      go (refuse m l) q = q ∙ ap₂ refuse (sym (e ∙ ap number_of q)) (every-row (λ (k : L). k ≡ leaves) table m l same q)
+      go (refuse m l) q = q ∙ ap₂ refuse (sym (e ∙ ap number_of q)) (every_row (λ (k : L). k ≡ leaves) table m l same q)
       go accept q = absurd (n (e ∙ ap number_of q))
 
   pub number-accepted : (table : List (RowOf L)) → Each (λ (r : RowOf L). r.number ≡ 0 → ⊥) table → number_of (verdict table) ≡ 0 → verdict table ≡ accept

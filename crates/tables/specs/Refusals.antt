@@ -12,8 +12,6 @@ pub data Leaves : Type 0 where
   all_error : Leaves
   -- all but the response: RETRY is written there
   all_retry : Leaves
-  -- all; and where the transaction has a response, ERROR is written there
-  all_request_error : Leaves
 
 -- a row; L is what its last column says
 pub record RowOf (L : Type 0) : Type 0 where

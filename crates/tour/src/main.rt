@@ -39,14 +39,6 @@ fn line(answer: Answer) {
             number(mailbox);
             number(length);
         }
-        Answer::Done {
-            request: _,
-            source: _,
-            from: _,
-            length: _,
-        } => {
-            print_text(b"done");
-        }
         Answer::Refused(n) => {
             print_text(b"refused");
             number(n);
@@ -59,8 +51,7 @@ fn main() {
     let mut state = [0usize; contexts::WORDS];
     let mut streams = [0u8; 16384];
     let mut messages = [0u8; 32768];
-    let mut memory = [0u8; 64];
-    let mut response = [0u8; responses::LONGEST];
+    let mut response = [0u8; 7];
     endpoint::setup(
         &mut state,
         Setup {
@@ -72,14 +63,7 @@ fn main() {
     );
 
     let pdu = b"\x19\x00\x01\x00\x02\x05\xc1\x00\x07\xaa\xbb\xcc\x00";
-    let read = endpoint::read(
-        &mut state,
-        &mut streams,
-        &mut messages,
-        &mut memory,
-        &mut response,
-        pdu,
-    );
+    let read = endpoint::read(&mut state, &mut streams, &mut messages, &mut response, pdu);
     let answer = read.answer;
     line(answer);
     print_text(b"its bytes:");
@@ -91,14 +75,12 @@ fn main() {
         &mut state,
         &mut streams,
         &mut messages,
-        &mut memory,
         &mut response,
         message,
     );
     let answer = read.answer;
-    let written = read.response;
     line(answer);
     print_text(b"its response:");
-    print_bytes(b" ", &response[0..written]);
+    print_bytes(b" ", &response);
     print_text(b"\n");
 }

@@ -1,5 +1,4 @@
--- The head of a packet: what the types that are read begin with. The rows of the refusal table that it decides, in document 01's order and
--- words; row 4 as document 02, M-100, changes it.
+-- The head of a packet: what types 9 and 11 begin with. The rows of the refusal table that it decides, in document 01's order and words.
 use Rattle.std.specs.Prelude.{ℕ, ◌+◌, List, [], ◌∷◌, Bool, not, ◌||◌, ◌&&◌, length, eqb, ltb}
 use Rattle.tables.specs.Refusals.{Row, row, all}
 use Rattle.wire.specs.Packet.{header, tt, tt_of, packet_type, destination}
@@ -15,19 +14,6 @@ is9 p = eqb (packet_type p) 9
 abbrev pub is11 : List ℕ → Bool
 is11 p = eqb (packet_type p) 11
 
--- the requests for the memory (document 02, M-100)
-abbrev pub is2 : List ℕ → Bool
-is2 p = eqb (packet_type p) 2
-
-abbrev pub is5 : List ℕ → Bool
-is5 p = eqb (packet_type p) 5
-
-abbrev pub is6 : List ℕ → Bool
-is6 p = eqb (packet_type p) 6
-
-abbrev pub is_request : List ℕ → Bool
-is_request p = is2 p || (is5 p || is6 p)
-
 -- for the endpoint of that device ID and width; the lengths are those of IDs of two bytes, with IDs of one each is 2 less
 unfoldable pub head_rows : (device ids : ℕ) → List ℕ → List Row
 head_rows device ids p =
@@ -37,8 +23,8 @@ head_rows device ids p =
     ∷ row 2 (not (eqb (tt p) (tt_of ids))) all
     -- destination not ours
     ∷ row 3 (not (eqb (destination ids p) device)) all
-    -- type not 2, 5, 6, 9 or 11
-    ∷ row 4 (not (is9 p || (is11 p || is_request p))) all
+    -- type not 9 or 11
+    ∷ row 4 (not (is9 p || is11 p)) all
     -- under 7 bytes
     ∷ row 1 (under (header ids + 2) p) all
     -- type 9, xh=1

@@ -1,22 +1,14 @@
 -- What the functions of wire and heads promise those above. No promise of a public call speaks of it.
-use Rattle.std.specs.Prelude.{ℕ, ◌+◌, List, Bool, cond, ◌||◌, eqb, ltb, drop}
+use Rattle.std.specs.Prelude.{ℕ, ◌+◌, List, cond, ltb, drop}
 use Rattle.tables.specs.Refusals.{Leaves, Verdict, verdict, by_verdict}
 use Rattle.wire.specs.Packet.{header, packet_type}
 use Rattle.wire.specs.Head.{head_rows}
 use Rattle.wire.specs.Type9.{flags, flow_of}
 use Rattle.wire.specs.declared.StreamHead.{StreamHead}
 
--- a type whose packets are requests
-abbrev pub is_request_type : ℕ → Bool
-is_request_type type = eqb type 2 || (eqb type 5 || eqb type 6)
-
--- a type other than 9 whose packets are read
-abbrev pub is_other : ℕ → Bool
-is_other type = eqb type 11 || is_request_type type
-
--- the refusal's number, which is under 16; or 16 and the packet's type, where no row of its head refuses it
+-- the refusal's number, or the packet's type where no row of its head refuses it
 abbrev pub headed_by : List ℕ → Verdict → ℕ
-headed_by p = by_verdict (λ (number : ℕ) (leaves : Leaves). number) (16 + packet_type p)
+headed_by p = by_verdict (λ (number : ℕ) (leaves : Leaves). number) (packet_type p)
 
 unfoldable pub headed : (device ids : ℕ) → List ℕ → ℕ
 headed device ids p = headed_by p (verdict (head_rows device ids p))

@@ -2,9 +2,6 @@ pub mod Packet
 pub mod Segment
 pub mod Type9
 pub mod Type11
-pub mod Type2
-pub mod Type5
-pub mod Type6
 pub mod Head
 pub mod Parsed
 pub mod Inside

@@ -1,5 +1,4 @@
-// Packets as documents 01 and 02 lay them out: their head, the fields of types 2, 5, 6, 9 and 11, and laws of them. No state. fields and requests are the
-// code that reads them.
+// Packets as document 01 lays them out: their head, the fields of types 9 and 11, and laws of them. No state. fields is the code that reads them.
 ghost use Rattle.std.specs.Prelude.{◌≡◌, ◌<◌};
 ghost use Rattle.wire.specs.Packet.{bit as bit_of};
 ghost use Rattle.wire.specs.Type9.{same_flow};
@@ -41,19 +40,6 @@ pub struct MessageSegment {
     pub msglen: usize,
     pub ssize: usize,
     pub msgseg: usize,
-    pub raw: usize,
-}
-
-// A request for the memory, of type 2, 5 or 6. `request` is 16 times its type, plus its transaction; `address` that of its double-word. Its data lie from `from`
-// on, `raw` bytes.
-#[derive(Drop)]
-pub struct Request {
-    pub request: usize,
-    pub source: usize,
-    pub size: usize,
-    pub wdptr: usize,
-    pub address: usize,
-    pub from: usize,
     pub raw: usize,
 }
 

@@ -16,15 +16,8 @@ returns_3 c =
 
 returns_4 : tie.Need-returns-4
 returns_4 c =
-    let not_delivered = c.before.before in
-    let not_held = not_delivered.before.before in
-    rw (ne_eqb _ _ not_held.before.before.if1.false, ne_eqb _ _ not_held.if2.false, ne_eqb _ _ not_delivered.if3.false, eq-eqb _ _ c.if4.true)
-
-returns_5 : tie.Need-returns-5
-returns_5 c =
-    let not_delivered = c.before.before in
-    let not_held = not_delivered.before.before in
-    rw (ne_eqb _ _ not_held.before.before.if1.false, ne_eqb _ _ not_held.if2.false, ne_eqb _ _ not_delivered.if3.false, ne_eqb _ _ c.if4.false)
+    let not_held = c.before.before in
+    rw (ne_eqb _ _ not_held.before.before.if1.false, ne_eqb _ _ not_held.if2.false, ne_eqb _ _ c.if3.false)
 
 pub answer_of_spec : {M : Type 1} → statement M
-answer_of_spec = tie.close (tie.spec returns returns-2 returns_3 returns_4 returns_5)
+answer_of_spec = tie.close (tie.spec returns returns-2 returns_3 returns_4)

@@ -21,5 +21,4 @@ put_spec =
     (λ c. search rules) (λ c. simp length-set (omega arith)) (λ c. search rules)
     (λ c. search rules) (λ c. simp length-set (omega arith)) (λ c. search rules)
     (λ c. search rules) (λ c. simp length-set (omega arith)) (λ c. search rules)
-    (λ c. search rules) (λ c. simp length-set (omega arith)) (λ c. simp length-set)
     (λ c. stored _ _ c.args.r c.requires))

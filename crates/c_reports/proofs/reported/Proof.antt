@@ -5,7 +5,7 @@ use Rattle.c_reports.proofs.reported.Statement.{statement}
 use Rattle.c_reports.proofs.reported.Tie as tie
 
 returns : tie.Need-returns
-returns c = numbers_reported _ _ c.flag.ensures c.before.requires
+returns c = numbers_reported _ c.flag.ensures c.before.requires
 
 pub reported_spec : {M : Type 1} → statement M
 reported_spec = tie.close (tie.spec (λ c κs. search rules) returns)

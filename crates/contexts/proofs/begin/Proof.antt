@@ -8,8 +8,8 @@ use Rattle.contexts.proofs.begin.Statement.{statement}
 use Rattle.contexts.proofs.begin.Tie as tie
 
 -- the fourth word
-narrow-word : tie.Need-slice-write-state-4
-narrow-word c =
+narrow_word : tie.Need-slice-write-state-4
+narrow_word c =
     let cleared = c.before.before.before.clear in
     let room : 3 < length cleared.new.0 = search rules in
     let s = c.before.before.before.before.before.before.args.setup in
@@ -26,4 +26,4 @@ pub begin_spec : {M : Type 1} → statement M
 begin_spec =
     tie.close
     (tie.spec
-    (λ c κs. search rules) (λ c. search rules) (λ c. search rules) (λ c. search rules) (λ c. search rules) narrow-word (λ c. search rules) returns)
+    (λ c κs. search rules) (λ c. search rules) (λ c. search rules) (λ c. search rules) (λ c. search rules) narrow_word (λ c. search rules) returns)

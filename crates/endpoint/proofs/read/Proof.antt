@@ -8,14 +8,14 @@ use Rattle.endpoint.proofs.read.Tie as tie
 
 returns : tie.Need-returns
 returns c =
-    let at_read = c.before.before.before.before.before.before.before.before.before.before.before in
-    let s = at_read.before.before.before.before.before.before.before.before.before.before.before.before.args in
+    let at_read = c.before.before.before.before.before.before.before.before.before in
+    let s = at_read.before.before.before.before.before.before.before.before.before.before.args in
     let t = at_read.read in
-    as_reading (lent (desk s.state.now s.stream_memory_lem.now s.message_memory_lem.now s.memory.now s.response.now) s.packet.now) t.result c.reading-of.result
-    (desk t.new.0 t.new.1.0 t.new.1.1.0 t.new.1.1.1.0 t.new.1.1.1.1.0) t.ensures c.reading-of.ensures
+    as_reading (lent (desk s.state.now s.stream_memory_lem.now s.message_memory_lem.now s.response.now) s.packet.now) t.result c.reading-of.result
+    (desk t.new.0 t.new.1.0 t.new.1.1.0 t.new.1.1.1.0) t.ensures c.reading-of.ensures
 
 pub read_spec : {M : Type 1} → statement M
 read_spec =
     tie.close
     (tie.spec
-    (λ c κs. search rules) (λ c κs. search rules) (λ c. search rules) (λ c. search rules) (λ c. search rules) (λ c. search rules) (λ c. search rules) returns)
+    (λ c κs. search rules) (λ c κs. search rules) (λ c. search rules) (λ c. search rules) (λ c. search rules) (λ c. search rules) returns)

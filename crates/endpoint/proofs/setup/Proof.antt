@@ -1,7 +1,7 @@
 -- `endpoint::setup` meets its contract: each return is a row of setup's table, or a fresh state.
 use mathlib.Core.Path.{sym, ◌∙◌}
 use borrow.Author.Rules.{rules}
-use Rattle.endpoint.proofs.Calls.{setup-short, setup-wide, setup_mtu, setup-room, setup-ready}
+use Rattle.endpoint.proofs.Calls.{setup-short, setup_wide, setup_mtu, setup-room, setup-ready}
 use Rattle.endpoint.proofs.setup.Statement.{statement}
 use Rattle.endpoint.proofs.setup.Tie as tie
 
@@ -14,7 +14,7 @@ returns-2 : tie.Need-returns-2
 returns-2 c =
     let at_clear = c.before.before in
     let test = at_clear.before.before in
-    setup-wide _ _ test.before.before.if1.false _ (sym test.before.too_wide.ensures ∙ test.if2.true) at_clear.clear.ensures
+    setup_wide _ _ test.before.before.if1.false _ (sym test.before.too_wide.ensures ∙ test.if2.true) at_clear.clear.ensures
 
 -- 18: an MTU that is not allowed
 returns_3 : tie.Need-returns-3

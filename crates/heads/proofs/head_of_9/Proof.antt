@@ -56,4 +56,4 @@ head_of_9_spec =
     tie.close
     (tie.spec
     (λ c κs. search rules) (λ c. search rules) (λ c. search rules) (λ c κs. search rules) (λ c κs. search rules) returns
-    (λ c. search rules) (λ c. search rules) returns-2 (λ c. search rules) returns_3 returns_4)
+    (λ c. search rules) returns-2 returns_3 returns_4)

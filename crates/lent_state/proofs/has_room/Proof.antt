@@ -1,6 +1,6 @@
 -- `lent_state::has_room` meets its contract: each return follows from the tests on the way.
 use native.Mathlib.Omega.{arith}
-use Rattle.lent_state.proofs.Lent.{other-size, past_last_lem, by_length, rooms_small}
+use Rattle.lent_state.proofs.Lent.{other_size, past_last_lem, by_length, rooms_small}
 use Rattle.lent_state.proofs.has_room.Statement.{statement}
 use Rattle.lent_state.proofs.has_room.Tie as tie
 
@@ -10,7 +10,7 @@ mul_if1 c = omega (arith, rooms_small _ _ c.requires.0 c.requires.1)
 
 -- a memory of another size
 returns : tie.Need-returns
-returns c = other-size _ _ _ _ _ c.if1.true
+returns c = other_size _ _ _ _ _ c.if1.true
 
 -- past the last room
 returns-2 : tie.Need-returns-2

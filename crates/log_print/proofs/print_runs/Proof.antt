@@ -19,8 +19,7 @@ record Sums (log : List ℕ) (b : Desk) (out : List ℕ) (at count total : ℕ) 
   pub words : length b.words ≡ state_words
   pub streams : length b.stream_memory ≡ 32768
   pub messages : length b.message_memory ≡ 32768
-  pub memory : length b.memory ≡ 4096
-  pub reply : length b.response ≡ 263
+  pub reply : length b.response ≡ 7
   pub buffer : length out ≡ 65536
   pub few : count ≤ at
   pub inside : at ≤ length log
@@ -28,11 +27,11 @@ record Sums (log : List ℕ) (b : Desk) (out : List ℕ) (at count total : ℕ) 
   pub whole : total + length (still b log at count) ≡ length (output log)
 
 abbrev invariant-loop : tie.invariant-loop
-invariant-loop log state₀ streams₀ messages₀ memory₀ response₀ out₀ at₀ count₀ total₀ well₀ state streams messages memory response out at count total well =
-    Sums log (desk state streams messages memory response) out at count total
+invariant-loop log state₀ streams₀ messages₀ response₀ out₀ at₀ count₀ total₀ well₀ state streams messages response out at count total well =
+    Sums log (desk state streams messages response) out at count total
 
 abbrev decreases-loop : tie.decreases-loop
-decreases-loop log state₀ streams₀ messages₀ memory₀ response₀ out₀ at₀ count₀ total₀ well₀ state streams messages memory response out at count total well =
+decreases-loop log state₀ streams₀ messages₀ response₀ out₀ at₀ count₀ total₀ well₀ state streams messages response out at count total well =
     length log - at
 
 -- nothing is put, and the whole output is still to come
@@ -43,7 +42,6 @@ loop_holds c =
       words = made.setup.auto.0;
       streams = refl;
       messages = refl;
-      memory = refl;
       reply = refl;
       buffer = refl;
       few = omega arith;
@@ -54,40 +52,39 @@ loop_holds c =
 
 slice_aggregate_put : tie.Need-slice-aggregate-put invariant-loop decreases-loop
 slice_aggregate_put c =
-    let called = c.before.before.before.before.before.before.before in
-    let i = called.before.before.before.before.before.before.before.loop.invariant in
+    let called = c.before.before.before.before.before.before in
+    let i = called.before.before.before.before.before.before.loop.invariant in
     simp length-take (omega (arith, called.run.ensures.1.0, i.buffer))
 
 -- the last run
 returns : tie.Need-returns invariant-loop decreases-loop
 returns c =
-    let called = c.before.before.before.before.before.before.before.before.before in
-    let i = called.before.before.before.before.before.before.before.loop.invariant in
-    omega (arith, adds_last (desk _ _ _ _ _) _ _ _ _ _ (desk _ _ _ _ _) _ called.run.ensures.0 i.few c.if1.true, i.whole)
+    let called = c.before.before.before.before.before.before.before.before in
+    let i = called.before.before.before.before.before.before.loop.invariant in
+    omega (arith, adds_last (desk _ _ _ _) _ _ _ _ _ (desk _ _ _ _) _ called.run.ensures.0 i.few c.if1.true, i.whole)
 
 -- one more run: it has come on
 loop_less : tie.Need-loop-smaller invariant-loop decreases-loop
 loop_less c =
-    let called = c.before.before.before.before.before.before.before.before.before in
-    let i = called.before.before.before.before.before.before.before.loop.invariant in
+    let called = c.before.before.before.before.before.before.before.before in
+    let i = called.before.before.before.before.before.before.loop.invariant in
     let o = called.run.ensures.1.1 (omega (arith, i.buffer)) c.if1.false in
     omega (arith, o.0, o.1)
 
 loop_again : tie.Need-loop-preserved invariant-loop decreases-loop
 loop_again c =
-    let called = c.before.before.before.before.before.before.before.before.before in
-    let i = called.before.before.before.before.before.before.before.loop.invariant in
+    let called = c.before.before.before.before.before.before.before.before in
+    let i = called.before.before.before.before.before.before.loop.invariant in
     let r = called.run in
     let o = r.ensures.1.1 (omega (arith, i.buffer)) c.if1.false in
-    let m = adds-more (desk _ _ _ _ _) _ _ _ _ _ (desk _ _ _ _ _) _ r.ensures.0 i.few c.if1.false in
+    let m = adds-more (desk _ _ _ _) _ _ _ _ _ (desk _ _ _ _) _ r.ensures.0 i.few c.if1.false in
     record {
       words = r.auto.0 ∙ i.words;
       streams = r.auto.1.0 ∙ i.streams;
       messages = r.auto.1.1.0 ∙ i.messages;
-      memory = r.auto.1.1.1.0 ∙ i.memory;
-      reply = r.auto.1.1.1.1.0 ∙ i.reply;
-      buffer = r.auto.1.1.1.1.1.1.1.1.0 ∙ i.buffer;
-      few = few-behind (desk _ _ _ _ _) _ _ _ _ _ (desk _ _ _ _ _) _ r.ensures.0 i.few;
+      reply = r.auto.1.1.1.0 ∙ i.reply;
+      buffer = r.auto.1.1.1.1.1.1.1.0 ∙ i.buffer;
+      few = few-behind (desk _ _ _ _) _ _ _ _ _ (desk _ _ _ _) _ r.ensures.0 i.few;
       inside = o.1;
       fits = omega (arith, o.0, i.fits, i.buffer, r.ensures.1.0);
       whole = omega (arith, m, i.whole);
@@ -100,7 +97,7 @@ print_runs_spec =
     invariant-loop
     decreases-loop
     (λ c. search rules) (λ c κs. search rules) loop_holds
-    (λ c. search rules) (λ c. search rules) (λ c. search rules) (λ c. search rules) (λ c. search rules) (λ c. search rules) (λ c κs. search rules) (λ c. search rules)
+    (λ c. search rules) (λ c. search rules) (λ c. search rules) (λ c. search rules) (λ c. search rules) (λ c κs. search rules) (λ c. search rules)
     slice_aggregate_put
     (λ c κs. search rules) (λ c. search rules) returns
     loop_less

@@ -13,9 +13,9 @@ respond_requires c κs =
 
 returns : tie.Need-returns
 returns c =
-    let at-narrow = c.before.before.before in
-    let s = at-narrow.before.before.before.before.before in
-    reply_made (state_of s.args.state.now) at-narrow.narrow.ensures _ _ _ c.before.before.respond.ensures
+    let at_narrow = c.before.before.before in
+    let s = at_narrow.before.before.before.before.before in
+    reply_made (state_of s.args.state.now) at_narrow.narrow.ensures _ _ _ c.before.before.respond.ensures
 
 pub done_spec : {M : Type 1} → statement M
 done_spec = tie.close (tie.spec (λ c κs. search rules) respond_requires (λ c. search rules) returns)

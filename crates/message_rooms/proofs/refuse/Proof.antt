@@ -17,9 +17,9 @@ returns : tie.Need-returns
 returns c =
     let t = c.refusal.ensures in
     let at_respond = c.before.before.before in
-    let at-narrow = at_respond.before in
-    let s = at-narrow.before.before.before.before.before in
-    let made = reply_made (state_of s.args.state.now) at-narrow.narrow.ensures _ _ _ at_respond.respond.ensures in
+    let at_narrow = at_respond.before in
+    let s = at_narrow.before.before.before.before.before in
+    let made = reply_made (state_of s.args.state.now) at_narrow.narrow.ensures _ _ _ at_respond.respond.ensures in
     (record { answer = told_says _ (refused _) _ _ t; response = made.1 }, rw (← made.0) (told_tells _ (refused _) _ _ t))
 
 pub refuse_spec : {M : Type 1} → statement M

@@ -8,12 +8,11 @@ use Rattle.outside_narrow.proofs.print_records.Statement.{statement}
 use Rattle.outside_narrow.proofs.print_records.Tie as tie
 
 abbrev invariant-loop : tie.invariant-loop
-invariant-loop state₀ stream_memory₀ message_memory₀ memory₀ log at₀ state stream_memory_lem message_memory_lem memory at =
-    (length state ≡ length state₀) × (length stream_memory_lem ≡ length stream_memory₀) × (length message_memory_lem ≡ length message_memory₀) × (length memory ≡ length memory₀)
-    × (at ≤ length log)
+invariant-loop state₀ stream_memory₀ message_memory₀ log at₀ state stream_memory_lem message_memory_lem at =
+    (length state ≡ length state₀) × (length stream_memory_lem ≡ length stream_memory₀) × (length message_memory_lem ≡ length message_memory₀) × (at ≤ length log)
 
 abbrev decreases-loop : tie.decreases-loop
-decreases-loop state₀ stream_memory₀ message_memory₀ memory₀ log at₀ state stream_memory_lem message_memory_lem memory at = length log - at
+decreases-loop state₀ stream_memory₀ message_memory₀ log at₀ state stream_memory_lem message_memory_lem at = length log - at
 
 pub print_records_spec : {M : Type 1} → statement M
 print_records_spec =
@@ -21,4 +20,4 @@ print_records_spec =
     (tie.spec
     invariant-loop
     decreases-loop
-    (λ c. search rules) (λ c κs. search rules) (λ c. search rules) (λ c. search rules) (λ c. search rules) (λ c. search rules) (λ c. search rules) (λ c. search rules) (λ c. search rules))
+    (λ c. search rules) (λ c κs. search rules) (λ c. search rules) (λ c. search rules) (λ c. search rules) (λ c. search rules) (λ c. search rules) (λ c. search rules))

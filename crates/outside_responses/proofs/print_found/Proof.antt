@@ -7,27 +7,27 @@ use Rattle.outside_responses.proofs.print_found.Tie as tie
 
 -- nothing was found
 returns : tie.Need-returns
-returns c = none_is c.before.before.before.before.before.before.args.found c.match.keys2
+returns c = none_is c.before.before.before.before.before.args.found c.match.keys2
 
 -- a record: its packet lies in the log
 sub_print_packet : tie.Need-overflow-sub-print-packet
 sub_print_packet c =
-    let told = c.before.before.before.before.before in
-    (lies _ _ _ _ _ told.found.given.1 told.before.before.before.before.before.before.before.requires).0
+    let told = c.before.before.before.before in
+    (lies _ _ _ _ _ told.found.given.1 told.before.before.before.before.before.before.requires).0
 
 part_print_packet_start : tie.Need-slice-bounds-print-packet-start
 part_print_packet_start c =
-    let told = c.before.before.before.before.before in
-    let h = lies _ _ _ _ _ told.found.given.1 told.before.before.before.before.before.before.before.requires in
+    let told = c.before.before.before.before in
+    let h = lies _ _ _ _ _ told.found.given.1 told.before.before.before.before.before.before.requires in
     omega (arith, h.0, h.1)
 
 part_print_packet_end : tie.Need-slice-bounds-print-packet-end
 part_print_packet_end c =
-    let told = c.before.before.before.before.before in
-    (lies _ _ _ _ _ told.found.given.1 told.before.before.before.before.before.before.before.requires).1
+    let told = c.before.before.before.before in
+    (lies _ _ _ _ _ told.found.given.1 told.before.before.before.before.before.before.requires).1
 
 returns-2 : tie.Need-returns-2
-returns-2 c = record_is _ _ _ _ c.before.before.before.before.before.before.before.before.before.before.before.before.before.before.before.found.given.1
+returns-2 c = record_is _ _ _ _ c.before.before.before.before.before.before.before.before.before.before.before.before.found.given.1
 
 pub print_found_spec : {M : Type 1} → statement M
 print_found_spec =
@@ -37,4 +37,4 @@ print_found_spec =
     sub_print_packet
     part_print_packet_start
     part_print_packet_end
-    (λ c κs. search rules) (λ c. search rules) (λ c. search rules) (λ c. search rules) (λ c. search rules) returns-2)
+    (λ c κs. search rules) (λ c. search rules) (λ c. search rules) (λ c. search rules) returns-2)

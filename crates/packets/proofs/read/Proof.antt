@@ -1,18 +1,18 @@
 -- `packets::read` meets its contract: rows 19 and 12, then, by the number that the packet's head answers, the step of its type.
-use Prim.Native.Nat.{◌+◌, ◌<◌}
-use mathlib.Core.Path.{◌≡◌, sym, subst, ◌∙◌}
-use mathlib.Core.List.{[]}
+use Prim.Native.Nat.{ℕ, ◌+◌, ◌<◌}
+use mathlib.Core.Path.{◌≡◌, ap₂, sym, ◌∙◌}
 use lib.ListN.{get_or}
 use native.Mathlib.Omega.{arith}
 use borrow.Author.Rules.{rules}
-use Rattle.wire.specs.Packet.{header}
-use Rattle.wire.specs.Parsed.{Stream, Message, Memory}
+use Rattle.wire.specs.Packet.{header, id_bytes}
+use Rattle.wire.specs.Parsed.{Stream, Message}
+use Rattle.wire.specs.Inside.{headed}
 use Rattle.reading.specs.Desk.{desk}
 use Rattle.contexts.specs.State.{ids_in}
-use Rattle.reading.specs.Table.{Lent, lent, lent_refusal, state_in, segment_in, message_segment_in, request_in}
+use Rattle.reading.specs.Table.{Lent, lent, state_in, segment_in, message_segment_in}
 use Rattle.reading.specs.Inside.{ReadyToRead}
-use Rattle.reading.proofs.Lent.{lent-ready, memory_any}
-use Rattle.reading.proofs.Laws.{refusal_promised, stream_promised, message_promised, memory_promised}
+use Rattle.reading.proofs.Lent.{lent-ready}
+use Rattle.reading.proofs.Laws.{refusal_promised, stream_promised, message_promised}
 use Rattle.reading.proofs.Rows.{refused_lent}
 use Rattle.packets.proofs.Parting as parting
 use Rattle.packets.proofs.Parting.{head_in, Is}
@@ -20,43 +20,42 @@ use Rattle.packets.proofs.read.Statement.{statement}
 use Rattle.packets.proofs.read.Tie as tie
 
 -- everything lent, from behind the test
-abbrev lent_to_lem : tie.After-lent-refusal → Lent
-lent_to_lem c =
-    let s = c.before.before.before.before.before.before.before.before.before.before.before in
-    lent (desk s.args.state.now s.args.stream_memory_lem.now s.args.message_memory_lem.now s.args.memory.now s.args.response.now) s.args.packet.now
-
--- the memory decides nothing of it
-lent-number : (c : tie.After-lent-refusal) → c.lent-refusal.result ≡ lent_refusal (lent_to_lem c).desk
-lent-number c = c.lent-refusal.ensures ∙ memory_any (lent_to_lem c).desk []
+abbrev lent_to : tie.After-lent-refusal → Lent
+lent_to c =
+    let s = c.before.before.before.before.before.before.before.before.before.before in
+    lent (desk s.args.state.now s.args.stream_memory_lem.now s.args.message_memory_lem.now s.args.response.now) s.args.packet.now
 
 -- ---- 19 or 12
 returns : tie.Need-returns
 returns c =
     let test = c.before in
     let at-lent = test.before in
-    refusal_promised (lent_to_lem at-lent) at-lent.lent-refusal.result _ c.refusal.ensures (refused_lent (lent_to_lem at-lent) _ (lent-number at-lent) test.if1.true)
+    refusal_promised (lent_to at-lent) at-lent.lent-refusal.result _ c.refusal.ensures (refused_lent (lent_to at-lent) _ at-lent.lent-refusal.ensures test.if1.true)
 
 -- ---- all that is lent is as it should be
 
-ready-behind : (c : tie.Else1) → ReadyToRead (lent_to_lem c.before).desk
-ready-behind c = lent-ready (lent_to_lem c.before).desk (sym (lent-number c.before) ∙ c.if1.false)
+ready-behind : (c : tie.Else1) → ReadyToRead (lent_to c.before).desk
+ready-behind c = lent-ready (lent_to c.before).desk (sym c.before.lent-refusal.ensures ∙ c.if1.false)
 
-head_of_requires : tie.Need-head-of-requires
-head_of_requires c κs = (ready-behind c.before).fit.whole
+device_requires : tie.Need-device-requires
+device_requires c κs = (ready-behind c.before).fit.whole
+
+narrow_requires : tie.Need-narrow-requires
+narrow_requires c κs = (ready-behind c.before.before.before).fit.whole
 
 -- ---- where the head has been read: what was lent, that it is ready, and the head's number
 
-abbrev passed : tie.After-head-of → tie.Else1
-passed c = c.before.before
+abbrev passed : tie.After-head → tie.Else1
+passed c = c.before.before.before.before.before
 
-abbrev lent_at : tie.After-head-of → Lent
-lent_at c = lent_to_lem (passed c).before
+abbrev lent_at : tie.After-head → Lent
+lent_at c = lent_to (passed c).before
 
-ready : (c : tie.After-head-of) → ReadyToRead (lent_at c).desk
+ready : (c : tie.After-head) → ReadyToRead (lent_at c).desk
 ready c = ready-behind (passed c)
 
-number : (c : tie.After-head-of) → c.head_of.result ≡ head_in (lent_at c)
-number c = c.head_of.ensures
+number : (c : tie.After-head) → c.head.result ≡ head_in (lent_at c)
+number c = c.head.ensures ∙ ap₂ (λ (d n : ℕ). headed d (id_bytes n) (lent_at c).packet) c.before.before.before.device.ensures c.before.narrow.ensures
 
 -- ---- a packet that is refused
 
@@ -87,15 +86,13 @@ returns_3 c =
 
 -- ---- type 11
 
-is_11 : (c : tie.Then4) → let x = lent_at c.before.before.before in Is x (Message (message_segment_in x))
-is_11 c =
-    let at_head = c.before.before.before in
-    parting.is_11 (lent_at at_head) _ (number at_head) c.before.before.if2.false c.before.if3.false c.if4.true
+is_11 : (c : tie.Else3) → let x = lent_at c.before.before in Is x (Message (message_segment_in x))
+is_11 c = parting.is_11 (lent_at c.before.before) _ (number c.before.before) c.before.if2.false c.if3.false
 
 step_requires_2 : tie.Need-step-requires-2
 step_requires_2 c κs =
     let test = c.before.before.before in
-    let at_head = test.before.before.before in
+    let at_head = test.before.before in
     let x = lent_at at_head in
     let known = (passed at_head).before.before.before.before.before.before.shared-slice-known.given in
     let at = header (ids_in (state_in x)) in
@@ -107,45 +104,16 @@ returns_4 : tie.Need-returns-4
 returns_4 c =
     let at-step = c.before.before.before.before.before.before in
     let test = at-step.before.before.before.before in
-    let at_head = test.before.before.before in
+    let at_head = test.before.before in
     let x = lent_at at_head in
     let t = at-step.step2 in
     message_promised x t.result t.new.0 t.new.1.0 t.new.1.1.0 _ (t.auto.0 ∙ (ready at_head).fit.whole) t.ensures (parting.reads x (ready at_head) _ (is_11 test))
-
--- ---- a request
-
-is_request_lem : (c : tie.Else4) → let x = lent_at c.before.before.before in Is x (Memory (request_in x))
-is_request_lem c =
-    let at_head = c.before.before.before in
-    parting.is_request_lem (lent_at at_head) _ (number at_head) c.before.before.if2.false c.before.if3.false c.if4.false
-
-narrow_requires : tie.Need-narrow-requires
-narrow_requires c κs = (ready c.before.before.before.before.before.before).fit.whole
-
-step_requires_3 : tie.Need-step-requires-3
-step_requires_3 c κs =
-    let test = c.before.before.before.before in
-    let at_head = test.before.before.before in
-    let x = lent_at at_head in
-    subst (parting.Lends-request x) (sym c.narrow.ensures) (parting.ready_request x (ready at_head) (is_request_lem test))
-
-returns_5 : tie.Need-returns-5
-returns_5 c =
-    let at-step = c.before.before.before.before in
-    let at-narrow = at-step.before in
-    let test = at-narrow.before.before.before.before in
-    let at_head = test.before.before.before in
-    let x = lent_at at_head in
-    let t = at-step.step3 in
-    memory_promised x t.result t.new.0 t.new.1.0 _
-    (subst (parting.Serves x t.result t.new.0 t.new.1.0) at-narrow.narrow.ensures t.ensures) (parting.reads x (ready at_head) _ (is_request_lem test))
 
 pub read_spec : {M : Type 1} → statement M
 read_spec =
     tie.close
     (tie.spec
     (λ c κs. search rules) (λ c κs. search rules) (λ c. search rules) (λ c. search rules) (λ c. search rules) (λ c. search rules) returns
-    head_of_requires (λ c κs. search rules) (λ c. search rules) (λ c. search rules) (λ c. search rules) (λ c. search rules) returns-2
-    (λ c. search rules) step-requires (λ c. search rules) (λ c. search rules) (λ c. search rules) (λ c. search rules) returns_3
-    (λ c. search rules) step_requires_2 (λ c. search rules) (λ c. search rules) (λ c. search rules) (λ c. search rules) returns_4
-    narrow_requires step_requires_3 (λ c. search rules) (λ c. search rules) (λ c. search rules) (λ c. search rules) (λ c. search rules) returns_5)
+    device_requires narrow_requires (λ c κs. search rules) (λ c κs. search rules) (λ c. search rules) (λ c. search rules) (λ c. search rules) (λ c. search rules) returns-2
+    step-requires (λ c. search rules) (λ c. search rules) (λ c. search rules) (λ c. search rules) returns_3
+    step_requires_2 (λ c. search rules) (λ c. search rules) (λ c. search rules) (λ c. search rules) returns_4)

@@ -32,20 +32,20 @@ returns-2 c =
 -- the response buffer, at 16 bits
 returns_3 : tie.Need-returns-3
 returns_3 c =
-    let at-narrow = c.before.before in
-    let messages = at-narrow.before in
+    let at_narrow = c.before.before in
+    let messages = at_narrow.before in
     let streams = messages.before in
     by_reply _ streams.before.room.ensures streams.if1.false messages.if2.false
-    (wide_is _ (sym at-narrow.narrow.ensures ∙ c.before.if3.true)) c.room2.ensures
+    (wide_is _ (sym at_narrow.narrow.ensures ∙ c.before.if3.true)) c.size.ensures
 
 -- and at 8
 returns_4 : tie.Need-returns-4
 returns_4 c =
-    let at-narrow = c.before.before in
-    let messages = at-narrow.before in
+    let at_narrow = c.before.before in
+    let messages = at_narrow.before in
     let streams = messages.before in
     by_reply _ streams.before.room.ensures streams.if1.false messages.if2.false
-    (narrow_is _ (λ z. c.before.if3.false (at-narrow.narrow.ensures ∙ z))) c.room3.ensures
+    (narrow_is _ (λ z. c.before.if3.false (at_narrow.narrow.ensures ∙ z))) c.size2.ensures
 
 pub wrong_memory_spec : {M : Type 1} → statement M
 wrong_memory_spec = tie.close (tie.spec (λ c κs. search rules) mul_if1 returns returns-2 (λ c κs. search rules) (λ c κs. search rules) returns_3 (λ c κs. search rules) returns_4)

@@ -18,8 +18,8 @@ returns c =
     ap (λ (n : ℕ). set (set at-addresses.put-addresses.new.0 n s.args.heading.cos) (n + 1) s.args.flags) c.header.ensures
     ∙ two_behind s.args.out.now _ _ _ _ s.args.ids _ _ s.requires.3 at-addresses.put-addresses.ensures
 
-pub put_head_spec : {M : Type 1} → statement M
-put_head_spec =
+pub put-head_spec : {M : Type 1} → statement M
+put-head_spec =
     tie.close
     (tie.spec
     (λ c. search rules) (λ c. search rules) (λ c. search rules) (λ c. search rules) (λ c. search rules) (λ c. search rules)

@@ -17,7 +17,7 @@ use Rattle.contexts.proofs.Words.{sixteen}
 use Rattle.stream_rooms.specs.Inside.{stream_for, Fields}
 use Rattle.streams.specs.Rows.{found_for}
 use Rattle.streams.specs.Inside.{Passed}
-use Rattle.streams.proofs.Laws.{some_data, found_le, passed, raw_by, malformed_by, data_by, size_by_lem, begins_by, step-malformed, step-missized}
+use Rattle.streams.proofs.Laws.{some_data, found_le, passed, raw_by, malformed_by, data_by, size_by, begins_by, step-malformed, step-missized}
 use Rattle.stream_step.proofs.step.Statement.{statement}
 use Rattle.stream_step.proofs.step.Tie as tie
 
@@ -75,7 +75,7 @@ right_size : (c : tie.Else2) → let at_mtu = c.before.before in let s = entry (
     wrong_size (stream_for s.args.state.now s.args.packet.now).ends at_mtu.before.before.data_length_lem.result at_mtu.mtu.result ≡ false
 right_size c =
     let at_mtu = c.before.before in
-    size_by_lem _ _ (fields (found_at c.before)).flag_bits at_mtu.before.before.data_length_lem.result at_mtu.mtu.result c.before.is-wrong-size.ensures c.if2.false
+    size_by _ _ (fields (found_at c.before)).flag_bits at_mtu.before.before.data_length_lem.result at_mtu.mtu.result c.before.is-wrong-size.ensures c.if2.false
 
 has-passed : (c : tie.Else2) → let s = entry (found_at c.before) in
     Passed (state_of s.args.state.now) (stream_for s.args.state.now s.args.packet.now) (found_at c.before).find-stream.result c.before.before.before.before.data_length_lem.result
@@ -129,7 +129,7 @@ returns-2 c =
     let f = fields at-found in
     let t = at_close.refused-closing2.ensures in (
       step-missized _ _ _ _ (well-formed (past_6 test.before)) (data_by _ _ f.flag_bits f.data_from_lem refl at_mtu.before.before.data_length_lem.ensures) at_mtu.mtu.ensures
-          (found-is at-found) (size_by_lem _ _ f.flag_bits at_mtu.before.before.data_length_lem.result at_mtu.mtu.result test.before.is-wrong-size.ensures test.if2.true) t.0,
+          (found-is at-found) (size_by _ _ f.flag_bits at_mtu.before.before.data_length_lem.result at_mtu.mtu.result test.before.is-wrong-size.ensures test.if2.true) t.0,
       t.1,
     )
 

@@ -1,1 +1,0 @@
-// No code: what requests for the memory read and write, byte by byte, and that they disturb nothing else.

@@ -1,4 +1,0 @@
-pub mod Stepped
-pub mod Served
-pub mod Told
-pub mod Laws

@@ -1,4 +1,0 @@
-pub mod Types
-pub mod Numbers
-pub mod Judging
-pub mod Laws

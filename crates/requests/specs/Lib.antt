@@ -1,3 +1,0 @@
-pub mod Transactions
-pub mod Rows
-pub mod Inside
