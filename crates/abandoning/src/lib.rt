@@ -1,4 +1,6 @@
 // Abandoning a context of either kind. Asks nothing of its caller; `endpoint` hands these calls on.
+#![tactic(auto)]
+
 ghost use Rattle.abandoning.specs.Abandoning.{AbandonStreamPromise, AbandonMessagePromise};
 
 use answers::Abandoned;

@@ -1,4 +1,5 @@
 // What the endpoint's calls answer. specs/Answers.antt sets out document 01's number and values for each case.
+#![tactic(auto)]
 
 ghost use Rattle.std.specs.Prelude.{◌≡◌};
 ghost use Rattle.answers.specs.Answers.{said, refused, held};
@@ -26,7 +27,7 @@ pub const WRITTEN: usize = 7;
 pub const OPEN: usize = 8;
 
 // The answer to a packet.
-#[derive(Drop)]
+#[derive(Clone, Copy)]
 pub enum Answer {
     Held,
     Delivered {
@@ -47,7 +48,7 @@ pub enum Answer {
 
 // The same as numbers, by value, which is how the steps hand it up: specs/Figures.antt sets out the numbers. `dropped`, whether the packet closed an
 // open stream context undelivered; `response`, how many bytes of response were written.
-#[derive(Drop)]
+#[derive(Clone, Copy)]
 pub struct Figures {
     pub kind: usize,
     pub number: usize,
@@ -62,7 +63,7 @@ pub struct Figures {
 }
 
 // The answer to a packet, whether the packet closed an open stream context undelivered, and how many bytes of response were written.
-#[derive(Drop)]
+#[derive(Clone, Copy)]
 pub struct Reading {
     pub answer: Answer,
     pub dropped: bool,
@@ -70,14 +71,14 @@ pub struct Reading {
 }
 
 // The answer to a setup.
-#[derive(Drop)]
+#[derive(Clone, Copy)]
 pub enum Begun {
     Ready,
     Refused(usize),
 }
 
 // The answer to an abandoning.
-#[derive(Drop)]
+#[derive(Clone, Copy)]
 pub enum Abandoned {
     Closed,
     WasFree,
@@ -85,7 +86,7 @@ pub enum Abandoned {
 }
 
 // The answer to who asks after a stream context: whose PDU is open there, and how many bytes of it are held.
-#[derive(Drop)]
+#[derive(Clone, Copy)]
 pub enum StreamAsked {
     Open {
         flow: Flow,
@@ -98,7 +99,7 @@ pub enum StreamAsked {
 
 // The answer to who asks after a message context: which message is open there, of msglen + 1 segments of `size` bytes, which of them have come
 // (mark k is bit k), and the length of the last once that has come.
-#[derive(Drop)]
+#[derive(Clone, Copy)]
 pub enum MessageAsked {
     Open {
         source: usize,
@@ -114,7 +115,7 @@ pub enum MessageAsked {
 }
 
 // The answer of the writers, of a segment and of a record: how many bytes were written.
-#[derive(Drop)]
+#[derive(Clone, Copy)]
 pub enum Written {
     Length(usize),
     Refused(usize),

@@ -1,5 +1,7 @@
 // Asking after a context of either kind: which are open, whose they are, and how much they hold. Nothing changes. Asks nothing of its caller;
 // `endpoint` hands these calls on.
+#![tactic(auto)]
+
 ghost use Rattle.asking.specs.Asking.{StreamContextPromise, MessageContextPromise};
 
 use answers::{MessageAsked, StreamAsked};

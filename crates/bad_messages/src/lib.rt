@@ -1,4 +1,6 @@
 // Clauses of row 19: one message context.
+#![tactic(auto)]
+
 ghost use Rattle.std.specs.Prelude.{◌≡◌, ◌<◌};
 ghost use Rattle.refusal19.specs.Refusal19.{bad_last, bad_marks, bad_message};
 

@@ -1,4 +1,6 @@
 // Clauses of row 19: R, and one stream context.
+#![tactic(auto)]
+
 ghost use Rattle.std.specs.Prelude.{◌≡◌};
 ghost use Rattle.refusal19.specs.Refusal19.{bad_room, bad_stream};
 

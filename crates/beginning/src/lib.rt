@@ -1,4 +1,6 @@
 // A start or single, rows 6 and 7 passed: row 10, then the flow's own context or the lowest free one from its beginning.
+#![tactic(auto)]
+
 ghost use Rattle.std.specs.Prelude.{◌≡◌};
 ghost use Rattle.answers.specs.Figures.{telling, AllSet};
 ghost use Rattle.contexts.specs.Words.{state_of};

@@ -1,4 +1,6 @@
 // The answers of the calls that read no packet, as numbers, which C can take.
+#![tactic(auto)]
+
 ghost use Rattle.std.specs.Prelude.{◌≡◌};
 ghost use Rattle.answers.specs.Answers.{said_of_setup, said_of_abandon, said_of_writer};
 ghost use Rattle.lists.specs.Bytes.{written};

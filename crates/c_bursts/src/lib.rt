@@ -1,4 +1,6 @@
 // One packet of a burst, which has a report and a response of its own. Every caller has tested the state and the memories.
+#![tactic(auto)]
+
 ghost use Rattle.std.specs.Prelude.{◌≡◌};
 ghost use Rattle.reading.specs.Desk.{desk};
 ghost use Rattle.c_bursts.specs.Bursts.{run, pause_of};
@@ -22,7 +24,7 @@ pub const DELIVERY: usize = 4;
 
 // Why a burst stopped, the refusal's number, the packets read, and where the first unread record begins.
 #[repr(C)]
-#[derive(Drop)]
+#[derive(Clone, Copy)]
 pub struct Burst {
     pub stop: usize,
     pub number: usize,
@@ -31,7 +33,7 @@ pub struct Burst {
 }
 
 // 0 where the burst goes on, else why it stops; the packets read so far, and where the next record begins.
-#[derive(Drop)]
+#[derive(Clone, Copy)]
 pub struct Step {
     pub stop: usize,
     pub count: usize,

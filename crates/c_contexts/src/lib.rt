@@ -1,4 +1,6 @@
 // What asking after a context answers, as numbers, which C can take.
+#![tactic(auto)]
+
 ghost use Rattle.std.specs.Prelude.{◌≡◌};
 ghost use Rattle.answers.specs.Answers.{said_of_stream, said_of_message};
 ghost use Rattle.c_contexts.specs.Open.{open_stream_of, open_message_of};
@@ -7,7 +9,7 @@ use answers::{MessageAsked, StreamAsked};
 
 // Kind, refusal number; of an open one its flow's source and cos, its streamID, how many bytes are held, and its flow's priority.
 #[repr(C)]
-#[derive(Drop)]
+#[derive(Clone, Copy)]
 pub struct OpenStream {
     pub kind: usize,
     pub number: usize,
@@ -20,7 +22,7 @@ pub struct OpenStream {
 
 // Kind, refusal number; of an open one who sends it, its msglen, the bytes of its segments, which have come, and the last one's length.
 #[repr(C)]
-#[derive(Drop)]
+#[derive(Clone, Copy)]
 pub struct OpenMessage {
     pub kind: usize,
     pub number: usize,

@@ -1,4 +1,6 @@
 // Packet after packet of a burst, until one stops it. Every caller has tested the state and the memories.
+#![tactic(auto)]
+
 ghost use Rattle.reading.specs.Desk.{desk};
 ghost use Rattle.c_bursts.specs.Bursts.{run};
 ghost use Rattle.c_bursts.specs.Inside.{ReadyToRun, RunPromise};

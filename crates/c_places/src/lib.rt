@@ -1,4 +1,6 @@
 // Rooms as places: an offset and a length in the caller's memory, for callers that keep their memory to themselves.
+#![tactic(auto)]
+
 ghost use Rattle.std.specs.Prelude.{◌≡◌, ◌≤◌};
 ghost use Rattle.contexts.specs.State.{stream_contexts};
 ghost use Rattle.room_parts.specs.Parts.{empty_part, room_part};
@@ -6,7 +8,7 @@ ghost use Rattle.c_places.specs.Places.{place_of, StreamPlacePromise, MessagePla
 
 // Where a part of a memory begins, and its bytes.
 #[repr(C)]
-#[derive(Drop)]
+#[derive(Clone, Copy)]
 pub struct Place {
     pub offset: usize,
     pub length: usize,

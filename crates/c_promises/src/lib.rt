@@ -1,1 +1,2 @@
 // No code: statements about the functions that C calls. They stand in specs/, their proofs in proofs/.
+#![tactic(auto)]

@@ -1,4 +1,6 @@
 // The answer to a packet as a report of numbers, which C can take: as a struct, and as words of a lent buffer.
+#![tactic(auto)]
+
 ghost use Rattle.std.specs.Prelude.{◌≡◌, ◌+◌, ◌≤◌, length};
 ghost use Rattle.answers.specs.Figures.{telling, AllSet};
 ghost use Rattle.lists.specs.Bytes.{written};
@@ -12,7 +14,7 @@ pub const WORDS: usize = 10;
 // Kind, refusal number, 1 where an open PDU was dropped, bytes of response written, context, source, cos or letter, streamID or mailbox, length,
 // priority.
 #[repr(C)]
-#[derive(Drop)]
+#[derive(Clone, Copy)]
 pub struct Report {
     pub kind: usize,
     pub number: usize,
@@ -73,7 +75,7 @@ pub fn put(words: &mut [usize], at: usize, r: Report)
 
 // The answer of a call that reads no packet: its kind, and the refusal's number or the length written.
 #[repr(C)]
-#[derive(Drop)]
+#[derive(Clone, Copy)]
 pub struct Numbers {
     pub kind: usize,
     pub number: usize,

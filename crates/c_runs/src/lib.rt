@@ -1,5 +1,7 @@
 // Many packets in one call: a burst in the log's record form. The state and the memories are tested once, then each packet is read
 // by what the one before left.
+#![tactic(auto)]
+
 ghost use Rattle.std.specs.Prelude.{◌≡◌};
 ghost use Rattle.reading.specs.Desk.{desk};
 ghost use Rattle.c_bursts.specs.Bursts.{refused_all, answering, room_for, BurstPromise};

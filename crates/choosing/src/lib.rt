@@ -1,4 +1,6 @@
 // Where a segment of a message of several goes: rows 23 to 25, and the context that they leave.
+#![tactic(auto)]
+
 ghost use Rattle.std.specs.Prelude.{◌≡◌, ◌<◌, ◌≤◌};
 ghost use Rattle.contexts.specs.State.{message_context, message_contexts};
 ghost use Rattle.contexts.specs.Words.{state_of};

@@ -1,5 +1,7 @@
 // The endpoint's state in words that the caller lends: where its words lie, what setup fixed, and a state made anew. The contexts are read and
 // written by stream_contexts and message_contexts. No packet is known here. Every caller has tested that the state is WORDS words long.
+#![tactic(auto)]
+
 ghost use Rattle.std.specs.Prelude.{◌≡◌, length, replicate};
 ghost use Rattle.contexts.specs.State.{fixed, fresh};
 ghost use Rattle.contexts.specs.Words.{state_of, words_of, state_words};
@@ -60,7 +62,7 @@ pub const MESSAGES: usize = STREAMS + STREAM_WORDS * STREAM_CONTEXTS;
 pub const WORDS: usize = MESSAGES + MESSAGE_WORDS * MESSAGE_CONTEXTS;
 
 // Live is 0 where the context is free; `held` bytes of the PDU are in its room.
-#[derive(Drop)]
+#[derive(Clone, Copy)]
 pub struct StreamContext {
     pub live: usize,
     pub flow: Flow,
@@ -69,7 +71,7 @@ pub struct StreamContext {
 }
 
 // Live is 0 where the context is free; `last` is the length of segment msglen once that has come.
-#[derive(Drop)]
+#[derive(Clone, Copy)]
 pub struct MessageContext {
     pub live: usize,
     pub source: usize,

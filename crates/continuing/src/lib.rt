@@ -1,4 +1,6 @@
 // A continuation or an end, rows 6 and 7 passed: rows 8 and 9, then behind what the flow's context holds.
+#![tactic(auto)]
+
 ghost use Rattle.std.specs.Prelude.{◌≡◌, ◌<◌};
 ghost use Rattle.answers.specs.Figures.{telling, AllSet};
 ghost use Rattle.contexts.specs.State.{stream_contexts};

@@ -1,4 +1,6 @@
 // What a segment of a PDU is made of: its sizes, and the bytes written. It knows nothing of a state.
+#![tactic(auto)]
+
 ghost use Rattle.std.specs.Prelude.{◌≡◌, ◌++◌, ◌+◌, ◌-◌, ◌%◌, min, ◌<◌, ◌≤◌, length};
 ghost use Rattle.lists.specs.Bytes.{written};
 ghost use Rattle.cutting.specs.Cutting.{bad_size, segment_count, pad_of};
@@ -6,7 +8,7 @@ ghost use Rattle.cutting.specs.Cutting.{bad_size, segment_count, pad_of};
 // Who sends to whom, under which stream, class of service and priority. Callers in C lend it too: its fields stand in the order of
 // include/kaiverohm.h.
 #[repr(C)]
-#[derive(Drop)]
+#[derive(Clone, Copy)]
 pub struct Heading {
     pub destination: u16,
     pub source: u16,

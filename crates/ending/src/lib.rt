@@ -1,4 +1,6 @@
 // An end whose data fit behind what the flow's context holds: row 11, then the PDU is delivered.
+#![tactic(auto)]
+
 ghost use Rattle.std.specs.Prelude.{◌≡◌};
 ghost use Rattle.answers.specs.Figures.{telling, AllSet};
 ghost use Rattle.contexts.specs.Words.{state_of};

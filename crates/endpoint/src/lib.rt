@@ -1,4 +1,6 @@
 // The endpoint's public calls: setup, reading a packet, asking after a context, abandoning it, rooms. None asks anything of its caller.
+#![tactic(auto)]
+
 ghost use Rattle.reading.specs.Desk.{desk};
 ghost use Rattle.reading.specs.Table.{lent};
 ghost use Rattle.reading.specs.Read.{ReadPromise};

@@ -1,4 +1,6 @@
 // The fields of types 9 and 11, read from a packet at the width of the endpoint. No state.
+#![tactic(auto)]
+
 ghost use Rattle.std.specs.Prelude.{◌≡◌, ◌+◌, ◌<◌, ◌≤◌, length};
 ghost use Rattle.wire.specs.Packet.{header, id_bytes};
 ghost use Rattle.wire.specs.Type9.{flow_of};

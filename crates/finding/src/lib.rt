@@ -1,5 +1,7 @@
 // The walks over the contexts: the flow's open one, the message's, the lowest free one of each kind. Every caller has tested that the state is
 // one.
+#![tactic(auto)]
+
 ghost use Rattle.std.specs.Prelude.{◌≡◌, ◌<◌, length};
 ghost use Rattle.contexts.specs.State.{stream_contexts, stream_in, is_of_flow, flow_context, free_stream, message_context, free_message};
 ghost use Rattle.contexts.specs.Words.{state_of, state_words};

@@ -1,4 +1,6 @@
 // A segment that the PDU has is written, where the output has room for it: row 16.
+#![tactic(auto)]
+
 ghost use Rattle.std.specs.Prelude.{◌≡◌, ◌<◌, ◌≤◌, length};
 ghost use Rattle.answers.specs.Answers.{said_of_writer};
 ghost use Rattle.cutting.specs.Cutting.{segment_count, ids_for, packet_of};

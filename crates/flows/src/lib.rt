@@ -1,1 +1,2 @@
 // Reading as one flow sees it: definitions and theorems, no code.
+#![tactic(auto)]

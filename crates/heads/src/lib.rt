@@ -1,4 +1,6 @@
 // Rows 1 to 5 of the refusal table: the head of a packet, by which it is refused, or of type 9 or 11. No state.
+#![tactic(auto)]
+
 ghost use Rattle.std.specs.Prelude.{◌≡◌, true, ◌+◌, ◌≤◌, length};
 ghost use Rattle.wire.specs.Packet.{header, id_bytes};
 ghost use Rattle.wire.specs.Head.{is9};

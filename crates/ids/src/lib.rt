@@ -1,4 +1,6 @@
 // The IDs of a packet, each of `ids` bytes, 2 or 1: read, written, and too wide. No state.
+#![tactic(auto)]
+
 ghost use Rattle.std.specs.Prelude.{◌≡◌, ◌+◌, ◌≤◌, [], length};
 ghost use Rattle.lists.specs.Bytes.{number, in_bytes, written};
 ghost use Rattle.wire.specs.Packet.{too_wide, header as headerOf, addressed};

@@ -1,5 +1,7 @@
 // The endpoint for callers in C. Each function hands its arguments on and its answer back as numbers; none asks anything of its caller.
 // include/kaiverohm.h declares them.
+#![tactic(auto)]
+
 ghost use Rattle.reading.specs.Desk.{desk};
 ghost use Rattle.reading.specs.Table.{lent};
 ghost use Rattle.endpoint.specs.Calls.{LengthPromise};

@@ -1,5 +1,7 @@
 // What a lent state is refused with, before anything else is looked at: the test of 19 walks all contexts, so it stands in one place, and a run
 // over many packets makes it once. And which rooms a lent memory has.
+#![tactic(auto)]
+
 ghost use Rattle.std.specs.Prelude.{◌≡◌, ◌≤◌, length};
 ghost use Rattle.lists.specs.First.{any};
 ghost use Rattle.contexts.specs.State.{stream_contexts};

@@ -1,4 +1,6 @@
 // Bytes and lists: what every layer above uses, and nothing of RapidIO.
+#![tactic(auto)]
+
 ghost use Rattle.std.specs.Prelude.{◌≡◌, ◌+◌, ◌<◌, ◌≤◌, length, take, drop};
 ghost use Rattle.lists.specs.Bytes.{word, long, written};
 

@@ -1,4 +1,6 @@
 // The lines of the log program, into a buffer that the caller lends.
+#![tactic(auto)]
+
 ghost use Rattle.std.specs.Prelude.{◌≡◌, cond, [], ◌∷◌, ◌++◌, ◌+◌, ◌<◌, ◌≤◌, length};
 ghost use Rattle.answers.specs.Answers.{said};
 ghost use Rattle.log_lines.specs.Text.{text};

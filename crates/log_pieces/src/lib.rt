@@ -1,4 +1,6 @@
 // The lines of a log, one for each record, and a last one; piece by piece.
+#![tactic(auto)]
+
 ghost use Rattle.std.specs.Prelude.{length};
 ghost use Rattle.reading.specs.Desk.{desk};
 ghost use Rattle.log_pieces.specs.Printing.{LinePromise, Onward};
@@ -6,7 +8,7 @@ ghost use Rattle.log_pieces.specs.Printing.{LinePromise, Onward};
 use log_records::Next;
 
 // A record's line, with the place behind the record; or the last line.
-#[derive(Drop)]
+#[derive(Clone, Copy)]
 pub enum Piece {
     Line { size: usize, next: usize },
     Last { size: usize },

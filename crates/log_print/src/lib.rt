@@ -1,4 +1,6 @@
 // What a log prints, on standard output: runs over the log, each written as it ends.
+#![tactic(auto)]
+
 ghost use Rattle.std.specs.Prelude.{◌≡◌, ◌≤◌, length};
 ghost use Rattle.log_pieces.specs.Output.{output};
 

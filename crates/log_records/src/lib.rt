@@ -1,10 +1,12 @@
 // The records of a log, over a slice and a number: the log and a place in it.
+#![tactic(auto)]
+
 ghost use Rattle.std.specs.Prelude.{◌≡◌, ◌+◌, ◌<◌, ◌≤◌, length};
 ghost use Rattle.lists.specs.Bytes.{byte};
 ghost use Rattle.log_records.specs.Records.{record_from, long_record, NextRecordPromise};
 
 // A record: where its packet begins, how many bytes that has, and the place behind it. Or the end. Or a log that is bad there.
-#[derive(Drop)]
+#[derive(Clone, Copy)]
 pub enum Next {
     Record {
         from: usize,

@@ -1,4 +1,6 @@
 // A run over a log: as many of its lines as have room in a buffer.
+#![tactic(auto)]
+
 ghost use Rattle.std.specs.Prelude.{length};
 ghost use Rattle.reading.specs.Desk.{desk};
 ghost use Rattle.log_run.specs.Running.{LogRunPromise, RunOnward};
@@ -7,7 +9,7 @@ use log_lines::LINE;
 pub use log_pieces::{Piece, next_line};
 
 // The bytes put, the place and the number of records behind those that were read, and whether the run is over, with no more to put.
-#[derive(Drop)]
+#[derive(Clone, Copy)]
 pub struct Ran {
     pub used: usize,
     pub at: usize,

@@ -1,4 +1,6 @@
 // One record of a log, or of a burst, as it is written: a packet's length in one byte or two, then its bytes.
+#![tactic(auto)]
+
 ghost use Rattle.std.specs.Prelude.{◌≡◌, ◌<◌, ◌≤◌, length, take};
 ghost use Rattle.log_records.specs.Written.{length_bytes};
 ghost use Rattle.log_writer.specs.Writing.{RecordLengthPromise, WriteRecordPromise};

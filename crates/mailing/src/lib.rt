@@ -1,1 +1,2 @@
 // Messages, sent and read back: definitions and theorems, no code.
+#![tactic(auto)]

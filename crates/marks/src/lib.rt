@@ -1,4 +1,6 @@
 // The segments received of a message, as sixteen marks in one number. No context and no packet is known here.
+#![tactic(auto)]
+
 ghost use Rattle.std.specs.Prelude.{◌≡◌, false, ◌+◌, ◌<◌, ◌≤◌, ◌^◌};
 ghost use Rattle.marks.specs.Marks.{marked as markedOf, with_mark, all_marked, counted_complete};
 

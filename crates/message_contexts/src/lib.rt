@@ -1,5 +1,7 @@
 // The message contexts in the words of the state: one at a time as a small struct by value, or what is asked of it. Every caller has tested
 // that the state is as long as a state, and that a context's number is one.
+#![tactic(auto)]
+
 ghost use Rattle.std.specs.Prelude.{◌≡◌, ◌<◌, length};
 ghost use Rattle.contexts.specs.State.{message_contexts, closed_message, open_message};
 ghost use Rattle.contexts.specs.State.{message_in, with_message, is_of_message};

@@ -1,4 +1,6 @@
 // What a type 11 segment does to one context and its room: its data stored, the context kept or delivered, the response written.
+#![tactic(auto)]
+
 ghost use Rattle.std.specs.Prelude.{◌≡◌, false, ◌+◌, ◌<◌, ◌≤◌, ◌^◌, length};
 ghost use Rattle.answers.specs.Figures.{telling, AllSet};
 ghost use Rattle.responses.specs.Type13.{DONE, answered};

@@ -1,4 +1,6 @@
 // Rules that judge a type 11 packet by itself: rows 20 to 22, and what a mailbox and a last length are.
+#![tactic(auto)]
+
 ghost use Rattle.std.specs.Prelude.{◌≡◌, true, ◌<◌};
 ghost use Rattle.wire.specs.Type11.{is_last, mailbox};
 ghost use Rattle.sizes.specs.Sizes.{bytes_of};

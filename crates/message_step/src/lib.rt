@@ -1,4 +1,6 @@
 // Type 11 packets from row 20 of the refusal table on, for a state that 19 does not name: rows 20 to 22, then by the kind of message.
+#![tactic(auto)]
+
 ghost use Rattle.std.specs.Prelude.{◌≡◌, true, false};
 ghost use Rattle.answers.specs.Figures.{telling, AllSet};
 ghost use Rattle.wire.specs.Type11.{is_single};

@@ -1,5 +1,7 @@
 // Logs that the second program made, one behind the other: each a length of four bytes and the log.
 // Prints what the log program prints for each.
+#![tactic(auto)]
+
 ghost use Rattle.std.specs.Prelude.{◌+◌, ◌<◌, ◌≤◌, length};
 
 use libc::STDIN_FILENO;

@@ -1,5 +1,7 @@
 // Logs that the second program made for an endpoint with IDs of 8 bits, one behind the other: each a length of four bytes and the log.
 // Prints for each packet its line, and the response that it wrote, or `none`.
+#![tactic(auto)]
+
 ghost use Rattle.std.specs.Prelude.{◌+◌, ◌<◌, ◌≤◌, length};
 
 use endpoint::Setup;

@@ -1,4 +1,6 @@
 // A log of packets that the second program made. Prints for each packet its line, and the response that it wrote, or `none`.
+#![tactic(auto)]
+
 ghost use Rattle.std.specs.Prelude.{◌≡◌};
 ghost use Rattle.outside_responses.specs.Found.{LiesIn, is_record};
 

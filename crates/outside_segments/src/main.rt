@@ -1,4 +1,6 @@
 // PDUs that the second program chose, in cases of twenty-one bytes. Prints every segment that the writer makes of them, and its refusals.
+#![tactic(auto)]
+
 ghost use Rattle.std.specs.Prelude.{◌≡◌, length};
 
 use answers::Written;

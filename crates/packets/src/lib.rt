@@ -1,4 +1,6 @@
 // One packet read: its head, then the step of its type. For a burst the state and the memories are tested before; read tests them itself.
+#![tactic(auto)]
+
 ghost use Rattle.reading.specs.Desk.{desk};
 ghost use Rattle.reading.specs.Table.{lent};
 ghost use Rattle.reading.specs.Inside.{ReadyToRead, FiguresPromise};

@@ -1,4 +1,6 @@
 // A segment's data go into a room, and its PDU is kept or delivered: a PDU begun, gone on with, ended.
+#![tactic(auto)]
+
 ghost use Rattle.std.specs.Prelude.{◌≡◌, true, false};
 ghost use Rattle.answers.specs.Figures.{telling, AllSet};
 ghost use Rattle.contexts.specs.Words.{state_of};

@@ -1,5 +1,7 @@
 // Text, numbers and bytes to standard output, for the programs. Each function answers how much it hands over, and only that is promised:
 // `io` says nothing of what is written. The vectors show it.
+#![tactic(auto)]
+
 ghost use Rattle.std.specs.Prelude.{◌≡◌, length};
 ghost use Rattle.io.specs.Digits.{IsDigitCount};
 

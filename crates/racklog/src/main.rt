@@ -1,4 +1,6 @@
 // The log program: a log on standard input, its lines on standard output. What fails is said on standard error.
+#![tactic(auto)]
+
 ghost use Rattle.io.specs.Counts.{IsPrefixLen};
 
 use libc::{STDERR_FILENO, STDIN_FILENO};

@@ -1,4 +1,6 @@
 // Reading one packet: the table, what it leaves, and rows 19 and 12's test of everything lent. packets is the code that reads.
+#![tactic(auto)]
+
 ghost use Rattle.std.specs.Prelude.{◌≡◌, false, length};
 ghost use Rattle.contexts.specs.Words.{state_of, state_words};
 ghost use Rattle.refusal19.specs.Refusal19.{named_by_19};

@@ -1,4 +1,6 @@
 // The room that a caller fetches, as a part of its own memory. Asks nothing of its caller; `endpoint` hands these calls on.
+#![tactic(auto)]
+
 ghost use Rattle.std.specs.Prelude.{◌≤◌, length};
 ghost use Rattle.contexts.specs.State.{stream_contexts};
 ghost use Rattle.room_parts.specs.Parts.{StreamRoomPromise, MessageRoomPromise, room_part, IsPart};

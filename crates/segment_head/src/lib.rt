@@ -1,4 +1,6 @@
 // A segment's head: its length, its flags, and its bytes and its field written. It knows nothing of a state.
+#![tactic(auto)]
+
 ghost use Rattle.std.specs.Prelude.{◌≡◌, cond, [], ◌∷◌, ◌+◌, ◌≤◌, length};
 ghost use Rattle.lists.specs.Bytes.{high, low, written};
 ghost use Rattle.wire.specs.Packet.{header, first_byte_of, addressed};

@@ -1,4 +1,6 @@
 // The segment writer: segment k of a PDU as a type 9 packet. It knows nothing of a state.
+#![tactic(auto)]
+
 ghost use Rattle.std.specs.Prelude.{◌≡◌, length};
 ghost use Rattle.writing.specs.Writer.{wide_ids, WritePromise, CountPromise};
 

@@ -1,4 +1,6 @@
 // Sizes that a packet or a setup may have, and what a field says of one. No state.
+#![tactic(auto)]
+
 ghost use Rattle.std.specs.Prelude.{◌≡◌, ◌<◌};
 ghost use Rattle.wire.specs.Packet.{bit};
 ghost use Rattle.sizes.specs.Sizes.{bad_mtu, pdu_length, without_pad, bytes_of, in_eights};

@@ -1,5 +1,7 @@
 // The stream contexts in the words of the state: one at a time as a small struct by value, or the one word that is asked. Every caller has
 // tested that the state is as long as a state, and that a context's number is one.
+#![tactic(auto)]
+
 ghost use Rattle.std.specs.Prelude.{◌≡◌, ◌<◌, length};
 ghost use Rattle.contexts.specs.State.{stream_contexts, closed_stream, open_stream};
 ghost use Rattle.contexts.specs.State.{stream_in, with_stream, holding};

@@ -1,4 +1,6 @@
 // What a type 9 segment does to one context and its room: its data stored, the PDU delivered, the context closed.
+#![tactic(auto)]
+
 ghost use Rattle.std.specs.Prelude.{◌≡◌, ◌+◌, ◌*◌, ◌<◌, ◌≤◌, length};
 ghost use Rattle.lists.specs.Bytes.{written};
 ghost use Rattle.answers.specs.Figures.{telling, AllSet};

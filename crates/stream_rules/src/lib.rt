@@ -1,4 +1,6 @@
 // Rules that judge a type 9 packet by itself: row 6, and the sizes of row 7.
+#![tactic(auto)]
+
 ghost use Rattle.std.specs.Prelude.{◌≡◌};
 ghost use Rattle.wire.specs.Packet.{bit};
 ghost use Rattle.rules.specs.Segments.{wrong_form, wrong_size};

@@ -1,4 +1,6 @@
 // Type 9 packets from row 6 of the refusal table on, for a state that 19 does not name: rows 6 and 7, then by kind.
+#![tactic(auto)]
+
 ghost use Rattle.std.specs.Prelude.{◌≡◌};
 ghost use Rattle.answers.specs.Figures.{telling, AllSet};
 ghost use Rattle.contexts.specs.Words.{state_of};

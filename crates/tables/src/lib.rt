@@ -1,1 +1,2 @@
 // Tables of refusals: definitions and laws, no code.
+#![tactic(auto)]

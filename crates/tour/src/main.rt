@@ -1,4 +1,6 @@
 // Reads document 01's two sample packets and prints what the endpoint answers: for the PDU its bytes, for the message its response.
+#![tactic(auto)]
+
 use answers::Answer;
 use endpoint::Setup;
 use printing::{print_bytes, print_number, print_text};

@@ -1,4 +1,6 @@
 // Packets as document 01 lays them out: their head, the fields of types 9 and 11, and laws of them. No state. fields is the code that reads them.
+#![tactic(auto)]
+
 ghost use Rattle.std.specs.Prelude.{◌≡◌, ◌<◌};
 ghost use Rattle.wire.specs.Packet.{bit as bit_of};
 ghost use Rattle.wire.specs.Type9.{same_flow};
@@ -6,7 +8,7 @@ ghost use Rattle.wire.specs.Type9.{same_flow};
 // What setup fixes: our device ID, the MTU, R (the bytes of a stream context's room), and the width of an ID. Callers in C lend it too: its fields
 // stand in the order of include/kaiverohm.h.
 #[repr(C)]
-#[derive(Drop)]
+#[derive(Clone, Copy)]
 pub struct Setup {
     pub device: u16,
     pub mtu: usize,
@@ -16,7 +18,7 @@ pub struct Setup {
 }
 
 // A flow: who sends, at which priority, under which class of service.
-#[derive(Drop)]
+#[derive(Clone, Copy)]
 pub struct Flow {
     pub source: usize,
     pub priority: usize,
@@ -24,7 +26,7 @@ pub struct Flow {
 }
 
 // What is read of a type 9 packet: its flags, where its data begin, and its flow.
-#[derive(Drop)]
+#[derive(Clone, Copy)]
 pub struct StreamHead {
     pub flags: usize,
     pub from: usize,
@@ -32,7 +34,7 @@ pub struct StreamHead {
 }
 
 // A type 11 packet: `raw` bytes of data behind its head.
-#[derive(Drop)]
+#[derive(Clone, Copy)]
 pub struct MessageSegment {
     pub source: usize,
     pub letter: usize,
