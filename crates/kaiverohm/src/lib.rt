@@ -1,5 +1,5 @@
 // The endpoint for callers in C. Each function hands its arguments on and its answer back as numbers; none asks anything of its caller.
-// include/kaiverohm.h declares them.
+// The static library kaiverohm_c exports them, and include/kaiverohm.h declares them.
 #![tactic(auto)]
 
 ghost use Rattle.reading.specs.Desk.{desk};
@@ -21,32 +21,28 @@ use cutting::Heading;
 use wire::Setup;
 
 // The number of the interface: KAIVEROHM_INTERFACE of the header that belongs to this archive.
-#[unsafe(no_mangle)]
-pub extern "C" fn kaiverohm_interface() -> usize
+pub fn kaiverohm_interface() -> usize
     ensures { InterfacePromise result }
 {
     3
 }
 
 // The words of a state.
-#[unsafe(no_mangle)]
-pub extern "C" fn kaiverohm_state_length() -> usize
+pub fn kaiverohm_state_length() -> usize
     ensures { LengthPromise result }
 {
     endpoint::state_length()
 }
 
 // Makes a state.
-#[unsafe(no_mangle)]
-pub extern "C" fn kaiverohm_setup(state: &mut [usize], settings: Setup) -> Numbers
+pub fn kaiverohm_setup(state: &mut [usize], settings: Setup) -> Numbers
     ensures { SetupFromCPromise state.old settings result state.new }
 {
     c_answers::of_setup(endpoint::setup(state, settings))
 }
 
 // Reads one packet.
-#[unsafe(no_mangle)]
-pub extern "C" fn kaiverohm_read(
+pub fn kaiverohm_read(
     state: &mut [usize],
     stream_memory: &mut [u8],
     message_memory: &mut [u8],
@@ -61,8 +57,7 @@ pub extern "C" fn kaiverohm_read(
 }
 
 // Reads the packets of a burst.
-#[unsafe(no_mangle)]
-pub extern "C" fn kaiverohm_read_burst(
+pub fn kaiverohm_read_burst(
     state: &mut [usize],
     stream_memory: &mut [u8],
     message_memory: &mut [u8],
@@ -86,64 +81,56 @@ pub extern "C" fn kaiverohm_read_burst(
 }
 
 // What stream context n holds.
-#[unsafe(no_mangle)]
-pub extern "C" fn kaiverohm_stream_context(state: &[usize], n: usize) -> OpenStream
+pub fn kaiverohm_stream_context(state: &[usize], n: usize) -> OpenStream
     ensures { StreamContextFromCPromise state.now n result }
 {
     c_contexts::of_stream(endpoint::stream_context(state, n))
 }
 
 // What message context n holds.
-#[unsafe(no_mangle)]
-pub extern "C" fn kaiverohm_message_context(state: &[usize], n: usize) -> OpenMessage
+pub fn kaiverohm_message_context(state: &[usize], n: usize) -> OpenMessage
     ensures { MessageContextFromCPromise state.now n result }
 {
     c_contexts::of_message(endpoint::message_context(state, n))
 }
 
 // Gives the PDU of stream context n up.
-#[unsafe(no_mangle)]
-pub extern "C" fn kaiverohm_abandon_stream(state: &mut [usize], n: usize) -> Numbers
+pub fn kaiverohm_abandon_stream(state: &mut [usize], n: usize) -> Numbers
     ensures { AbandonStreamFromCPromise state.old n result state.new }
 {
     c_answers::of_abandon(endpoint::abandon_stream(state, n))
 }
 
 // Gives the message of message context n up.
-#[unsafe(no_mangle)]
-pub extern "C" fn kaiverohm_abandon_message(state: &mut [usize], n: usize) -> Numbers
+pub fn kaiverohm_abandon_message(state: &mut [usize], n: usize) -> Numbers
     ensures { AbandonMessageFromCPromise state.old n result state.new }
 {
     c_answers::of_abandon(endpoint::abandon_message(state, n))
 }
 
 // Where the first l bytes of stream context n's room lie, in a stream memory of that size.
-#[unsafe(no_mangle)]
-pub extern "C" fn kaiverohm_stream_room(state: &[usize], size: usize, n: usize, l: usize) -> Place
+pub fn kaiverohm_stream_room(state: &[usize], size: usize, n: usize, l: usize) -> Place
     ensures { StreamPlacePromise state.now size n l result }
 {
     c_places::stream_place(state, size, n, l)
 }
 
 // Where the first l bytes of message context n's room lie, in a message memory of that size.
-#[unsafe(no_mangle)]
-pub extern "C" fn kaiverohm_message_room(state: &[usize], size: usize, n: usize, l: usize) -> Place
+pub fn kaiverohm_message_room(state: &[usize], size: usize, n: usize, l: usize) -> Place
     ensures { MessagePlacePromise state.now size n l result }
 {
     c_places::message_place(state, size, n, l)
 }
 
 // How many segments a PDU makes.
-#[unsafe(no_mangle)]
-pub extern "C" fn kaiverohm_segment_count(mtu: usize, length: usize) -> usize
+pub fn kaiverohm_segment_count(mtu: usize, length: usize) -> usize
     ensures { CountPromise mtu length result }
 {
     segments::segment_count(mtu, length)
 }
 
 // Writes one segment of a PDU.
-#[unsafe(no_mangle)]
-pub extern "C" fn kaiverohm_write_segment(
+pub fn kaiverohm_write_segment(
     out: &mut [u8],
     heading: Heading,
     mtu: usize,
@@ -156,16 +143,14 @@ pub extern "C" fn kaiverohm_write_segment(
 }
 
 // How many bytes the record of a packet has.
-#[unsafe(no_mangle)]
-pub extern "C" fn kaiverohm_record_length(packet_length: usize) -> usize
+pub fn kaiverohm_record_length(packet_length: usize) -> usize
     ensures { RecordLengthPromise packet_length result }
 {
     log_writer::record_length(packet_length)
 }
 
 // Writes one record of a burst.
-#[unsafe(no_mangle)]
-pub extern "C" fn kaiverohm_write_record(out: &mut [u8], packet: &[u8]) -> Numbers
+pub fn kaiverohm_write_record(out: &mut [u8], packet: &[u8]) -> Numbers
     ensures { WriteRecordFromCPromise out.old packet.now result out.new }
 {
     c_answers::of_writer(log_writer::write_record(out, packet))
