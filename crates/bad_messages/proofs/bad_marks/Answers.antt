@@ -1,14 +1,9 @@
 -- `bad_messages::bad_marks` meets its contract: marks that are none, or no fewer than all, are bad; fewer leave the last length to judge, and fit
 -- its cast.
 use mathlib.Core.Path.{◌∙◌}
-use lib.Pow.{pow_pos}
 use borrow.Author.Rules.{rules}
 use Rattle.bad_messages.proofs.Few.{none_bad, all_bad, few_bad}
 use Rattle.bad_messages.proofs.bad_marks.Goals as goal
-
--- 2 to any power is 1 at least
-pub overflow_sub-all : goal.overflow_sub-all
-overflow_sub-all c = rw c.power-all.ensures.0 (pow_pos _)
 
 -- none
 pub returns-then-c-eq0 : goal.returns-then-c-eq0

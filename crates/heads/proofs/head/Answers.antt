@@ -1,6 +1,5 @@
 -- `heads::head` meets its contract: the bytes of an ID are 2 or 1.
 use borrow.Author.Tests.{eq-eqb, ne_eqb}
-use borrow.Author.Rules.{rules}
 use Rattle.wire.specs.Packet.{id_bytes}
 use Rattle.heads.proofs.head.Goals as goal
 

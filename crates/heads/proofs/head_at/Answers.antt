@@ -2,7 +2,6 @@
 use mathlib.Core.Path.{◌∙◌}
 use native.Mathlib.Omega.{arith}
 use borrow.Author.Tests.{eq-eqb, le-ltb, lt-ltb, ne_eqb}
-use borrow.Author.Rules.{rules}
 use Rattle.tables.specs.Refusals.{verdict}
 use Rattle.wire.specs.Head.{head_rows}
 use Rattle.wire.specs.Inside.{headed}

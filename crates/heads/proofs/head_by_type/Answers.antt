@@ -16,10 +16,6 @@ returns-then-packet-h c =
     simp (← c.header-h.ensures, ← c.wide-kind.ensures.0, eq-eqb _ _ c.if-kind-eq9.true, lt-ltb _ _ c.if-packet-h.true)
 
 -- type 9
-pub head_of_9-requires : goal.head_of_9-requires
-head_of_9-requires c =
-    (search rules, omega (arith, c.header-h.ensures), simp (← c.wide-kind.ensures.0) (eq-eqb _ _ c.if-kind-eq9.true))
-
 pub returns-then-kind-eq9 : goal.returns-then-kind-eq9
 returns-then-kind-eq9 c =
     c.head_of_9.ensures

@@ -1,13 +1,12 @@
 -- `heads::head_of_9` meets its contract: xh, then whether there is room for a field, then whether there is one.
 use Prim.Native.Nat.{ℕ, ◌+◌}
 use mathlib.Core.Path.{◌≡◌, sym, ap, ◌∙◌}
-use mathlib.Core.Bool.{false, true, ◌||◌}
+use mathlib.Core.Bool.{false}
 use mathlib.Core.List.{List}
 use native.Mathlib.Omega.{arith}
-use borrow.Author.Rules.{rules}
 use Rattle.lists.specs.Bytes.{byte}
 use Rattle.wire.specs.Packet.{header}
-use Rattle.wire.specs.Type9.{flags, is_s, is_e, xh}
+use Rattle.wire.specs.Type9.{flags, xh}
 use Rattle.wire.proofs.HeadLaws.{extended, no_field, field_cut, long-enough}
 use Rattle.wire.proofs.Fields.{low-flags, high_flags}
 use Rattle.heads.proofs.head_of_9.Goals as goal
