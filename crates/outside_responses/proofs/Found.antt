@@ -1,14 +1,10 @@
 -- What a reader has found: a record's packet lies in the log, and behind a record less of the log is left.
 use Prim.Native.Nat.{ℕ, ◌-◌, ◌≤◌, ◌<◌}
 use mathlib.Core.Path.{◌≡◌, refl, sym, subst}
-use mathlib.Core.List.{List, [], ◌∷◌}
+use mathlib.Core.List.{List}
 use mathlib.Core.Bool.{true, false, false≢true}
-use mathlib.Core.Logic.{inl, inr}
 use native.Mathlib.Omega.{arith}
 use lib.ListN.{length}
-use types.Run.{OneOf}
-use denote.Enum.Declared.{tag_of}
-use Rattle.log_records.specs.contracts.Next.{the_type}
 use Rattle.log_records.specs.declared.Next.{Next}
 use Rattle.log_records.specs.declared.Next.TheVariants.{Record, End, Bad}
 use Rattle.log_records.specs.Records.{next_record}
@@ -22,11 +18,10 @@ lies log x from size next e h = subst (λ (y : Next). LiesIn log y) e h
 pub record_is : (x : Next) (from size next : ℕ) → x ≡ Record from size next → true ≡ is_record x
 record_is x from size next e = subst (λ (y : Next). true ≡ is_record y) (sym e) refl
 
-pub none_is : (x : Next) → OneOf (1 ∷ 2 ∷ []) (tag_of the_type x) → false ≡ is_record x
-none_is (Record f s next) (inl t) = absurd (omega (arith, t))
-none_is (Record f s next) (inr t) = absurd (omega (arith, t))
-none_is End t = refl
-none_is Bad t = refl
+pub none_is : (x : Next) → ((from size next : ℕ) → x ≡ Record from size next → ⊥) → false ≡ is_record x
+none_is (Record f s next) other = absurd (other f s next refl)
+none_is End other = refl
+none_is Bad other = refl
 
 pub found-lies : (log : List ℕ) (at : ℕ) (x : Next) → next_record log at ≡ x → LiesIn log x
 found-lies log at (Record from size next) e = let i = inside log at from size next e in (omega (arith, i.behind), i.within)

@@ -2,7 +2,7 @@
 use Rattle.std.proofs.Common.{ℕ, zero, suc, ◌≡◌, ◌+◌, ◌-◌, ◌*◌, ◌/◌, ◌^◌, ◌<◌, ◌≤◌, refl}
 use Rattle.std.proofs.Math.Nat.{pow-suc}
 use native.Mathlib.Omega.{arith}
-use Rattle.printing.specs.Digits.{is_digit_count}
+use Rattle.printing.specs.Digits.{IsDigitCount}
 
 -- the number of digits less one, j: the tenth takes j + 1, the number j + 2
 above : (n j : ℕ) → 10 ≤ n → (1 < suc j → 10 ^ (suc j - 1) ≤ n / 10) → 10 ^ suc j ≤ n
@@ -13,7 +13,7 @@ above n (suc j) h low =
     let m = rw less at l in
     omega (arith, pow-suc 10 (suc j), m)
 
-pub one_more : (n k : ℕ) → 10 ≤ n → is_digit_count (n / 10) k → is_digit_count n (k + 1)
+pub one_more : (n k : ℕ) → 10 ≤ n → IsDigitCount (n / 10) k → IsDigitCount n (k + 1)
 one_more n zero h d = absurd (omega (arith, d.0))
 one_more n (suc j) h d =
     let p = pow-suc 10 (suc j) in

@@ -3,7 +3,7 @@
 #![tactic(auto)]
 
 ghost use Rattle.std.specs.Prelude.{◌≡◌, ◌+◌, ◌≤◌, length};
-ghost use Rattle.printing.specs.Digits.{is_digit_count};
+ghost use Rattle.printing.specs.Digits.{IsDigitCount};
 
 use std::io::Read;
 
@@ -17,7 +17,7 @@ pub fn print_text(rt: &impl Print, text: &[u8]) -> usize
 
 // How many digits a number has in decimal, without zeros in front.
 fn digit_count(n: usize) -> usize
-    ensures count { is_digit_count n result }
+    ensures count { IsDigitCount n result }
     ensures few { result ≤ n + 1 }
 {
     if n < 10 {
@@ -28,7 +28,7 @@ fn digit_count(n: usize) -> usize
 
 // A number in decimal, without zeros in front. Answers how many digits that are.
 pub fn print_number(rt: &impl Print, n: usize) -> usize
-    ensures { is_digit_count n result }
+    ensures { IsDigitCount n result }
 {
     let _ = rt.print(n);
     digit_count(n)
