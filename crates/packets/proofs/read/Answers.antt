@@ -46,7 +46,7 @@ pub returns-then-head-lt9 : goal.returns-then-head-lt9
 returns-then-head-lt9 c =
     let passed = (goal.at.returns-then-head-lt9 c).Else-number-ne0 in
     let x = lent_to passed in
-    let is = number x _ _ _ c.head.ensures c.device.ensures c.narrow.ensures in
+    let is = number x _ _ _ c.head-head.ensures c.device.ensures c.narrow.ensures in
     refusal_promised x _ _ c.refusal-then-head-lt9.ensures (parting.reads x (ready passed) _ (parting.is_refused x _ is c.if-head-lt9.true))
 
 -- ---- type 9
@@ -55,14 +55,14 @@ pub step-requires : goal.step-requires
 step-requires c =
     let passed = (goal.at.step-requires c).Else-number-ne0 in
     let x = lent_to passed in
-    let is = number x _ _ _ c.head.ensures c.device.ensures c.narrow.ensures in
+    let is = number x _ _ _ c.head-head.ensures c.device.ensures c.narrow.ensures in
     parting.ready_9 x (ready passed) (parting.is_9 x _ is c.if-head-lt9.false c.if-head-eq9.true)
 
 pub returns-then-head-eq9 : goal.returns-then-head-eq9
 returns-then-head-eq9 c =
     let passed = (goal.at.returns-then-head-eq9 c).Else-number-ne0 in
     let x = lent_to passed in
-    let is = number x _ _ _ c.head.ensures c.device.ensures c.narrow.ensures in
+    let is = number x _ _ _ c.head-head.ensures c.device.ensures c.narrow.ensures in
     let is_9 : Is x (Stream (segment_in x)) = parting.is_9 x _ is c.if-head-lt9.false c.if-head-eq9.true in
     let t = c.step in
     stream_promised x t.result t.new.state t.new.memory _ (t.auto.state ∙ (ready passed).fit.whole) t.ensures (parting.reads x (ready passed) _ is_9)
@@ -73,7 +73,7 @@ pub step-requires-2 : goal.step-requires-2
 step-requires-2 c =
     let passed = (goal.at.step-requires-2 c).Else-number-ne0 in
     let x = lent_to passed in
-    let is = number x _ _ _ c.head.ensures c.device.ensures c.narrow.ensures in
+    let is = number x _ _ _ c.head-head.ensures c.device.ensures c.narrow.ensures in
     let is_11 : Is x (Message (message_segment_in x)) = parting.is_11 x _ is c.if-head-lt9.false c.if-head-eq9.false in
     let at = header (ids_in (state_in x)) in
     let a : get_or x.packet at 0 < 256 = omega (arith, c.type_inv.packet at) in
@@ -84,7 +84,7 @@ pub returns : goal.returns
 returns c =
     let passed = (goal.at.returns c).Else-number-ne0 in
     let x = lent_to passed in
-    let is = number x _ _ _ c.head.ensures c.device.ensures c.narrow.ensures in
+    let is = number x _ _ _ c.head-head.ensures c.device.ensures c.narrow.ensures in
     let is_11 : Is x (Message (message_segment_in x)) = parting.is_11 x _ is c.if-head-lt9.false c.if-head-eq9.false in
     let t = c.step-2 in
     message_promised x t.result t.new.state t.new.memory t.new.response _ (t.auto.state ∙ (ready passed).fit.whole) t.ensures
