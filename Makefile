@@ -1,11 +1,13 @@
 # The C library and the log program: archive, example, tests, installation. Proving and building needs the Rattle kit (`rt`).
 #
 #     make            the archive and the example
+#     make archive    target/staticlib/libkaiverohm.a alone
+#     make program    the log program alone
 #     make test       the tests from C
 #     make install    the C library (archive, header, pkg-config file), racklog, racklog-report (tools/report) and the man pages, below
 #                     $(DESTDIR)$(PREFIX). LIBDIR, INCLUDEDIR and MANDIR can be other folders
 #     make uninstall  removes these
-#     make clean      removes all that was built, the proofs too: the next make proves anew, which takes minutes
+#     make clean      removes all that was built, the proofs too: the next make proves anew, which takes a while
 PREFIX ?= /usr/local
 LIBDIR ?= $(PREFIX)/lib
 INCLUDEDIR ?= $(PREFIX)/include
@@ -14,30 +16,31 @@ MANDIR ?= $(PREFIX)/share/man
 PROGRAMS = $(PREFIX)/libexec/kaiverohm
 VERSION = $(shell sed -n 's/^.define KAIVEROHM_VERSION "\(.*\)"/\1/p' include/kaiverohm.h)
 
-# Programs are for x86-64.
-ifeq ($(shell uname -m),x86_64)
 CC = gcc
-else
-CC = x86_64-linux-gnu-gcc
-LDFLAGS += -static
-endif
 CFLAGS ?= -std=c11 -O2 -g -Wall -Wextra
 
 archive = target/staticlib/libkaiverohm.a
 program = target/bin/racklog
-sources = crates.txt $(shell find crates -name '*.rt' -o -name '*.antt')
+# rt's own out/ folders hold copies of sources
+sources = crates.txt $(shell find crates -name out -prune -o \( -name '*.rt' -o -name '*.antt' \) -print)
 
-all: $(archive) example
+all: archive example
+
+archive: $(archive)
+
+program: $(program)
+
+example: target/c/echo
 
 $(archive): $(sources)
-	rt staticlib kaiverohm
-	touch $@
+	tools/prove kaiverohm_c
+	mkdir -p $(@D)
+	cp crates/kaiverohm_c/out/libkaiverohm_c.a $@
 
 $(program): $(sources)
 	tools/prove racklog
-	touch $@
-
-example: target/c/echo
+	mkdir -p $(@D)
+	cp crates/racklog/out/racklog $@
 
 target/c/echo: examples/echo.c include/kaiverohm.h $(archive)
 	mkdir -p target/c
@@ -71,6 +74,6 @@ uninstall:
 	rm -f '$(DESTDIR)$(MANDIR)/man1/racklog.1' '$(DESTDIR)$(MANDIR)/man1/racklog-report.1' '$(DESTDIR)$(MANDIR)/man3/kaiverohm.3'
 
 clean:
-	rm -rf target
+	rm -rf target crates/*/out
 
-.PHONY: all example test install uninstall clean
+.PHONY: all archive program example test install uninstall clean

@@ -37,7 +37,7 @@ for line in read("crates.txt").splitlines():
         heading = line[2:]
     name, colon, deps = line.split("#")[0].partition(":")
     if colon:
-        USES[name.strip()], HEADING[name.strip()] = deps.split(), heading
+        USES[name.split()[0]], HEADING[name.split()[0]] = deps.split(), heading
 
 PUBLIC = set(re.findall(r'"(\w+)"', re.search(r"^USERS = \[(.*)\]$", read("tools/trace"), re.M)[1]))
 

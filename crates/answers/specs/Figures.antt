@@ -1,6 +1,5 @@
 -- The answer to a packet as numbers, as the steps hand it up. A report for C has the same numbers in the same order.
 use Rattle.std.specs.Prelude.{ℕ, ◌≡◌, Bool, cond, eqb}
-use Rattle.wire.specs.declared.Flow.{Flow}
 use Rattle.answers.specs.Answers.{Said, held, delivered, message, refused}
 use Rattle.answers.specs.Kinds.{refused_kind, held_kind, delivered_kind, message_kind}
 use Rattle.answers.specs.declared.Figures.{Figures}

@@ -6,7 +6,6 @@ use native.Mathlib.Omega.{arith}
 use borrow.Author.Fill.{fill_more}
 use lib.ListN.{length, take, drop, drop_of_length-le, replicate, set, length-take, length-drop, length-append, take-append-drop}
 use lib.Seq.{drop-drop, take_all}
-use Rattle.lists.specs.Bytes.{written}
 use Rattle.lists.specs.Rows.{joined, records_at}
 use Rattle.lists.proofs.Written.{take-before}
 use Rattle.lists.proofs.Rows.{Rowed, read_at, read_is, write_at, write_is, write_around, length-records, record_read}
@@ -14,7 +13,7 @@ use Rattle.lists.proofs.Rows.{record_put, records-before, records-behind, row_ag
 use Rattle.contexts.specs.declared.StreamContext.{StreamContext}
 use Rattle.contexts.specs.declared.MessageContext.{MessageContext}
 use Rattle.wire.specs.declared.Setup.{Setup}
-use Rattle.contexts.specs.State.{State, fixed, fresh, stream_contexts, message_contexts, stream_in, message_in, with_stream, with_message}
+use Rattle.contexts.specs.State.{State, fresh, stream_contexts, message_contexts, stream_in, message_in, with_stream, with_message}
 use Rattle.contexts.specs.State.{holding}
 use Rattle.contexts.specs.Words.{state_of, words_of, state_words, head_words, stream_words, message_words, first_stream}
 use Rattle.contexts.specs.Words.{first_message, setup_from, words_of_setup, stream_from, words_of_stream, message_from, words_of_message}

@@ -21,9 +21,9 @@ fixed device mtu room narrow = record { device = device; mtu = mtu; room = room;
 
 pub record State : Type 0 where
   pub setup : Setup
-  -- streamContexts of them
+  -- stream_contexts of them
   pub streams : List StreamContext
-  -- messageContexts of them
+  -- message_contexts of them
   pub messages : List MessageContext
 
 -- the bytes of an ID
@@ -95,18 +95,18 @@ is_of_flow flow c = not (is_free_stream c) && same_flow c.flow flow
 unfoldable pub is_of_message : ℕ → ℕ → ℕ → MessageContext → Bool
 is_of_message source letter mbox c = not (is_free_message c) && (eqb c.source source && (eqb c.letter letter && eqb c.mbox mbox))
 
--- the flow's open context: of two, the lower number; streamContexts: none
+-- the flow's open context: of two, the lower number; stream_contexts: none
 unfoldable pub flow_context : State → Flow → ℕ
 flow_context s flow = first_of (is_of_flow flow) s.streams
 
--- the lowest free stream context; streamContexts: none
+-- the lowest free stream context; stream_contexts: none
 unfoldable pub free_stream : State → ℕ
 free_stream s = first_of is_free_stream s.streams
 
--- the message's open context: of two, the lower number; messageContexts: none
+-- the message's open context: of two, the lower number; message_contexts: none
 unfoldable pub message_context : State → ℕ → ℕ → ℕ → ℕ
 message_context s source letter mbox = first_of (is_of_message source letter mbox) s.messages
 
--- the lowest free message context; messageContexts: none
+-- the lowest free message context; message_contexts: none
 unfoldable pub free_message : State → ℕ
 free_message s = first_of is_free_message s.messages

@@ -63,7 +63,7 @@ first_message = first_stream + stream_words * stream_contexts
 abbrev pub state_words : ℕ
 state_words = first_message + message_words * message_contexts
 
--- ---- the state that the words are: every list of stateWords words is one
+-- ---- the state that the words are: every list of state_words words is one
 unfoldable pub state_of : List ℕ → State
 state_of w = record {
   setup = setup_from (take head_words w);

@@ -79,7 +79,7 @@ module _ (narrow : ℕ) where
     priorities = λ k. let h = below_at 4 eleven.priorities k (omega arith) refl in omega arith;
   }
 
-  -- the others are fair, and example 11 gets context 1: fromThree has context 0
+  -- the others are fair, and example 11 gets context 1: from_three has context 0
   run-eleven : FairMailTurn setup eleven (other (at_width narrow from_three)) → FairMailTurn setup eleven (other (at_width narrow start_between))
       → context_at_first (of_segments (eleven_turns narrow) (eleven_calls narrow)) ≡ 1
       → MailRun (mail_desk narrow) eleven (eleven_turns narrow) (eleven_calls narrow)

@@ -1,9 +1,9 @@
 -- Laws of numbers in bytes, of every number of bytes: how many there are, that they are read back, which numbers bytes make, and of
 -- bytes copied. Then of one and of two bytes, as IDs have them.
-use Prim.Native.Nat.{ℕ, zero, suc, ◌+◌, ◌*◌, ◌/◌, ◌%◌, ◌^◌, ◌≤◌, ◌<◌}
-use mathlib.Core.Path.{◌≡◌, refl, sym, ap, ap₂, subst, ◌∙◌}
-use mathlib.Core.List.{List, [], ◌∷◌, ◌++◌, append_assoc}
-use native.Mathlib.Nat.{add-zero, add_comm, add_assoc, add-mul-div_right, div-eq_of_lt, mul-one, mul_assoc, mul-add, mul_comm, div-one, div-add-mod, div-div-eq-div-mul, mul-add-mod_self_left, mod-eq_of_lt, mod-lt, mod-one, pow-zero, pow-suc, one-le-pow, mul-le-mul_left, lt_of_lt_of_le, le_refl, suc-mul, mul-le-mul_right}
+use Prim.Native.Nat.{ℕ, suc, ◌+◌, ◌*◌, ◌/◌, ◌%◌, ◌^◌, ◌≤◌, ◌<◌}
+use mathlib.Core.Path.{◌≡◌, refl, sym, ap, ap₂, ◌∙◌}
+use mathlib.Core.List.{List, [], ◌∷◌, ◌++◌}
+use native.Mathlib.Nat.{add-zero, add_comm, add_assoc, add-mul-div_right, div-eq_of_lt, mul-one, mul_assoc, mul-add, mul_comm, div-one, div-add-mod, div-div-eq-div-mul, mul-add-mod_self_left, mod-eq_of_lt, mod-lt, mod-one, pow-suc, one-le-pow, suc-mul, mul-le-mul_right}
 use native.Mathlib.Numerals.{add-one}
 use native.Mathlib.Omega.{arith}
 use lib.ListN.{length, get_or}

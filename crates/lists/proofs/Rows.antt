@@ -1,10 +1,10 @@
 -- Laws of `rows`, for every width: reading a row, writing one, writing behind the table, and back to the words.
-use Prim.Native.Nat.{ℕ, zero, suc, ◌≤◌, ◌<◌, ◌+◌, ◌-◌, ◌*◌}
+use Prim.Native.Nat.{ℕ, suc, ◌≤◌, ◌<◌, ◌+◌, ◌-◌, ◌*◌}
 use mathlib.Core.Path.{◌≡◌, refl, ap, ap₂, sym, ◌∙◌}
 use mathlib.Core.List.{List, [], ◌∷◌, ◌++◌, map, append_assoc}
 use native.Mathlib.Omega.{arith}
 use native.Mathlib.Nat.{mul-suc, mul-zero, mul-le-mul_left, add_comm, add-zero, add-suc, suc-add}
-use lib.ListN.{length, get_or, take, drop, set, length-drop, length-map, take-append-drop, length-append, get_or-map}
+use lib.ListN.{length, get_or, take, drop, set, length-drop, length-map, length-append, get_or-map}
 use lib.Seq.{drop-drop, drop-cons, take_all, take_at, drop_at, take-add, length-take-le, sets, set-get_or, get_or-set_other}
 use Rattle.lists.specs.Bytes.{written}
 use Rattle.lists.specs.Rows.{rows, joined, records_at}

@@ -1,5 +1,5 @@
 -- Bytes in a list: some of them as a number, a number's bytes, and a run of bytes written over others.
-use Rattle.std.specs.Prelude.{ℕ, zero, suc, ◌+◌, ◌*◌, ◌/◌, ◌%◌, ◌^◌, ◌<◌, List, [], ◌∷◌, ◌++◌, length, get_or, take, drop}
+use Rattle.std.specs.Prelude.{ℕ, suc, ◌+◌, ◌*◌, ◌/◌, ◌%◌, ◌^◌, ◌<◌, List, [], ◌∷◌, ◌++◌, length, get_or, take, drop}
 
 -- byte n of a packet, counted from 0; 0 past its end
 abbrev pub byte : List ℕ → ℕ → ℕ

@@ -1,12 +1,8 @@
 -- The piece at a place, by what stands there.
 use Prim.Native.Nat.{ℕ, ◌-◌, ◌≤◌, ◌<◌}
 use mathlib.Core.Path.{◌≡◌, refl, ap, sym, subst, ◌∙◌}
-use mathlib.Core.List.{List, [], ◌∷◌}
+use mathlib.Core.List.{List}
 use native.Mathlib.Omega.{arith}
-use types.Run.{OneOf}
-use mathlib.Core.Logic.{inl, inr}
-use denote.Enum.Declared.{tag_of}
-use Rattle.log_records.specs.contracts.Next.{the_type}
 use Rattle.log_records.proofs.Found.{inside}
 use lib.ListN.{take, drop}
 use Rattle.answers.specs.declared.Reading.{Reading}
@@ -46,12 +42,10 @@ module _ (b : Desk) (log : List ℕ) (at count : ℕ) (out : List ℕ) where
       ∙ (ap (λ (l : List ℕ). record_printed b l out next) same
       ∙ sym (ap (printed_by b log count out) e)))
 
--- what is neither a record nor the end is bad; variants are numbered in the order of the declaration
-pub neither : (x : Next) → OneOf (0 ∷ 2 ∷ []) (tag_of the_type x) → OneOf (1 ∷ 2 ∷ []) (tag_of the_type x) → x ≡ Bad
-neither (Record from size next) a (inl e) = absurd (omega (arith, e))
-neither (Record from size next) a (inr e) = absurd (omega (arith, e))
-neither End (inl e) b = absurd (omega (arith, e))
-neither End (inr e) b = absurd (omega (arith, e))
+-- what is neither a record nor the end is bad
+pub neither : (x : Next) → (x ≡ End → ⊥) → ((from size next : ℕ) → x ≡ Record from size next → ⊥) → x ≡ Bad
+neither (Record from size next) a b = absurd (b from size next refl)
+neither End a b = absurd (a refl)
 neither Bad a b = refl
 
 -- the packet lies between its start and the next place

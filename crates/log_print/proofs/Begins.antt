@@ -1,5 +1,5 @@
--- The desk that the runs begin with is the log program's; what a log that is too long prints.
-use Prim.Native.Nat.{ℕ, ◌+◌, ◌≤◌, ◌<◌}
+-- The desk that the runs begin with is the log program's; what the runs keep; what a log that is too long prints.
+use Prim.Native.Nat.{ℕ, ◌+◌, ◌*◌, ◌≤◌, ◌<◌}
 use mathlib.Core.Path.{◌≡◌, refl, ap, ◌∙◌}
 use mathlib.Core.List.{List}
 use native.Mathlib.Nat.{zero-add}
@@ -18,9 +18,22 @@ use Rattle.answers.specs.Stands.{Stands}
 use Rattle.flows.specs.Fresh.{paper_setup}
 use Rattle.log_lines.specs.Lines.{bad_log}
 use Rattle.log_pieces.specs.Output.{output}
-use Rattle.reading.specs.Desk.{desk}
+use Rattle.reading.specs.Desk.{Desk, desk}
 use Rattle.log_pieces.proofs.Pieces.{short_log}
 use Rattle.log_run.proofs.Runs.{still}
+
+-- the arrays keep their lengths; the bytes put and those still to come are the output's; no more records than bytes were read, and each run
+-- puts at most a buffer and comes on by a byte
+pub record Sums (log : List ℕ) (b : Desk) (out : List ℕ) (at count total : ℕ) : Type 0 where
+  pub words : length b.words ≡ state_words
+  pub streams : length b.stream_memory ≡ 32768
+  pub messages : length b.message_memory ≡ 32768
+  pub reply : length b.response ≡ 7
+  pub buffer : length out ≡ 65536
+  pub few : count ≤ at
+  pub inside : at ≤ length log
+  pub fits : total ≤ 65536 * at
+  pub whole : total + length (still b log at count) ≡ length (output log)
 
 set_up : (words : List ℕ) (r : Begun) → SetupPromise (replicate state_words 0) paper_setup r words → words ≡ words_of (fresh paper_setup)
 unfolding setup setup_table verdict too_wide bad_mtu bad_room

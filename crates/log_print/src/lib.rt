@@ -5,23 +5,22 @@ ghost use Rattle.std.specs.Prelude.{◌≡◌, ◌≤◌, length};
 ghost use Rattle.log_pieces.specs.Output.{output};
 
 use endpoint::Setup;
-use libc::{STDERR_FILENO, STDOUT_FILENO};
 
 // Writes to standard output, unless a write has failed before: behind a hole nothing more is written, so no `end` either. The first write
 // that fails is said on standard error. Answers whether all went well.
-fn put(well: bool, bytes: &[u8]) -> bool {
+fn put(rt: &(impl Print + Eprint), well: bool, bytes: &[u8]) -> bool {
     if !well {
         return false;
     }
-    let written = io::write_all(STDOUT_FILENO, bytes);
+    let written = rt.write_all(bytes).is_ok();
     if !written {
-        io::write_all(STDERR_FILENO, b"standard output cannot be written\n");
+        let _ = rt.eprintln("standard output cannot be written");
     }
     written
 }
 
 // Runs over a log from a fresh endpoint: device 1, MTU 32, R 2,048, IDs of 16 bits. Answers how many bytes they put. Every caller has tested the length.
-fn print_runs(log: &[u8]) -> usize
+fn print_runs(rt: &(impl Print + Eprint), log: &[u8]) -> usize
     requires { length log.now ≤ 65536 }
     ensures { result ≡ length (output log.now) }
 {
@@ -55,7 +54,7 @@ fn print_runs(log: &[u8]) -> usize
             &mut out,
         );
         let used = ran.used;
-        well = put(well, &out[..used]);
+        well = put(rt, well, &out[..used]);
         total += used;
         if ran.over {
             return total;
@@ -66,12 +65,12 @@ fn print_runs(log: &[u8]) -> usize
 }
 
 // Writes the log program's output for a log to standard output. Answers how many bytes that is.
-pub fn print_log(log: &[u8]) -> usize
+pub fn print_log(rt: &(impl Print + Eprint), log: &[u8]) -> usize
     ensures { result ≡ length (output log.now) }
 {
     if 65536 < log.len() {
-        put(true, b"bad log\n");
+        put(rt, true, b"bad log\n");
         return 8;
     }
-    print_runs(log)
+    print_runs(rt, log)
 }

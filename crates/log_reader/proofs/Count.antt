@@ -1,14 +1,10 @@
 -- The records from a place on, counted: one step, and the end.
 use Prim.Native.Nat.{ℕ, suc, ◌+◌, ◌-◌, ◌≤◌}
-use mathlib.Core.Path.{◌≡◌, ap, sym, ◌∙◌}
+use mathlib.Core.Path.{◌≡◌, refl, ap, sym, ◌∙◌}
 use mathlib.Core.List.{List, [], ◌∷◌}
-use mathlib.Core.Logic.{inl, inr}
 use native.Mathlib.Omega.{arith}
 use native.Mathlib.Nat.{zero-add}
 use lib.ListN.{length}
-use types.Run.{OneOf}
-use denote.Enum.Declared.{tag_of}
-use Rattle.log_records.specs.contracts.Next.{the_type}
 use Rattle.log_records.specs.declared.Next.{Next}
 use Rattle.log_records.specs.declared.Next.TheVariants.{Record, End, Bad}
 use Rattle.log_records.specs.Records.{by_next, next_record, records_from, records_of}
@@ -31,12 +27,11 @@ unfolding records_from
 one most log at f s next e = ap (λ (x : Next). length (by_next log (records_from most log) x).packets) e
 
 -- at the end, and where the log is bad, nothing is left
-none : (most : ℕ) (log : List ℕ) (at : ℕ) (x : Next) → OneOf (1 ∷ 2 ∷ []) (tag_of the_type x) → next_record log at ≡ x → from (suc most) log at ≡ 0
+none : (most : ℕ) (log : List ℕ) (at : ℕ) (x : Next) → ((f s next : ℕ) → x ≡ Record f s next → ⊥) → next_record log at ≡ x → from (suc most) log at ≡ 0
 unfolding records_from
-none most log at (Record f s next) (inl t) e = absurd (omega (arith, t))
-none most log at (Record f s next) (inr t) e = absurd (omega (arith, t))
-none most log at End t e = ap (λ (x : Next). length (by_next log (records_from most log) x).packets) e
-none most log at Bad t e = ap (λ (x : Next). length (by_next log (records_from most log) x).packets) e
+none most log at (Record f s next) other e = absurd (other f s next refl)
+none most log at End other e = ap (λ (x : Next). length (by_next log (records_from most log) x).packets) e
+none most log at Bad other e = ap (λ (x : Next). length (by_next log (records_from most log) x).packets) e
 
 pub start : (log : List ℕ) → Counted log 0 0
 unfolding count_of records_of
@@ -52,5 +47,5 @@ step log at count f s next e c =
     one (length log - count) log at f s next e ∙ ap (λ (k : ℕ). suc (from k log next)) fewer in
     record { passed = omega (arith, c.passed, i.onward); within = i.within; left = omega (arith, c.left, counted) }
 
-pub finish : (log : List ℕ) (at count : ℕ) (x : Next) → OneOf (1 ∷ 2 ∷ []) (tag_of the_type x) → next_record log at ≡ x → Counted log at count → count ≡ count_of log
-finish log at count x t e c = omega (arith, c.left, none (length log - count) log at x t e)
+pub finish : (log : List ℕ) (at count : ℕ) (x : Next) → ((f s next : ℕ) → x ≡ Record f s next → ⊥) → next_record log at ≡ x → Counted log at count → count ≡ count_of log
+finish log at count x other e c = omega (arith, c.left, none (length log - count) log at x other e)

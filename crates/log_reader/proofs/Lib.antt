@@ -1,3 +1,2 @@
 pub mod Count
-pub mod Calls
 pub mod Once

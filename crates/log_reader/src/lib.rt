@@ -6,7 +6,7 @@ ghost use Rattle.log_reader.specs.Reader.{NewReaderPromise, PlacePromise, MovedP
 
 use log_records::Next;
 
-#[derive(Drop)]
+#[derive(Clone, Copy)]
 pub struct LogReader<'a> {
     pub log: &'a [u8],
     pub at: usize,

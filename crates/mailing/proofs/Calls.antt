@@ -51,7 +51,7 @@ module _ (setup : Setup) (x : Posted) where
       subst (λ (y : Settled). Has x y.desk y.says mail → Calls setup x y.desk ts cs
       → Calls setup x d (t ∷ ts) (record { lent = e; packet = p; says = y.says; left = y.desk; mail = mail } ∷ cs))
       (sym promise) (one given mail h)
-      (has-fetched x z left (said r.answer) mail f) (of_promises z ts rest)
+      (has-fetched x z left (said r.answer) mail f) (of_promises z {d = left} ts rest)
 
 -- ---- There are such calls
 

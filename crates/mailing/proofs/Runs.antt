@@ -111,10 +111,10 @@ module _ (setup : Setup) (x : Posted) (post : Postable setup x) where
 
   -- ---- the whole run, by what is known of the message
 
-  over : {d : Desk} {cs : List MailCall} (ts : List MailTurn) → Calls setup x d ts cs → Ready setup d → arrivals ts ≡ [] → Each (FairMailTurn setup x) ts → Over ts cs
+  over : (ts : List MailTurn) {d : Desk} {cs : List MailCall} → Calls setup x d ts cs → Ready setup d → arrivals ts ≡ [] → Each (FairMailTurn setup x) ts → Over ts cs
   over [] none r e fair = record { none_left = refl; silent = refl }
   over (segment k ∷ ts) calls r e fair = absurd (let clash : ◌≡◌ {A = ℕ} 0 1 = cc in omega arith)
-  over {d} (other p ∷ ts) (one given mail h has rest) r e fair =
+  over (other p ∷ ts) {d} (one given mail h has rest) r e fair =
       let q = read_other setup (with_response d given) p (with_buffer r given h) fair.0.0 x fair.0.1 in
       other_over _ (has.silent q.silent) (over ts rest q.ready e fair.1)
 
@@ -201,14 +201,14 @@ module _ (setup : Setup) (x : Posted) (post : Postable setup x) where
 
   module _ (several : is_alone x ≡ false) where
     -- the message is open, and c + 1 segments are to come
-    joining : {d : Desk} {cs : List MailCall} (ts : List MailTurn) (n marks last c : ℕ) → Calls setup x d ts cs → Ready setup d
+    joining : (ts : List MailTurn) {d : Desk} {cs : List MailCall} (n marks last c : ℕ) → Calls setup x d ts cs → Ready setup d
         → Open x (state_on d) d.message_memory n marks last
         → Awaits (msglen_of x) marks (arrivals ts) → length (arrivals ts) ≡ suc c → Each (FairMailTurn setup x) ts → Result ts cs n c
     joining [] n marks last c none r o w count fair = absurd (omega arith)
-    joining {d} (other p ∷ ts) n marks last c (one given mail h has rest) r o w count fair =
+    joining (other p ∷ ts) {d} n marks last c (one given mail h has rest) r o w count fair =
         let q = read_other setup (with_response d given) p (with_buffer r given h) fair.0.0 x fair.0.1 in
         other_result _ (has.silent q.silent) (joining ts n marks last c rest q.ready (stays_open x z q.stays o) w count fair.1)
-    joining {d} (segment k ∷ ts) n marks last zero (one given mail h has rest) r o w count fair =
+    joining (segment k ∷ ts) {d} n marks last zero (one given mail h has rest) r o w count fair =
         let e : Desk = with_response d given in
         let ready = with_buffer r given h in
         let a = next_awaited (msglen_of x) marks k (arrivals ts) w in
@@ -216,7 +216,7 @@ module _ (setup : Setup) (x : Posted) (post : Postable setup x) where
         let all = subst (Awaits (msglen_of x) (with_mark marks k)) no_more (then_awaited (msglen_of x) marks k (arrivals ts) w) in
         final_then e k ready a.0 has o.below (final_here e k ready a.0 several n marks last o a.1 all)
         (over ts rest (by_step e k ready a.0).ready no_more fair.1)
-    joining {d} (segment k ∷ ts) n marks last (suc c) (one given mail h has rest) r o w count fair =
+    joining (segment k ∷ ts) {d} n marks last (suc c) (one given mail h has rest) r o w count fair =
         let e : Desk = with_response d given in
         let ready = with_buffer r given h in
         let a = next_awaited (msglen_of x) marks k (arrivals ts) w in
@@ -226,14 +226,14 @@ module _ (setup : Setup) (x : Posted) (post : Postable setup x) where
         (joining ts n _ _ c rest (by_step e k ready a.0).ready (then_open e k ready a.0 holds) more (omega arith) fair.1)
 
     -- none is open for it, and c + 2 segments are to come
-    waiting : {d : Desk} {cs : List MailCall} (ts : List MailTurn) (c : ℕ) → Calls setup x d ts cs → Ready setup d
+    waiting : (ts : List MailTurn) {d : Desk} {cs : List MailCall} (c : ℕ) → Calls setup x d ts cs → Ready setup d
         → context_of x d ≡ 8 → context_at_first (of_segments ts cs) < 8
         → Awaits (msglen_of x) 0 (arrivals ts) → length (arrivals ts) ≡ suc (suc c) → Each (FairMailTurn setup x) ts → Result ts cs (context_at_first (of_segments ts cs)) (suc c)
     waiting [] c none r shut free w count fair = absurd (omega arith)
-    waiting {d} (other p ∷ ts) c (one given mail h has rest) r shut free w count fair =
+    waiting (other p ∷ ts) {d} c (one given mail h has rest) r shut free w count fair =
         let q = read_other setup (with_response d given) p (with_buffer r given h) fair.0.0 x fair.0.1 in
         other_result _ (has.silent q.silent) (waiting ts c rest q.ready (still-none q.stays shut) free w count fair.1)
-    waiting {d} (segment k ∷ ts) c (one given mail h has rest) r shut free w count fair =
+    waiting (segment k ∷ ts) {d} c (one given mail h has rest) r shut free w count fair =
         let e : Desk = with_response d given in
         let ready = with_buffer r given h in
         let a = next_awaited (msglen_of x) 0 k (arrivals ts) w in
@@ -243,13 +243,13 @@ module _ (setup : Setup) (x : Posted) (post : Postable setup x) where
         (joining ts (free_message (state_on d)) _ _ c rest (by_step e k ready a.0).ready (then_open e k ready a.0 holds) more (omega arith) fair.1)
 
   -- it has one segment, which is to come
-  alone : {d : Desk} {cs : List MailCall} (ts : List MailTurn) → is_alone x ≡ true → Calls setup x d ts cs → Ready setup d → context_at_first (of_segments ts cs) < 8
+  alone : (ts : List MailTurn) {d : Desk} {cs : List MailCall} → is_alone x ≡ true → Calls setup x d ts cs → Ready setup d → context_at_first (of_segments ts cs) < 8
       → Awaits (msglen_of x) 0 (arrivals ts) → length (arrivals ts) ≡ 1 → Each (FairMailTurn setup x) ts → Result ts cs (context_at_first (of_segments ts cs)) 0
   alone [] t none r free w count fair = absurd (omega arith)
-  alone {d} (other p ∷ ts) t (one given mail h has rest) r free w count fair =
+  alone (other p ∷ ts) {d} t (one given mail h has rest) r free w count fair =
       let q = read_other setup (with_response d given) p (with_buffer r given h) fair.0.0 x fair.0.1 in
       other_result _ (has.silent q.silent) (alone ts t rest q.ready free w count fair.1)
-  alone {d} (segment k ∷ ts) t (one given mail h has rest) r free w count fair =
+  alone (segment k ∷ ts) {d} t (one given mail h has rest) r free w count fair =
       let e : Desk = with_response d given in
       let ready = with_buffer r given h in
       let a = next_awaited (msglen_of x) 0 k (arrivals ts) w in

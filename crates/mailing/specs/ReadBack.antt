@@ -22,7 +22,7 @@ pub record GoodDesk (d : Desk) : Type 0 where
 abbrev pub setup_of : Desk → Setup
 setup_of d = (state_on d).setup
 
--- the open context of a message's source, letter and mbox; messageContexts: none
+-- the open context of a message's source, letter and mbox; message_contexts: none
 abbrev pub context_of : Posted → Desk → ℕ
 context_of x d = message_context (state_on d) x.mail.source x.mail.letter (mbox_of x)
 

@@ -71,7 +71,7 @@ of_segments (t ∷ ts) [] = []
 of_segments (segment k ∷ ts) (c ∷ cs) = c ∷ of_segments ts cs
 of_segments (other p ∷ ts) (c ∷ cs) = of_segments ts cs
 
--- the lowest context that is free when the first of them is made; messageContexts: none
+-- the lowest context that is free when the first of them is made; message_contexts: none
 abbrev pub context_at_first : List MailCall → ℕ
 context_at_first [] = message_contexts
 context_at_first (c ∷ cs) = free_message (state_on c.lent)

@@ -8,7 +8,7 @@ use Rattle.rules.specs.Messages.{form_rows}
 use Rattle.contexts.specs.State.{State, message_in, message_context, free_message, message_contexts}
 use Rattle.marks.specs.Marks.{marked}
 
--- the open context of a multi-segment message, messageContexts where it has none; a single-segment message is never compared with open ones
+-- the open context of a multi-segment message, message_contexts where it has none; a single-segment message is never compared with open ones
 unfoldable pub message_found : State → MessageSegment → ℕ
 message_found s m = cond (is_single m) message_contexts (message_context s m.source m.letter m.mbox)
 

@@ -4,18 +4,17 @@
 
 ghost use Rattle.std.specs.Prelude.{◌+◌, ◌<◌, ◌≤◌, length};
 
-use libc::STDIN_FILENO;
-use printing::{print_number, print_text};
+use printing::{print_number, print_text, read_full};
 
-fn print_one(log: &[u8]) {
-    print_text(b"log ");
-    print_number(log.len());
-    print_text(b"\n");
-    log_print::print_log(log);
+fn print_one(rt: &(impl Print + Eprint), log: &[u8]) {
+    print_text(rt, b"log ");
+    print_number(rt, log.len());
+    print_text(rt, b"\n");
+    log_print::print_log(rt, log);
 }
 
 // Prints the log whose length stands at that place, and answers the place behind it. A log that is cut is not printed.
-fn print_at(bundle: &[u8], at: usize) -> usize
+fn print_at(rt: &(impl Print + Eprint), bundle: &[u8], at: usize) -> usize
     requires { at + 4 ≤ length bundle.now }
     ensures { (at < result) × (result ≤ length bundle.now) }
 {
@@ -24,19 +23,19 @@ fn print_at(bundle: &[u8], at: usize) -> usize
     if bundle.len() - from < size {
         return bundle.len();
     }
-    print_one(&bundle[from..from + size]);
+    print_one(rt, &bundle[from..from + size]);
     from + size
 }
 
-fn print_bundle(bundle: &[u8]) {
+fn print_bundle(rt: &(impl Print + Eprint), bundle: &[u8]) {
     let mut at = 0;
     while at + 4 <= bundle.len() {
-        at = print_at(bundle, at);
+        at = print_at(rt, bundle, at);
     }
 }
 
-fn main() {
+fn main(rt: HostRuntime) {
     let mut bundle = [0u8; 524288];
-    let n = io::read_full(STDIN_FILENO, &mut bundle);
-    print_bundle(&bundle[..n]);
+    let n = read_full(&mut rt.stdin(), &mut bundle);
+    print_bundle(&rt, &bundle[..n]);
 }

@@ -5,22 +5,22 @@
 ghost use Rattle.std.specs.Prelude.{◌+◌, ◌<◌, ◌≤◌, length};
 
 use endpoint::Setup;
-use libc::STDIN_FILENO;
 use log_records::Next;
-use printing::{print_bytes, print_number, print_text};
+use printing::{print_bytes, print_number, print_text, read_full};
 
 // With IDs of 8 bits every response has five bytes, and none begins with 0.
-fn print_response(response: &[u8; 5]) {
+fn print_response(rt: &impl Print, response: &[u8; 5]) {
     if response[0] == 0 {
-        print_text(b"none\n");
+        print_text(rt, b"none\n");
         return;
     }
-    print_bytes(b"", response);
-    print_text(b"\n");
+    print_bytes(rt, b"", response);
+    print_text(rt, b"\n");
 }
 
 // Reads one packet, with a response buffer of zeros that has room for a response and no more.
 fn print_packet(
+    rt: &impl Print,
     state: &mut [usize],
     stream_memory: &mut [u8],
     message_memory: &mut [u8],
@@ -30,13 +30,14 @@ fn print_packet(
     let mut line = [0u8; 128];
     let reading = endpoint::read(state, stream_memory, message_memory, &mut response, packet);
     let size = log_lines::write_line(&mut line, reading);
-    print_text(&line[..size]);
-    print_response(&response);
+    print_text(rt, &line[..size]);
+    print_response(rt, &response);
 }
 
 // Reads the packet of the record at that place, and answers the place behind it. Where there is none, at the end or in a bad log, it answers
 // the log's length.
 fn print_record(
+    rt: &impl Print,
     state: &mut [usize],
     stream_memory: &mut [u8],
     message_memory: &mut [u8],
@@ -54,12 +55,13 @@ fn print_record(
     else {
         return log.len();
     };
-    print_packet(state, stream_memory, message_memory, &log[from..next]);
+    print_packet(rt, state, stream_memory, message_memory, &log[from..next]);
     next
 }
 
 // Reads the records of a log, up to the first that is bad.
 fn print_records(
+    rt: &impl Print,
     state: &mut [usize],
     stream_memory: &mut [u8],
     message_memory: &mut [u8],
@@ -67,12 +69,12 @@ fn print_records(
 ) {
     let mut at = 0;
     while at < log.len() {
-        at = print_record(state, stream_memory, message_memory, log, at);
+        at = print_record(rt, state, stream_memory, message_memory, log, at);
     }
 }
 
 // A log, read by an endpoint of its own.
-fn print_log(log: &[u8]) {
+fn print_log(rt: &impl Print, log: &[u8]) {
     let mut state = [0usize; contexts::WORDS];
     let mut streams = [0u8; 32768];
     let mut messages = [0u8; 32768];
@@ -83,14 +85,14 @@ fn print_log(log: &[u8]) {
         narrow: 1,
     };
     endpoint::setup(&mut state, settings);
-    print_text(b"log ");
-    print_number(log.len());
-    print_text(b"\n");
-    print_records(&mut state, &mut streams, &mut messages, log);
+    print_text(rt, b"log ");
+    print_number(rt, log.len());
+    print_text(rt, b"\n");
+    print_records(rt, &mut state, &mut streams, &mut messages, log);
 }
 
 // Prints the log whose length stands at that place, and answers the place behind it. A log that is cut is not printed.
-fn print_at(bundle: &[u8], at: usize) -> usize
+fn print_at(rt: &impl Print, bundle: &[u8], at: usize) -> usize
     requires { at + 4 ≤ length bundle.now }
     ensures { (at < result) × (result ≤ length bundle.now) }
 {
@@ -99,19 +101,19 @@ fn print_at(bundle: &[u8], at: usize) -> usize
     if bundle.len() - from < size {
         return bundle.len();
     }
-    print_log(&bundle[from..from + size]);
+    print_log(rt, &bundle[from..from + size]);
     from + size
 }
 
-fn print_bundle(bundle: &[u8]) {
+fn print_bundle(rt: &impl Print, bundle: &[u8]) {
     let mut at = 0;
     while at + 4 <= bundle.len() {
-        at = print_at(bundle, at);
+        at = print_at(rt, bundle, at);
     }
 }
 
-fn main() {
+fn main(rt: HostRuntime) {
     let mut bundle = [0u8; 262144];
-    let n = io::read_full(STDIN_FILENO, &mut bundle);
-    print_bundle(&bundle[..n]);
+    let n = read_full(&mut rt.stdin(), &mut bundle);
+    print_bundle(&rt, &bundle[..n]);
 }

@@ -1,32 +1,17 @@
 -- What a reader has found: a record's packet lies in the log, and behind a record less of the log is left.
 use Prim.Native.Nat.{ℕ, ◌-◌, ◌≤◌, ◌<◌}
-use mathlib.Core.Path.{◌≡◌, refl, sym, subst}
-use mathlib.Core.List.{List, [], ◌∷◌}
+use mathlib.Core.Path.{◌≡◌, sym, ap, ◌∙◌}
+use mathlib.Core.List.{List}
 use mathlib.Core.Bool.{true, false, false≢true}
-use mathlib.Core.Logic.{inl, inr}
 use native.Mathlib.Omega.{arith}
 use lib.ListN.{length}
-use types.Run.{OneOf}
-use denote.Enum.Declared.{tag_of}
-use Rattle.log_records.specs.contracts.Next.{the_type}
 use Rattle.log_records.specs.declared.Next.{Next}
 use Rattle.log_records.specs.declared.Next.TheVariants.{Record, End, Bad}
 use Rattle.log_records.specs.Records.{next_record}
 use Rattle.log_records.proofs.Found.{inside}
-use Rattle.log_reader.specs.Reader.{place_behind}
+use Rattle.log_reader.specs.declared.LogReader.{LogReader}
+use Rattle.log_reader.specs.Reader.{place_behind, NextPromise}
 use Rattle.outside_responses.specs.Found.{LiesIn, is_record}
-
-pub lies : (log : List ℕ) (x : Next) (from size next : ℕ) → x ≡ Record from size next → LiesIn log x → (from ≤ next) × (next ≤ length log)
-lies log x from size next e h = subst (λ (y : Next). LiesIn log y) e h
-
-pub record_is : (x : Next) (from size next : ℕ) → x ≡ Record from size next → true ≡ is_record x
-record_is x from size next e = subst (λ (y : Next). true ≡ is_record y) (sym e) refl
-
-pub none_is : (x : Next) → OneOf (1 ∷ 2 ∷ []) (tag_of the_type x) → false ≡ is_record x
-none_is (Record f s next) (inl t) = absurd (omega (arith, t))
-none_is (Record f s next) (inr t) = absurd (omega (arith, t))
-none_is End t = refl
-none_is Bad t = refl
 
 pub found-lies : (log : List ℕ) (at : ℕ) (x : Next) → next_record log at ≡ x → LiesIn log x
 found-lies log at (Record from size next) e = let i = inside log at from size next e in (omega (arith, i.behind), i.within)
@@ -37,3 +22,13 @@ pub falls : (log : List ℕ) (at : ℕ) (x : Next) → next_record log at ≡ x 
 falls log at (Record from size next) e r = let i = inside log at from size next e in omega (arith, i.onward, i.within)
 falls log at End e r = absurd (false≢true r)
 falls log at Bad e r = absurd (false≢true r)
+
+-- a reader of the log that has moved past a record
+pub found_by_reader : (log : List ℕ) (reader after : LogReader) (x : Next) → reader.log.now ≡ log → NextPromise reader x after → next_record log reader.at ≡ x
+found_by_reader log reader after x same p = rw same at (sym p.0)
+
+pub moves : (log : List ℕ) (reader after : LogReader) (x : Next) → reader.log.now ≡ log → NextPromise reader x after → is_record x ≡ true
+    → length log - after.at < length log - reader.at
+moves log reader after x same p r =
+    let behind : after.at ≡ place_behind x reader.at = ap (λ (q : LogReader). q.at) p.1 ∙ ap (λ (y : Next). place_behind y reader.at) (sym p.0) in
+    rw behind (falls log reader.at x (found_by_reader log reader after x same p) r)

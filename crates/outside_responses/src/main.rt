@@ -5,22 +5,22 @@ ghost use Rattle.std.specs.Prelude.{◌≡◌};
 ghost use Rattle.outside_responses.specs.Found.{LiesIn, is_record};
 
 use endpoint::Setup;
-use libc::STDIN_FILENO;
 use log_records::Next;
-use printing::{print_bytes, print_text};
+use printing::{print_bytes, print_text, read_full};
 
 // With IDs of 16 bits every response has seven bytes, and none begins with 0.
-fn print_response(response: &[u8; 7]) {
+fn print_response(rt: &impl Print, response: &[u8; 7]) {
     if response[0] == 0 {
-        print_text(b"none\n");
+        print_text(rt, b"none\n");
         return;
     }
-    print_bytes(b"", response);
-    print_text(b"\n");
+    print_bytes(rt, b"", response);
+    print_text(rt, b"\n");
 }
 
 // Reads one packet, with a response buffer of zeros.
 fn print_packet(
+    rt: &impl Print,
     state: &mut [usize],
     stream_memory: &mut [u8],
     message_memory: &mut [u8],
@@ -30,12 +30,13 @@ fn print_packet(
     let mut line = [0u8; 128];
     let reading = endpoint::read(state, stream_memory, message_memory, &mut response, packet);
     let size = log_lines::write_line(&mut line, reading);
-    print_text(&line[..size]);
-    print_response(&response);
+    print_text(rt, &line[..size]);
+    print_response(rt, &response);
 }
 
 // Reads the packet that was found in the log, if one was. Answers whether one was.
 fn print_found<'a, 'b>(
+    rt: &impl Print,
     state: &'a mut [usize],
     stream_memory: &'a mut [u8],
     message_memory: &'a mut [u8],
@@ -53,12 +54,13 @@ fn print_found<'a, 'b>(
     else {
         return false;
     };
-    print_packet(state, stream_memory, message_memory, &log[from..next]);
+    print_packet(rt, state, stream_memory, message_memory, &log[from..next]);
     true
 }
 
 // Reads the records of a log, by a reader that holds it.
 fn print_packets(
+    rt: &impl Print,
     state: &mut [usize],
     stream_memory: &mut [u8],
     message_memory: &mut [u8],
@@ -67,13 +69,13 @@ fn print_packets(
     let mut reader = log_reader::new(log);
     loop {
         let found = log_reader::next(&mut reader);
-        if !print_found(state, stream_memory, message_memory, log, found) {
+        if !print_found(rt, state, stream_memory, message_memory, log, found) {
             return;
         }
     }
 }
 
-fn main() {
+fn main(rt: HostRuntime) {
     let mut state = [0usize; contexts::WORDS];
     let mut streams = [0u8; 32768];
     let mut messages = [0u8; 32768];
@@ -87,6 +89,6 @@ fn main() {
             narrow: 0,
         },
     );
-    let n = io::read_full(STDIN_FILENO, &mut log);
-    print_packets(&mut state, &mut streams, &mut messages, &log[..n]);
+    let n = read_full(&mut rt.stdin(), &mut log);
+    print_packets(&rt, &mut state, &mut streams, &mut messages, &log[..n]);
 }

@@ -5,8 +5,7 @@ ghost use Rattle.std.specs.Prelude.{◌≡◌, length};
 
 use answers::Written;
 use cutting::Heading;
-use libc::STDIN_FILENO;
-use printing::{print_bytes, print_number, print_text};
+use printing::{print_bytes, print_number, print_text, read_full};
 
 // Byte i of a PDU.
 fn pdu_byte(seed: u8, i: usize) -> u8 {
@@ -23,41 +22,55 @@ fn fill(pdu: &mut [u8], seed: u8) {
 }
 
 // What the writer does for one segment, with an output of so many bytes.
-fn print_segment(heading: Heading, mtu: usize, pdu: &[u8], number: usize, out: &mut [u8]) {
+fn print_segment(
+    rt: &impl Print,
+    heading: Heading,
+    mtu: usize,
+    pdu: &[u8],
+    number: usize,
+    out: &mut [u8],
+) {
     match segments::write_segment(out, heading, mtu, pdu, number) {
         Written::Length(size) => {
-            print_bytes(b"", &out[..size]);
+            print_bytes(rt, b"", &out[..size]);
         }
         Written::Refused(n) => {
-            print_text(b"refused ");
-            print_number(n);
+            print_text(rt, b"refused ");
+            print_number(rt, n);
         }
     }
-    print_text(b"\n");
+    print_text(rt, b"\n");
 }
 
 // Every segment of a PDU, and one number past the last.
-fn print_segments(heading: Heading, mtu: usize, pdu: &[u8], out: &mut [u8]) {
+fn print_segments(rt: &impl Print, heading: Heading, mtu: usize, pdu: &[u8], out: &mut [u8]) {
     let count = segments::segment_count(mtu, pdu.len());
-    print_text(b"case ");
-    print_number(count);
-    print_text(b"\n");
+    print_text(rt, b"case ");
+    print_number(rt, count);
+    print_text(rt, b"\n");
     let mut number = 0;
     while number < count {
-        print_segment(heading, mtu, pdu, number, out);
+        print_segment(rt, heading, mtu, pdu, number, out);
         number += 1;
     }
-    print_segment(heading, mtu, pdu, count, out);
+    print_segment(rt, heading, mtu, pdu, count, out);
 }
 
 // The segments of the PDU of that seed.
-fn print_pdu(heading: Heading, mtu: usize, seed: u8, pdu: &mut [u8], out: &mut [u8]) {
+fn print_pdu(
+    rt: &impl Print,
+    heading: Heading,
+    mtu: usize,
+    seed: u8,
+    pdu: &mut [u8],
+    out: &mut [u8],
+) {
     fill(pdu, seed);
-    print_segments(heading, mtu, pdu, out);
+    print_segments(rt, heading, mtu, pdu, out);
 }
 
 // mtu 4, priority 1, destination 2, source 2, cos 1, streamID 2, length 4, seed 1, output's length 3, width 1: 0 is 16 bits, else 8.
-fn print_case(case: &[u8])
+fn print_case(rt: &impl Print, case: &[u8])
     requires { length case.now ≡ 21 }
 {
     let mut pdu = [0u8; 65537];
@@ -79,6 +92,7 @@ fn print_case(case: &[u8])
         narrow: lists::wide(case[20]),
     };
     print_pdu(
+        rt,
         heading,
         lists::long_at(case, 0),
         case[16],
@@ -87,16 +101,16 @@ fn print_case(case: &[u8])
     );
 }
 
-fn print_cases(cases: &[u8]) {
+fn print_cases(rt: &impl Print, cases: &[u8]) {
     let mut at = 0;
     while at + 21 <= cases.len() {
-        print_case(&cases[at..at + 21]);
+        print_case(rt, &cases[at..at + 21]);
         at += 21;
     }
 }
 
-fn main() {
+fn main(rt: HostRuntime) {
     let mut cases = [0u8; 32768];
-    let n = io::read_full(STDIN_FILENO, &mut cases);
-    print_cases(&cases[..n]);
+    let n = read_full(&mut rt.stdin(), &mut cases);
+    print_cases(&rt, &cases[..n]);
 }

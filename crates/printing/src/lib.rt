@@ -1,44 +1,75 @@
-// Text, numbers and bytes to standard output, for the programs. Each function answers how much it hands over, and only that is promised:
-// `io` says nothing of what is written. The vectors show it.
+// Text, numbers and bytes to standard output, and standard input into a buffer, for the programs. Each function that prints answers how much
+// it hands over, and only that is promised: std says nothing of what is written. The vectors show it. A write that fails is not told.
 #![tactic(auto)]
 
-ghost use Rattle.std.specs.Prelude.{◌≡◌, length};
-ghost use Rattle.io.specs.Digits.{IsDigitCount};
+ghost use Rattle.std.specs.Prelude.{◌≡◌, ◌+◌, ◌≤◌, length};
+ghost use Rattle.printing.specs.Digits.{IsDigitCount};
 
-use libc::STDOUT_FILENO;
+use std::io::Read;
 
 // Text as it stands. Answers its length.
-pub fn print_text(text: &[u8]) -> usize
+pub fn print_text(rt: &impl Print, text: &[u8]) -> usize
     ensures { result ≡ length text.now }
 {
-    io::write_all(STDOUT_FILENO, text);
+    let _ = rt.write_all(text);
     text.len()
 }
 
-// A number in decimal, without zeros in front. Answers how many digits that are.
-pub fn print_number(n: usize) -> usize
-    ensures { IsDigitCount 10 1 n result }
+// How many digits a number has in decimal, without zeros in front.
+fn digit_count(n: usize) -> usize
+    ensures count { IsDigitCount n result }
+    ensures few { result ≤ n + 1 }
 {
-    let mut digits = [0u8; 20];
-    let count = io::decimal(n as u64, &mut digits);
-    print_text(&digits[..count]);
-    count
+    if n < 10 {
+        return 1;
+    }
+    digit_count(n / 10) + 1
+}
+
+// A number in decimal, without zeros in front. Answers how many digits that are.
+pub fn print_number(rt: &impl Print, n: usize) -> usize
+    ensures { IsDigitCount n result }
+{
+    let _ = rt.print(n);
+    digit_count(n)
 }
 
 // A byte as two hexadecimal digits.
-fn print_byte(b: u8) {
-    io::print_hex(STDOUT_FILENO, b as u64, 2);
+fn print_byte(rt: &impl Print, b: u8) {
+    let _ = print!(rt; "{b:02x}");
 }
 
 // Bytes as pairs of hexadecimal digits, each pair behind the same text. Answers how many bytes it has come past: all.
-pub fn print_bytes(before: &[u8], bytes: &[u8]) -> usize
+pub fn print_bytes(rt: &impl Print, before: &[u8], bytes: &[u8]) -> usize
     ensures { result ≡ length bytes.now }
 {
     let mut i = 0;
     while i < bytes.len() {
-        print_text(before);
-        print_byte(bytes[i]);
+        print_text(rt, before);
+        print_byte(rt, bytes[i]);
         i += 1;
     }
     i
+}
+
+// Reads until the buffer is full, the input ends or a read fails. Answers how many bytes stand in the buffer's front then.
+pub fn read_full(input: &mut impl Read, buf: &mut [u8]) -> usize
+    ensures { result ≤ length buf.new }
+{
+    let mut count = 0;
+    while count < buf.len() {
+        let came = read_some(input, &mut buf[count..]);
+        if came == 0 {
+            break;
+        }
+        count += came;
+    }
+    count
+}
+
+// One read. No bytes where the input ends, and where the read fails.
+fn read_some(input: &mut impl Read, part: &mut [u8]) -> usize
+    ensures { result ≤ length part.new }
+{
+    input.read(part).unwrap_or(0)
 }

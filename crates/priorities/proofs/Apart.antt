@@ -39,6 +39,7 @@ never_shared a b two d n lt mine yours =
 
 -- what holds of each holds of one of them
 of_one : (P : List ℕ → Type 0) (p : List ℕ) (ps : List (List ℕ)) → Each P ps → Among p ps → P p
+of_one P p [] e a = elim a [ ]
 of_one P p (x ∷ ps) e first = e.0
 of_one P p (x ∷ ps) e (later a) = of_one P p ps e.1 a
 

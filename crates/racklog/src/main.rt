@@ -1,9 +1,9 @@
 // The log program: a log on standard input, its lines on standard output. What fails is said on standard error.
 #![tactic(auto)]
 
-ghost use Rattle.io.specs.Counts.{IsPrefixLen};
+ghost use Rattle.racklog.specs.Counts.{IsPrefixLen};
 
-use libc::{STDERR_FILENO, STDIN_FILENO};
+use std::io::Read;
 
 // How many bytes were read, and whether every read went well.
 #[derive(Drop)]
@@ -13,23 +13,25 @@ struct Input {
 }
 
 // One read. No bytes and well is the end of the input.
-fn read_some(part: &mut [u8]) -> Input
+fn read_some(input: &mut impl Read, part: &mut [u8]) -> Input
     ensures { IsPrefixLen result.count part.new }
 {
-    let got = libc::read(STDIN_FILENO, part);
-    Input {
-        count: io::count(got, part),
-        well: got >= 0,
+    match input.read(part) {
+        Ok(count) => Input { count, well: true },
+        Err(_) => Input {
+            count: 0,
+            well: false,
+        },
     }
 }
 
 // Reads until the input ends, the buffer is full or a read fails. A read that fails is no end of the input.
-fn read_log(log: &mut [u8]) -> Input
+fn read_log(input: &mut impl Read, log: &mut [u8]) -> Input
     ensures { IsPrefixLen result.count log.new }
 {
     let mut count = 0;
     while count < log.len() {
-        let more = read_some(&mut log[count..]);
+        let more = read_some(input, &mut log[count..]);
         let came = more.count;
         if came == 0 {
             return Input {
@@ -42,14 +44,14 @@ fn read_log(log: &mut [u8]) -> Input
     Input { count, well: true }
 }
 
-fn main() {
+fn main(rt: HostRuntime) {
     // one byte more than the longest log, so that a longer one shows
     let mut log = [0u8; 65537];
-    let input = read_log(&mut log);
+    let input = read_log(&mut rt.stdin(), &mut log);
     if !input.well {
-        io::write_all(STDERR_FILENO, b"the log cannot be read\n");
+        let _ = rt.eprintln("the log cannot be read");
         return;
     }
     let n = input.count;
-    log_print::print_log(&log[..n]);
+    log_print::print_log(&rt, &log[..n]);
 }

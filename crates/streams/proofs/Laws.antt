@@ -29,7 +29,7 @@ use Rattle.streams.specs.Joining.{accepted, refused_closing, refused_staying, st
 use Rattle.streams.specs.Inside.{Passed}
 use Rattle.rules.specs.Segments.{malformed, wrong_form, wrong_o, wrong_length, wrong_size}
 
--- the context found is one, or streamContexts
+-- the context found is one, or stream_contexts
 pub found_le : (s : State) (g : Segment) → length s.streams ≡ stream_contexts → found_for s g ≤ stream_contexts
 unfolding flow_context
 found_le s g z = rw (← z) (first_le _ s.streams)

@@ -6,7 +6,7 @@ use Rattle.sizes.specs.Sizes.{data_length}
 use Rattle.rules.specs.Segments.{malformed, wrong_size, wrong_length}
 use Rattle.contexts.specs.State.{State, stream_in, flow_context, free_stream, stream_contexts}
 
--- the flow's open context, streamContexts where it has none, and whether it has one
+-- the flow's open context, stream_contexts where it has none, and whether it has one
 abbrev pub found_for : State → Segment → ℕ
 found_for s g = flow_context s g.flow
 

@@ -5,16 +5,16 @@ use answers::Answer;
 use endpoint::Setup;
 use printing::{print_bytes, print_number, print_text};
 
-fn number(n: usize) {
-    print_text(b" ");
-    print_number(n);
+fn number(rt: &impl Print, n: usize) {
+    print_text(rt, b" ");
+    print_number(rt, n);
 }
 
 // One line for an answer.
-fn line(answer: Answer) {
+fn line(rt: &impl Print, answer: Answer) {
     match answer {
         Answer::Held => {
-            print_text(b"held");
+            print_text(rt, b"held");
         }
         Answer::Delivered {
             context: _,
@@ -22,11 +22,11 @@ fn line(answer: Answer) {
             stream,
             length,
         } => {
-            print_text(b"pdu");
-            number(flow.source);
-            number(flow.cos);
-            number(stream);
-            number(length);
+            print_text(rt, b"pdu");
+            number(rt, flow.source);
+            number(rt, flow.cos);
+            number(rt, stream);
+            number(rt, length);
         }
         Answer::Message {
             context: _,
@@ -35,21 +35,21 @@ fn line(answer: Answer) {
             mailbox,
             length,
         } => {
-            print_text(b"msg");
-            number(source);
-            number(letter);
-            number(mailbox);
-            number(length);
+            print_text(rt, b"msg");
+            number(rt, source);
+            number(rt, letter);
+            number(rt, mailbox);
+            number(rt, length);
         }
         Answer::Refused(n) => {
-            print_text(b"refused");
-            number(n);
+            print_text(rt, b"refused");
+            number(rt, n);
         }
     }
-    print_text(b"\n");
+    print_text(rt, b"\n");
 }
 
-fn main() {
+fn main(rt: HostRuntime) {
     let mut state = [0usize; contexts::WORDS];
     let mut streams = [0u8; 16384];
     let mut messages = [0u8; 32768];
@@ -67,10 +67,10 @@ fn main() {
     let pdu = b"\x19\x00\x01\x00\x02\x05\xc1\x00\x07\xaa\xbb\xcc\x00";
     let read = endpoint::read(&mut state, &mut streams, &mut messages, &mut response, pdu);
     let answer = read.answer;
-    line(answer);
-    print_text(b"its bytes:");
-    print_bytes(b" ", endpoint::stream_room(&state, &streams, 0, 3));
-    print_text(b"\n");
+    line(&rt, answer);
+    print_text(&rt, b"its bytes:");
+    print_bytes(&rt, b" ", endpoint::stream_room(&state, &streams, 0, 3));
+    print_text(&rt, b"\n");
 
     let message = b"\x1b\x00\x01\x00\x02\x09\x60\x11\x12\x13\x14\x15\x16\x17\x18";
     let read = endpoint::read(
@@ -81,8 +81,8 @@ fn main() {
         message,
     );
     let answer = read.answer;
-    line(answer);
-    print_text(b"its response:");
-    print_bytes(b" ", &response);
-    print_text(b"\n");
+    line(&rt, answer);
+    print_text(&rt, b"its response:");
+    print_bytes(&rt, b" ", &response);
+    print_text(&rt, b"\n");
 }

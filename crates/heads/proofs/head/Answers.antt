@@ -1,0 +1,14 @@
+-- `heads::head` meets its contract: the bytes of an ID are 2 or 1.
+use borrow.Author.Tests.{eq-eqb, ne_eqb}
+use Rattle.wire.specs.Packet.{id_bytes}
+use Rattle.heads.proofs.head.Goals as goal
+
+-- 16 bits
+pub returns-then-narrow-eq0 : goal.returns-then-narrow-eq0
+unfolding id_bytes
+returns-then-narrow-eq0 c = simp (eq-eqb _ _ c.if-narrow-eq0.true, ← c.head_at.ensures)
+
+-- 8 bits
+pub returns : goal.returns
+unfolding id_bytes
+returns c = simp (ne_eqb _ _ c.if-narrow-eq0.false, ← c.head_at-2.ensures)

@@ -1,0 +1,17 @@
+-- `log_lines::write_line` meets its contract.
+use Rattle.answers.specs.Answers.{said}
+use Rattle.log_lines.specs.Lines.{line_of}
+use Rattle.log_lines.proofs.Puts.{no_room}
+use Rattle.log_lines.proofs.Lines.{line-is}
+use Rattle.log_lines.proofs.write_line.Goals as goal
+
+-- a buffer too short for a line
+pub returns-then-out-lt-LINE : goal.returns-then-out-lt-LINE
+returns-then-out-lt-LINE c =
+    let reading = c.args.reading in
+    no_room (line_of (said reading.answer) reading.dropped) c.if-out-lt-LINE.true
+
+-- the line
+pub returns : goal.returns
+returns c =
+    line-is _ _ c.if-out-lt-LINE.false c.put_answer-behind.ensures c.put_dropped-last.ensures c.put_text.ensures
