@@ -73,7 +73,15 @@ pub extern "C" fn kaiverohm_read_burst(
     ensures { BurstPromise pause (desk state.old stream_memory.old message_memory.old responses.old) reports.old
         burst.now result (desk state.new stream_memory.new message_memory.new responses.new) reports.new }
 {
-    kaiverohm::kaiverohm_read_burst(state, stream_memory, message_memory, responses, reports, burst, pause)
+    kaiverohm::kaiverohm_read_burst(
+        state,
+        stream_memory,
+        message_memory,
+        responses,
+        reports,
+        burst,
+        pause,
+    )
 }
 
 // What stream context n holds.

@@ -1,5 +1,4 @@
 -- `choosing::status_of` meets its contract: 25 is answered by RETRY, any other by ERROR.
-use Rattle.std.proofs.Common.{rules}
 use borrow.Author.Tests.{eq-eqb, ne_eqb}
 use Rattle.messages.specs.Inside.{refusal_status}
 use Rattle.choosing.proofs.status_of.Goals as goal

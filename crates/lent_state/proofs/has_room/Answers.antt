@@ -1,11 +1,6 @@
 -- `lent_state::has_room` meets its contract: each return follows from the tests on the way.
-use native.Mathlib.Omega.{arith}
-use Rattle.lent_state.proofs.Lent.{other_size, past_last_lem, by_length, rooms_small}
+use Rattle.lent_state.proofs.Lent.{other_size, past_last_lem, by_length}
 use Rattle.lent_state.proofs.has_room.Goals as goal
-
--- the memory is small
-pub overflow_mul-rooms : goal.overflow_mul-rooms
-overflow_mul-rooms c = omega (arith, rooms_small _ _ c.requires.0 c.requires.1)
 
 -- a memory of another size
 pub returns-then-size-rooms : goal.returns-then-size-rooms

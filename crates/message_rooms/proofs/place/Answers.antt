@@ -1,5 +1,5 @@
 -- `message_rooms::place` meets its contract: the store ends inside the room, and a mark that was not set leaves room for it.
-use Rattle.std.proofs.Common.{ℕ, ◌+◌, ◌<◌, ◌≤◌, ◌^◌, sym, subst, arith, rules, length-take, length-drop}
+use Rattle.std.proofs.Common.{ℕ, ◌+◌, ◌<◌, ◌≤◌, ◌^◌, sym, subst, arith, length-take, length-drop}
 use Rattle.sizes.proofs.Laws.{bytes_le}
 use Rattle.marks.proofs.Marks.{room_for_mark}
 use Rattle.contexts.specs.Words.{state_of}

@@ -1,5 +1,5 @@
 -- `message_step::take` meets its contract: rows 20 to 22, then by the kind of message: alone, or rows 23 to 25 and the context that they leave.
-use Rattle.std.proofs.Common.{◌≡◌, sym, ◌∙◌, arith, rules}
+use Rattle.std.proofs.Common.{◌≡◌, sym, ◌∙◌, rules}
 use borrow.Author.Tests.{eq-eqb, ne_eqb}
 use Rattle.rules.specs.Messages.{judged}
 use Rattle.rules.proofs.Laws.{sound}

@@ -1,5 +1,5 @@
 -- `message_step::take_alone` meets its contract: the lowest free context, or none is free.
-use Rattle.std.proofs.Common.{ℕ, refl, ap, ◌∙◌, arith, rules, length-take, length-drop}
+use Rattle.std.proofs.Common.{refl, ap, ◌∙◌, arith, rules, length-take, length-drop}
 use Rattle.sizes.proofs.Laws.{bytes_le}
 use Rattle.contexts.specs.Words.{state_of}
 use Rattle.message_rooms.proofs.Laws.{can_reply}

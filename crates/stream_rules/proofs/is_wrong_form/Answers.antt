@@ -1,5 +1,4 @@
 -- `stream_rules::is_wrong_form` meets its contract: each return follows from the test on the way.
-use borrow.Author.Rules.{rules}
 use Rattle.rules.proofs.Segments.{no_data, by_four}
 use Rattle.stream_rules.proofs.is_wrong_form.Goals as goal
 

@@ -1,0 +1,33 @@
+-- `c_runs::read_burst` meets its contract: rows 19 and 12, then the run.
+use Rattle.std.proofs.Common.{◌≡◌, sym, subst, ◌∙◌}
+use Rattle.reading.specs.Desk.{Desk, desk}
+use Rattle.reading.specs.Table.{lent_refusal}
+use Rattle.reading.proofs.Lent.{lent-ready}
+use Rattle.c_bursts.specs.Bursts.{run}
+use Rattle.c_bursts.specs.Inside.{Room}
+use Rattle.c_bursts.proofs.Tests.{refuses, accepted, has_room}
+use Rattle.c_runs.proofs.read_burst.Goals as goal
+use Rattle.c_runs.proofs.read_burst.Goals.{Start}
+
+-- the desk as it is lent
+abbrev lent_to : Start → Desk
+lent_to s = desk s.args.state.now s.args.stream_memory.now s.args.message_memory.now s.args.responses.now
+
+-- 19 or 12
+pub returns-then-number-ne0 : goal.returns-then-number-ne0
+returns-then-number-ne0 c =
+    refuses _ (lent_to (goal.at.returns-then-number-ne0 c).Start) _ _ c.lent_refusal-number.result _ c.lent_refusal-number.ensures c.if-number-ne0.true
+    c.refused.ensures
+
+-- the run: nothing refuses it
+pub run_over-requires : goal.run_over-requires
+run_over-requires c =
+    let d = lent_to (goal.at.run_over-requires c).Start in
+    let passed : lent_refusal d ≡ 0 = sym c.lent_refusal-number.ensures ∙ c.if-number-ne0.false in
+    record { fit = (lent-ready d passed).fit; space = subst (Room (run d _ 0 0)) (sym c.room_for-room.ensures) (has_room d _) }
+
+pub returns : goal.returns
+returns c =
+    let d = lent_to (goal.at.returns c).Start in
+    let passed : lent_refusal d ≡ 0 = sym c.lent_refusal-number.ensures ∙ c.if-number-ne0.false in
+    accepted _ d _ _ _ _ passed c.room_for-room.ensures c.run_over.ensures
