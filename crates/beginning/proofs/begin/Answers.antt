@@ -6,10 +6,10 @@ use Rattle.streams.proofs.Laws.{start_fits, begin_own, begin_free, begin_none}
 use Rattle.beginning.proofs.begin.Goals as goal
 
 -- the flow's own
-pub begin_room-requires-clause-fields : goal.begin_room-requires-clause-fields
-begin_room-requires-clause-fields c =
+pub begin_room-requires : goal.begin_room-requires
+begin_room-requires c =
     let begins = c.requires.fields.1 in
-    (c.requires.fields.0, begins.start, start_fits _ _ c.requires.ready.good begins.passed c.if-found-lt-STREAM_CONTEXTS.true)
+    record { ready = c.requires.ready; fields = (c.requires.fields.0, begins.start, start_fits _ _ c.requires.ready.good begins.passed c.if-found-lt-STREAM_CONTEXTS.true) }
 
 pub returns-then-found-lt-STREAM_CONTEXTS : goal.returns-then-found-lt-STREAM_CONTEXTS
 returns-then-found-lt-STREAM_CONTEXTS c =
@@ -18,10 +18,10 @@ returns-then-found-lt-STREAM_CONTEXTS c =
     (begin_own _ _ _ _ begins.start begins.passed c.requires.ready.good c.if-found-lt-STREAM_CONTEXTS.true t.0, t.1)
 
 -- the lowest free one
-pub begin_room-requires-then-free-lt-STREAM_CONTEXTS-clause-fields : goal.begin_room-requires-then-free-lt-STREAM_CONTEXTS-clause-fields
-begin_room-requires-then-free-lt-STREAM_CONTEXTS-clause-fields c =
+pub begin_room-requires-then-free-lt-STREAM_CONTEXTS : goal.begin_room-requires-then-free-lt-STREAM_CONTEXTS
+begin_room-requires-then-free-lt-STREAM_CONTEXTS c =
     let begins = c.requires.fields.1 in
-    (c.requires.fields.0, begins.start, start_fits _ _ c.requires.ready.good begins.passed c.if-free-lt-STREAM_CONTEXTS.true)
+    record { ready = c.requires.ready; fields = (c.requires.fields.0, begins.start, start_fits _ _ c.requires.ready.good begins.passed c.if-free-lt-STREAM_CONTEXTS.true) }
 
 pub returns-then-free-lt-STREAM_CONTEXTS : goal.returns-then-free-lt-STREAM_CONTEXTS
 returns-then-free-lt-STREAM_CONTEXTS c =

@@ -22,33 +22,41 @@ returns-then-room-total c =
     )
 
 -- an end
-pub end-requires-clause-from_value : goal.end-requires-clause-from_value
-end-requires-clause-from_value c =
-    let fields = c.requires.fields.0 in (
-      fields.data_from_lem,
-      fields.sender,
-      record {
-        continues = c.requires.fields.1;
-        here = c.requires.fields.2;
-        so_far = c.held_of-held.ensures;
-        behind = rw (← c.room.ensures) c.if-room-total.false;
-        kind = ends_by _ _ fields.flag_bits c.bit.ensures c.if-bit.true;
-      },
-    )
+pub end-requires : goal.end-requires
+end-requires c =
+    let fields = c.requires.fields.0 in
+    record {
+      ready = c.requires.ready;
+      from_value = (
+        fields.data_from_lem,
+        fields.sender,
+        record {
+          continues = c.requires.fields.1;
+          here = c.requires.fields.2;
+          so_far = c.held_of-held.ensures;
+          behind = rw (← c.room.ensures) c.if-room-total.false;
+          kind = ends_by _ _ fields.flag_bits c.bit.ensures c.if-bit.true;
+        },
+      );
+    }
 
 -- a continuation
-pub hold_room-requires-clause-from_value : goal.hold_room-requires-clause-from_value
-hold_room-requires-clause-from_value c =
+pub hold_room-requires : goal.hold_room-requires
+hold_room-requires c =
     let fields = c.requires.fields.0 in
     let q = c.requires.fields.1.passed in
-    let here = c.requires.fields.2 in (
-      fields.data_from_lem,
-      record {
-        fits = record { context = here; size = q.size; within = q.within; behind = rw (← c.room.ensures) c.if-room-total.false };
-        own = own_flow _ (stream_for c.args.state.now c.args.packet.now) q.flow (sixteen c.args.state.now) here;
-        kind = ends_by _ _ fields.flag_bits c.bit.ensures c.if-bit.false;
-      },
-    )
+    let here = c.requires.fields.2 in
+    record {
+      ready = c.requires.ready;
+      from_value = (
+        fields.data_from_lem,
+        record {
+          fits = record { context = here; size = q.size; within = q.within; behind = rw (← c.room.ensures) c.if-room-total.false };
+          own = own_flow _ (stream_for c.args.state.now c.args.packet.now) q.flow (sixteen c.args.state.now) here;
+          kind = ends_by _ _ fields.flag_bits c.bit.ensures c.if-bit.false;
+        },
+      );
+    }
 
 pub returns : goal.returns
 returns c =

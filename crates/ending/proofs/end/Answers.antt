@@ -10,6 +10,11 @@ use Rattle.stream_rooms.specs.Inside.{stream_for}
 use Rattle.streams.proofs.Laws.{own_flow, end-from, length_by, go_differs, go_placed}
 use Rattle.ending.proofs.end.Goals as goal
 
+-- the total is at most R
+pub overflow_add-held : goal.overflow_add-held
+overflow_add-held c =
+    omega (arith, c.requires.from_value.2.behind, (good (state_of c.args.state.now) c.requires.ready.good).room)
+
 -- an end has its field, before its data
 pub overflow_sub-from : goal.overflow_sub-from
 overflow_sub-from c =
@@ -18,6 +23,10 @@ overflow_sub-from c =
 pub word_at-requires : goal.word_at-requires
 word_at-requires c =
     omega (arith, end-from _ _ c.requires.from_value.2.kind, c.requires.from_value.0, c.requires.ready.inside)
+
+pub refused_closing-requires : goal.refused_closing-requires
+refused_closing-requires c =
+    (c.requires.ready.whole, omega (arith, c.requires.from_value.2.here))
 
 -- 11: the total differs from the PDU length
 pub returns-then-held-count : goal.returns-then-held-count
@@ -31,18 +40,22 @@ returns-then-held-count c =
     )
 
 -- whole
-pub end_room-requires-clause-from_value : goal.end_room-requires-clause-from_value
-end_room-requires-clause-from_value c =
+pub end_room-requires : goal.end_room-requires
+end_room-requires c =
     let ends = c.requires.from_value.2 in
-    let q = ends.continues.passed in (
-      c.requires.from_value.0,
-      c.requires.from_value.1,
-      record {
-        fits = record { context = ends.here; size = q.size; within = q.within; behind = ends.behind };
-        own = own_flow _ (stream_for c.args.state.now c.args.packet.now) q.flow (sixteen c.args.state.now) ends.here;
-        kind = ends.kind;
-      },
-    )
+    let q = ends.continues.passed in
+    record {
+      ready = c.requires.ready;
+      from_value = (
+        c.requires.from_value.0,
+        c.requires.from_value.1,
+        record {
+          fits = record { context = ends.here; size = q.size; within = q.within; behind = ends.behind };
+          own = own_flow _ (stream_for c.args.state.now c.args.packet.now) q.flow (sixteen c.args.state.now) ends.here;
+          kind = ends.kind;
+        },
+      );
+    }
 
 pub returns : goal.returns
 returns c =

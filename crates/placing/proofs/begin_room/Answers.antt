@@ -5,6 +5,10 @@ use Rattle.answers.specs.Answers.{held}
 use Rattle.stream_rooms.proofs.Laws.{joined_told, ends_by, start-from, start_field, single, start}
 use Rattle.placing.proofs.begin_room.Goals as goal
 
+pub store_data-requires : goal.store_data-requires
+store_data-requires c =
+    record { ready = c.requires.ready; from_value = (c.requires.fields.0.data_from_lem, c.requires.fields.2) }
+
 -- a start or single has its streamID, before its data
 pub overflow_sub-from : goal.overflow_sub-from
 overflow_sub-from c =

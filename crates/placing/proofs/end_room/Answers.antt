@@ -3,6 +3,10 @@ use borrow.Author.Rules.{rules}
 use Rattle.stream_rooms.proofs.Laws.{ended, of_stream_lem}
 use Rattle.placing.proofs.end_room.Goals as goal
 
+pub store_data-requires : goal.store_data-requires
+store_data-requires c =
+    record { ready = c.requires.ready; from_value = (c.requires.from_value.0, c.requires.from_value.2.fits) }
+
 pub returns : goal.returns
 returns c =
     let goes = c.requires.from_value.2 in

@@ -7,6 +7,10 @@ use Rattle.refusal19.proofs.Good.{good}
 use Rattle.stream_rooms.proofs.Laws.{joined_told, kept}
 use Rattle.placing.proofs.hold_room.Goals as goal
 
+pub store_data-requires : goal.store_data-requires
+store_data-requires c =
+    record { ready = c.requires.ready; from_value = (c.requires.from_value.0, c.requires.from_value.1.fits) }
+
 pub returns : goal.returns
 returns c =
     let goes = c.requires.from_value.1 in
