@@ -5,8 +5,6 @@
 ghost use Rattle.std.specs.Prelude.{◌+◌, ◌<◌, ◌≤◌, length};
 
 use printing::{print_number, print_text, read_full};
-use std::alloc::AllocError;
-use std::io::Read;
 
 fn print_one(rt: &(impl Print + Eprint), log: &[u8]) {
     print_text(rt, b"log ");
@@ -36,15 +34,13 @@ fn print_bundle(rt: &(impl Print + Eprint), bundle: &[u8]) {
     }
 }
 
-// What comes in, as far as the buffer holds it. The buffer is lent: how long it is plays no part here.
-fn print_input(rt: &(impl Print + Eprint), input: &mut impl Read, bundle: &mut [u8]) {
-    let n = read_full(input, bundle);
-    print_bundle(rt, &bundle[..n]);
+// Room for the logs, all zeros.
+fn room() -> [u8; 524288] {
+    [0; 524288]
 }
 
-// The buffer is on the heap: a local array of this length is more than the prover follows.
-fn main(rt: HostRuntime) -> Result<(), AllocError> {
-    let mut bundle = vec![in rt.alloc(); 0u8; 524288]?;
-    print_input(&rt, &mut rt.stdin(), &mut bundle);
-    Ok(())
+fn main(rt: HostRuntime) {
+    let mut bundle = room();
+    let n = read_full(&mut rt.stdin(), &mut bundle);
+    print_bundle(&rt, &bundle[..n]);
 }
