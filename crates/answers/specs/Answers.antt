@@ -1,19 +1,15 @@
--- What the calls say, in document 01's words and numbers, and what each case of an answer's enum says. Each call has answers of its own,
+-- What the calls say, in document 01's words and numbers, and what each answer of the code says. Each call has answers of its own,
 -- so that a new answer of one call is no new case of another.
-use Rattle.std.specs.Prelude.{ℕ}
+use Rattle.std.specs.Prelude.{ℕ, ⊤, Result, Ok, Err, Option, Some, None}
+use Rattle.refusals.specs.declared.Refusal.{Refusal}
+use Rattle.refusals.specs.Numbers.{number_of}
 use Rattle.wire.specs.declared.Flow.{Flow}
 use Rattle.answers.specs.declared.Answer.{Answer}
 use Rattle.answers.specs.declared.Answer.TheVariants as answer
-use Rattle.answers.specs.declared.Begun.{Begun}
-use Rattle.answers.specs.declared.Begun.TheVariants as begun
 use Rattle.answers.specs.declared.Abandoned.{Abandoned}
 use Rattle.answers.specs.declared.Abandoned.TheVariants as abandoned
-use Rattle.answers.specs.declared.StreamAsked.{StreamAsked}
-use Rattle.answers.specs.declared.StreamAsked.TheVariants as stream
-use Rattle.answers.specs.declared.MessageAsked.{MessageAsked}
-use Rattle.answers.specs.declared.MessageAsked.TheVariants as mail
-use Rattle.answers.specs.declared.Written.{Written}
-use Rattle.answers.specs.declared.Written.TheVariants as writer
+use Rattle.answers.specs.declared.UnfinishedPdu.{UnfinishedPdu}
+use Rattle.answers.specs.declared.UnfinishedMessage.{UnfinishedMessage}
 
 -- ---- reading a packet
 
@@ -27,11 +23,11 @@ pub data Said : Type 0 where
   -- a refusal, by its number
   refused : (number : ℕ) → Said
 
-abbrev pub said : Answer → Said
-said answer.Held = held
-said (answer.Delivered context flow stream size) = delivered context flow stream size
-said (answer.Message context source letter mailbox size) = message context source letter mailbox size
-said (answer.Refused number) = refused number
+abbrev pub said : Result Answer Refusal → Said
+said (Ok answer.Held) = held
+said (Ok (answer.Delivered context flow stream size)) = delivered context flow stream size
+said (Ok (answer.Message context source letter mailbox size)) = message context source letter mailbox size
+said (Err refusal) = refused (number_of refusal)
 
 -- ---- setup
 
@@ -40,9 +36,9 @@ pub data SetupSaid : Type 0 where
   ready : SetupSaid
   setup_refused : (number : ℕ) → SetupSaid
 
-abbrev pub said_of_setup : Begun → SetupSaid
-said_of_setup begun.Ready = ready
-said_of_setup (begun.Refused number) = setup_refused number
+abbrev pub said_of_setup : Result ⊤ Refusal → SetupSaid
+said_of_setup (Ok _) = ready
+said_of_setup (Err refusal) = setup_refused (number_of refusal)
 
 -- ---- abandoning a context
 
@@ -53,10 +49,10 @@ pub data AbandonSaid : Type 0 where
   free : AbandonSaid
   abandon_refused : (number : ℕ) → AbandonSaid
 
-abbrev pub said_of_abandon : Abandoned → AbandonSaid
-said_of_abandon abandoned.Closed = closed
-said_of_abandon abandoned.WasFree = free
-said_of_abandon (abandoned.Refused number) = abandon_refused number
+abbrev pub said_of_abandon : Result Abandoned Refusal → AbandonSaid
+said_of_abandon (Ok abandoned.Closed) = closed
+said_of_abandon (Ok abandoned.WasFree) = free
+said_of_abandon (Err refusal) = abandon_refused (number_of refusal)
 
 -- ---- asking after a context
 
@@ -66,10 +62,10 @@ pub data StreamContextSaid : Type 0 where
   stream_is_free : StreamContextSaid
   stream_ask_refused : (number : ℕ) → StreamContextSaid
 
-abbrev pub said_of_stream : StreamAsked → StreamContextSaid
-said_of_stream (stream.Open flow stream_id size) = stream_is_open flow stream_id size
-said_of_stream stream.Free = stream_is_free
-said_of_stream (stream.Refused number) = stream_ask_refused number
+abbrev pub said_of_stream : Result (Option UnfinishedPdu) Refusal → StreamContextSaid
+said_of_stream (Ok (Some pdu)) = stream_is_open pdu.flow pdu.stream pdu.held
+said_of_stream (Ok None) = stream_is_free
+said_of_stream (Err refusal) = stream_ask_refused (number_of refusal)
 
 pub data MessageContextSaid : Type 0 where
   -- a message is open there: source, letter, mbox; its msglen, the bytes of its segments; which have come, and the last one's length, 0 before it came
@@ -77,10 +73,10 @@ pub data MessageContextSaid : Type 0 where
   message_is_free : MessageContextSaid
   message_ask_refused : (number : ℕ) → MessageContextSaid
 
-abbrev pub said_of_message : MessageAsked → MessageContextSaid
-said_of_message (mail.Open source letter mbox msglen size marks last) = message_is_open source letter mbox msglen size marks last
-said_of_message mail.Free = message_is_free
-said_of_message (mail.Refused number) = message_ask_refused number
+abbrev pub said_of_message : Result (Option UnfinishedMessage) Refusal → MessageContextSaid
+said_of_message (Ok (Some m)) = message_is_open m.source m.letter m.mbox m.msglen m.size m.marks m.last
+said_of_message (Ok None) = message_is_free
+said_of_message (Err refusal) = message_ask_refused (number_of refusal)
 
 -- ---- the writers, of a segment and of a record
 
@@ -89,6 +85,6 @@ pub data WriterSaid : Type 0 where
   wrote : (size : ℕ) → WriterSaid
   write_refused : (number : ℕ) → WriterSaid
 
-abbrev pub said_of_writer : Written → WriterSaid
-said_of_writer (writer.Length size) = wrote size
-said_of_writer (writer.Refused number) = write_refused number
+abbrev pub said_of_writer : Result ℕ Refusal → WriterSaid
+said_of_writer (Ok size) = wrote size
+said_of_writer (Err refusal) = write_refused (number_of refusal)

@@ -2,4 +2,4 @@ pub mod Answers
 pub mod Once
 pub mod Stands
 pub mod Kinds
-pub mod Figures
+pub mod Readings

@@ -3,7 +3,8 @@
 #![tactic(auto)]
 
 ghost use Rattle.std.specs.Prelude.{◌≡◌, ◌<◌, length};
-ghost use Rattle.contexts.specs.State.{stream_contexts, stream_in, is_of_flow, flow_context, free_stream, message_context, free_message};
+ghost use Rattle.lists.specs.First.{IsFound};
+ghost use Rattle.contexts.specs.State.{stream_contexts, message_contexts, stream_in, is_of_flow, flow_context, free_stream, message_context, free_message};
 ghost use Rattle.contexts.specs.Words.{state_of, state_words};
 
 use wire::Flow;
@@ -19,62 +20,43 @@ fn is_of_flow(state: &[usize], n: usize, flow: Flow) -> bool
     false
 }
 
-// The flow's open context; STREAM_CONTEXTS: none.
-pub fn find_stream(state: &[usize], flow: Flow) -> usize
+// The flow's open context, if it has one.
+pub fn find_stream(state: &[usize], flow: Flow) -> Option<usize>
     requires { length state.now ≡ state_words }
-    ensures { result ≡ flow_context (state_of state.now) flow }
+    ensures { IsFound stream_contexts (flow_context (state_of state.now) flow) result }
 {
-    let mut n = 0;
-    while n < contexts::STREAM_CONTEXTS {
-        if is_of_flow(state, n, flow) {
-            return n;
-        }
-        n += 1;
-    }
-    contexts::STREAM_CONTEXTS
+    lists::lowest(contexts::STREAM_CONTEXTS, |n| is_of_flow(state, n, flow))
 }
 
-// The lowest free stream context; STREAM_CONTEXTS: none.
-pub fn free_stream(state: &[usize]) -> usize
+// The lowest free stream context, if one is free.
+pub fn free_stream(state: &[usize]) -> Option<usize>
     requires { length state.now ≡ state_words }
-    ensures { result ≡ free_stream (state_of state.now) }
+    ensures { IsFound stream_contexts (free_stream (state_of state.now)) result }
 {
-    let mut i = 0;
-    while i < contexts::STREAM_CONTEXTS {
-        if stream_contexts::stream_live(state, i) == 0 {
-            return i;
-        }
-        i += 1;
-    }
-    contexts::STREAM_CONTEXTS
+    lists::lowest(
+        contexts::STREAM_CONTEXTS,
+        |n| stream_contexts::stream_live(state, n) == 0,
+    )
 }
 
-// The open context of the message; MESSAGE_CONTEXTS: none.
-pub fn find_message(state: &[usize], source: usize, letter: usize, mbox: usize) -> usize
+// The open context of the message, if it has one.
+pub fn find_message(state: &[usize], source: usize, letter: usize, mbox: usize) -> Option<usize>
     requires { length state.now ≡ state_words }
-    ensures { result ≡ message_context (state_of state.now) source letter mbox }
+    ensures { IsFound message_contexts (message_context (state_of state.now) source letter mbox) result }
 {
-    let mut i = 0;
-    while i < contexts::MESSAGE_CONTEXTS {
-        if message_contexts::is_of_message(state, i, source, letter, mbox) {
-            return i;
-        }
-        i += 1;
-    }
-    contexts::MESSAGE_CONTEXTS
+    lists::lowest(
+        contexts::MESSAGE_CONTEXTS,
+        |n| message_contexts::is_of_message(state, n, source, letter, mbox),
+    )
 }
 
-// The lowest free message context; MESSAGE_CONTEXTS: none.
-pub fn free_message(state: &[usize]) -> usize
+// The lowest free message context, if one is free.
+pub fn free_message(state: &[usize]) -> Option<usize>
     requires { length state.now ≡ state_words }
-    ensures { result ≡ free_message (state_of state.now) }
+    ensures { IsFound message_contexts (free_message (state_of state.now)) result }
 {
-    let mut i = 0;
-    while i < contexts::MESSAGE_CONTEXTS {
-        if message_contexts::message_live(state, i) == 0 {
-            return i;
-        }
-        i += 1;
-    }
-    contexts::MESSAGE_CONTEXTS
+    lists::lowest(
+        contexts::MESSAGE_CONTEXTS,
+        |n| message_contexts::message_live(state, n) == 0,
+    )
 }

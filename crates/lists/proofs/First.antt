@@ -7,7 +7,8 @@ use native.Mathlib.Omega.{arith}
 use native.Mathlib.Numerals.{add-one}
 use lib.ListN.{length, get_or, drop, drop_of_length-le}
 use lib.Seq.{drop-cons}
-use Rattle.lists.specs.First.{first_of, any}
+use Rattle.std.specs.Prelude.{Option, Some, None, IfSome, unwrap_or}
+use Rattle.lists.specs.First.{first_of, any, IsFound}
 use Rattle.lists.proofs.Tests.{by_test, neither}
 
 -- what a walk that stands at i knows: none before i passes
@@ -86,3 +87,20 @@ pub any_none : {A : Type 0} (p : A → Bool) (l : List A) (i n : ℕ) → length
 unfolding any
 any_none p [] i n z a b w = refl
 any_none p (x ∷ xs) i n z a b w = all_fail p (x ∷ xs) x (λ j h. first_before p (x ∷ xs) x j (omega (arith, first-none p (x ∷ xs) i n z a b w)))
+
+-- none of the first i passes: so far has a walk passed
+pub passed_by : {A : Type 0} (p : A → Bool) (l : List A) (d : A) (i : ℕ) → i ≤ length l → ((k : ℕ) → k < i → p (get_or l k d) ≡ false) → Passed p l i
+passed_by p l d zero h before = omega arith
+passed_by p l d (suc i) h before =
+    rw (← add-one i) (first_next p l d i (omega arith) (passed_by p l d i (omega arith) (λ k b. before k (omega arith))) (before i (omega arith)))
+
+-- the lowest number that passes is that of the first element that does; the last two say what a call tells of the element there
+pub found_first : {A : Type 0} (p : A → Bool) (l : List A) (d : A) (count : ℕ) → length l ≡ count → {Hit Miss : ℕ → Type 0} (found : Option ℕ)
+    → IfSome found Hit → ((k : ℕ) → k < unwrap_or found count → Miss k)
+    → ((n : ℕ) → Hit n → (n < count) × (p (get_or l n d) ≡ true)) → ((n : ℕ) → n < count → Miss n → p (get_or l n d) ≡ false)
+    → IsFound count (first_of p l) found
+found_first p l d count z None hit before hits misses =
+    (first-none p l count count z (omega arith) (omega arith) (passed_by p l d count (omega arith) (λ k h. misses k h (before k h))), tt)
+found_first p l d count z (Some n) hit before hits misses =
+    let passes = hits n hit in
+    (first_found p l d n (rw z passes.0) (passed_by p l d n (omega arith) (λ k h. misses k (omega arith) (before k h))) passes.1, passes.0)

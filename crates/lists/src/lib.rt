@@ -1,7 +1,7 @@
 // Bytes and lists: what every layer above uses, and nothing of RapidIO.
 #![tactic(auto)]
 
-ghost use Rattle.std.specs.Prelude.{◌≡◌, ◌+◌, ◌<◌, ◌≤◌, length, take, drop};
+ghost use Rattle.std.specs.Prelude.{◌≡◌, ℕ, true, false, IfSome, unwrap_or, ◌+◌, ◌<◌, ◌≤◌, length, take, drop};
 ghost use Rattle.lists.specs.Bytes.{word, long, written};
 
 // A byte as a number.
@@ -108,4 +108,18 @@ pub fn store(memory: &mut [u8], at: usize, bytes: &[u8])
     ensures { memory.new ≡ written memory.old at bytes.now }
 {
     copy_blocks(&mut memory[at..], bytes);
+}
+
+// The lowest number under `count` that passes, if one does. The one walk over contexts of either kind.
+pub fn lowest<F: Fn(usize) -> bool>(count: usize, passes: F) -> Option<usize>
+    requires { (n : ℕ) → n < count → F.pre passes n }
+    ensures found { IfSome result (λ n. (n < count) × F.post passes n true) }
+    ensures before { (k : ℕ) → k < unwrap_or result count → F.post passes k false }
+{
+    for n in 0..count {
+        if passes(n) {
+            return Some(n);
+        }
+    }
+    None
 }

@@ -2,7 +2,7 @@
 #![tactic(auto)]
 
 ghost use Rattle.std.specs.Prelude.{◌≡◌, false, ◌+◌, ◌<◌, ◌≤◌, ◌^◌, length};
-ghost use Rattle.answers.specs.Figures.{telling, AllSet};
+ghost use Rattle.answers.specs.Answers.{said};
 ghost use Rattle.responses.specs.Type13.{DONE, answered};
 ghost use Rattle.contexts.specs.State.{ids_in, message_contexts};
 ghost use Rattle.contexts.specs.Words.{state_of, state_words};
@@ -10,7 +10,7 @@ ghost use Rattle.rules.specs.Inside.{Sound};
 ghost use Rattle.message_rooms.specs.Placing.{message_joining, message_placed};
 ghost use Rattle.message_rooms.specs.Inside.{CanReply, reply_size, MessageReady, MessageFits, MessageKept, Replied};
 
-use answers::Figures;
+use answers::Reading;
 use wire::MessageSegment;
 
 // The bytes of a message context's room, and of the memory that has one for each.
@@ -25,10 +25,10 @@ pub fn refuse(
     packet: &[u8],
     number: usize,
     status: u8,
-) -> Figures
+) -> Reading
     requires { CanReply state.now response.old packet.now × (status < 16) }
-    ensures { Replied (state_of state.now) response.old packet.now number status (telling result) response.new
-        × AllSet result false (reply_size (state_of state.now)) }
+    ensures { Replied (state_of state.now) response.old packet.now number status (said result.answer) response.new
+        × (result.dropped ≡ false) × (result.response ≡ reply_size (state_of state.now)) }
 {
     let written = responses::respond(response, packet, contexts::narrow(state), status);
     answers::refusal(number, false, written)
@@ -51,10 +51,10 @@ fn keep(
     marks: usize,
     last: usize,
     written: usize,
-) -> Figures
+) -> Reading
     requires n_lt_message_contexts { (n < message_contexts) × (length state.old ≡ state_words) }
     requires marks_bound { (marks < 2 ^ (m.msglen + 1)) × (last ≤ 256) × (m.msglen < 16) × (m.msgseg < 16) × (m.mbox < 4) }
-    ensures { MessageKept (state_of state.old) m n marks last (telling result) (state_of state.new) × AllSet result false written }
+    ensures { MessageKept (state_of state.old) m n marks last (said result.answer) (state_of state.new) × (result.dropped ≡ false) × (result.response ≡ written) }
 {
     if marks::complete(marks as u16, m.msglen) {
         message_contexts::close_message(state, n);
@@ -88,13 +88,13 @@ pub fn place(
     n: usize,
     marks: usize,
     last: usize,
-) -> Figures
+) -> Reading
     requires message_ready { MessageReady state.old memory.old response.old packet.now m }
     requires sound { Sound m }
     requires message_fits { MessageFits m n marks last }
-    ensures { (message_joining (telling result) (state_of state.new) memory.new response.new
+    ensures { (message_joining (said result.answer) (state_of state.new) memory.new response.new
         ≡ message_placed (state_of state.old) memory.old response.old packet.now m n marks last)
-        × AllSet result false (reply_size (state_of state.old)) }
+        × (result.dropped ≡ false) × (result.response ≡ reply_size (state_of state.old)) }
 {
     let size = sizes::bytes_of(m.ssize);
     let with_this = marks::with_mark(marks, m.msgseg);

@@ -2,7 +2,7 @@
 #![tactic(auto)]
 
 ghost use Rattle.std.specs.Prelude.{◌≡◌, true, false};
-ghost use Rattle.answers.specs.Figures.{telling, AllSet};
+ghost use Rattle.answers.specs.Answers.{said};
 ghost use Rattle.wire.specs.Type11.{is_single};
 ghost use Rattle.contexts.specs.Words.{state_of};
 ghost use Rattle.rules.specs.Inside.{Sound};
@@ -10,7 +10,7 @@ ghost use Rattle.message_rooms.specs.Placing.{message_joining};
 ghost use Rattle.message_rooms.specs.Inside.{message_for, reply_size, MessageReady};
 ghost use Rattle.messages.specs.Joining.{message_stepped};
 
-use answers::Figures;
+use answers::Reading;
 use wire::MessageSegment;
 
 // A single-segment message: the lowest free context, delivered at once.
@@ -20,12 +20,12 @@ fn take_alone(
     response: &mut [u8],
     packet: &[u8],
     m: MessageSegment,
-) -> Figures
+) -> Reading
     requires message_ready { MessageReady state.old memory.old response.old packet.now m }
     requires sound { (Sound m) × (is_single m ≡ true) }
-    ensures { (message_joining (telling result) (state_of state.new) memory.new response.new
+    ensures { (message_joining (said result.answer) (state_of state.new) memory.new response.new
         ≡ message_stepped (state_of state.old) memory.old response.old packet.now m)
-        × AllSet result false (reply_size (state_of state.old)) }
+        × (result.dropped ≡ false) × (result.response ≡ reply_size (state_of state.old)) }
 {
     let n = finding::free_message(state);
     if contexts::MESSAGE_CONTEXTS <= n {
@@ -60,11 +60,11 @@ fn take(
     response: &mut [u8],
     packet: &[u8],
     m: MessageSegment,
-) -> Figures
+) -> Reading
     requires { MessageReady state.old memory.old response.old packet.now m }
-    ensures { (message_joining (telling result) (state_of state.new) memory.new response.new
+    ensures { (message_joining (said result.answer) (state_of state.new) memory.new response.new
         ≡ message_stepped (state_of state.old) memory.old response.old packet.now m)
-        × AllSet result false (reply_size (state_of state.old)) }
+        × (result.dropped ≡ false) × (result.response ≡ reply_size (state_of state.old)) }
 {
     let number = message_rules::judge(m);
     if number != 0 {
@@ -82,11 +82,11 @@ fn take(
 }
 
 // A type 11 packet from row 20 on. Every caller has tested the state, the buffers' sizes and the packet's head.
-pub fn step(state: &mut [usize], memory: &mut [u8], response: &mut [u8], packet: &[u8]) -> Figures
+pub fn step(state: &mut [usize], memory: &mut [u8], response: &mut [u8], packet: &[u8]) -> Reading
     requires { MessageReady state.old memory.old response.old packet.now (message_for state.old packet.now) }
-    ensures { (message_joining (telling result) (state_of state.new) memory.new response.new
+    ensures { (message_joining (said result.answer) (state_of state.new) memory.new response.new
         ≡ message_stepped (state_of state.old) memory.old response.old packet.now (message_for state.old packet.now))
-        × AllSet result false (reply_size (state_of state.old)) }
+        × (result.dropped ≡ false) × (result.response ≡ reply_size (state_of state.old)) }
 {
     let m = fields::message_of(packet, contexts::narrow(state));
     take(state, memory, response, packet, m)

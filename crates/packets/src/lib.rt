@@ -5,7 +5,7 @@ ghost use Rattle.reading.specs.Desk.{desk};
 ghost use Rattle.reading.specs.Table.{lent};
 ghost use Rattle.reading.specs.Inside.{ReadyToRead, FiguresPromise};
 
-use answers::Figures;
+use answers::Reading;
 
 // One packet. Every caller has tested the state and the memories; a run over many packets tests them once.
 pub fn step(
@@ -14,7 +14,7 @@ pub fn step(
     message_memory: &mut [u8],
     response: &mut [u8],
     packet: &[u8],
-) -> Figures
+) -> Reading
     requires { ReadyToRead (desk state.old stream_memory.old message_memory.old response.old) }
     ensures { FiguresPromise (lent (desk state.old stream_memory.old message_memory.old response.old) packet.now)
         result (desk state.new stream_memory.new message_memory.new response.new) }
@@ -37,7 +37,7 @@ pub fn read(
     message_memory: &mut [u8],
     response: &mut [u8],
     packet: &[u8],
-) -> Figures
+) -> Reading
     ensures { FiguresPromise (lent (desk state.old stream_memory.old message_memory.old response.old) packet.now)
         result (desk state.new stream_memory.new message_memory.new response.new) }
 {

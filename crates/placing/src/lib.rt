@@ -2,39 +2,37 @@
 #![tactic(auto)]
 
 ghost use Rattle.std.specs.Prelude.{◌≡◌, true, false};
-ghost use Rattle.answers.specs.Figures.{telling, AllSet};
+ghost use Rattle.answers.specs.Answers.{said};
 ghost use Rattle.contexts.specs.Words.{state_of};
 ghost use Rattle.contexts.specs.State.{stream_in};
 ghost use Rattle.stream_rooms.specs.Placing.{joining, placed};
 ghost use Rattle.stream_rooms.specs.Inside.{Ready, Fields, Fits, GoesOn, stream_for};
 
-use answers::Figures;
-use wire::Flow;
+use answers::Reading;
+use wire::StreamHead;
 
 // A PDU begins in room n: a start is held there, a single delivered.
 pub fn begin_room(
     state: &mut [usize],
     memory: &mut [u8],
     packet: &[u8],
-    flags: usize,
-    from: usize,
-    flow: Flow,
+    head: StreamHead,
     n: usize,
     count: usize,
     dropped: bool,
-) -> Figures
+) -> Reading
     requires ready { Ready state.old memory.old packet.now (stream_for state.old packet.now) }
-    requires fields { (Fields state.old packet.now flags from flow) × ((stream_for state.old packet.now).begins ≡ true) × Fits (state_of state.old) (stream_for state.old packet.now) n 0 count }
-    ensures { (joining (telling result) result.dropped (state_of state.new) memory.new
+    requires fields { (Fields state.old packet.now head) × ((stream_for state.old packet.now).begins ≡ true) × Fits (state_of state.old) (stream_for state.old packet.now) n 0 count }
+    ensures { (joining (said result.answer) result.dropped (state_of state.new) memory.new
         ≡ placed (state_of state.old) memory.old packet.now (stream_for state.old packet.now) n 0 (stream_for state.old packet.now).field dropped)
-        × AllSet result result.dropped 0 }
+        × (result.response ≡ 0) }
 {
-    stream_rooms::store_data(state, memory, packet, from, n, 0, count);
-    let stream = lists::word_at(packet, from - 2);
-    if wire::bit(flags, 64) {
-        return stream_rooms::deliver(state, n, flow, stream, count, dropped);
+    stream_rooms::store_data(state, memory, packet, head.from, n, 0, count);
+    let stream = lists::word_at(packet, head.from - 2);
+    if wire::bit(head.flags, 64) {
+        return stream_rooms::deliver(state, n, head.flow, stream, count, dropped);
     }
-    stream_contexts::keep_stream(state, n, flow, stream, count);
+    stream_contexts::keep_stream(state, n, head.flow, stream, count);
     answers::holding(dropped, 0)
 }
 
@@ -43,18 +41,18 @@ pub fn hold_room(
     state: &mut [usize],
     memory: &mut [u8],
     packet: &[u8],
-    from: usize,
+    head: StreamHead,
     n: usize,
     held: usize,
     count: usize,
-) -> Figures
+) -> Reading
     requires ready { Ready state.old memory.old packet.now (stream_for state.old packet.now) }
-    requires from_value { (from ≡ (stream_for state.old packet.now).from) × GoesOn (state_of state.old) (stream_for state.old packet.now) n held count false }
-    ensures { (joining (telling result) result.dropped (state_of state.new) memory.new
+    requires fields { (Fields state.old packet.now head) × GoesOn (state_of state.old) (stream_for state.old packet.now) n held count false }
+    ensures { (joining (said result.answer) result.dropped (state_of state.new) memory.new
         ≡ placed (state_of state.old) memory.old packet.now (stream_for state.old packet.now) n held (stream_in (state_of state.old) n).stream false)
-        × AllSet result result.dropped 0 }
+        × (result.response ≡ 0) }
 {
-    stream_rooms::store_data(state, memory, packet, from, n, held, count);
+    stream_rooms::store_data(state, memory, packet, head.from, n, held, count);
     stream_contexts::hold(state, n, held + count);
     answers::holding(false, 0)
 }
@@ -64,19 +62,18 @@ pub fn end_room(
     state: &mut [usize],
     memory: &mut [u8],
     packet: &[u8],
-    from: usize,
-    flow: Flow,
+    head: StreamHead,
     n: usize,
     held: usize,
     count: usize,
-) -> Figures
+) -> Reading
     requires ready { Ready state.old memory.old packet.now (stream_for state.old packet.now) }
-    requires from_value { (from ≡ (stream_for state.old packet.now).from) × (flow ≡ (stream_for state.old packet.now).flow) × GoesOn (state_of state.old) (stream_for state.old packet.now) n held count true }
-    ensures { (joining (telling result) result.dropped (state_of state.new) memory.new
+    requires fields { (Fields state.old packet.now head) × GoesOn (state_of state.old) (stream_for state.old packet.now) n held count true }
+    ensures { (joining (said result.answer) result.dropped (state_of state.new) memory.new
         ≡ placed (state_of state.old) memory.old packet.now (stream_for state.old packet.now) n held (stream_in (state_of state.old) n).stream false)
-        × AllSet result result.dropped 0 }
+        × (result.response ≡ 0) }
 {
-    stream_rooms::store_data(state, memory, packet, from, n, held, count);
+    stream_rooms::store_data(state, memory, packet, head.from, n, held, count);
     let stream = stream_contexts::stream_of(state, n);
-    stream_rooms::deliver(state, n, flow, stream, held + count, false)
+    stream_rooms::deliver(state, n, head.flow, stream, held + count, false)
 }

@@ -2,6 +2,7 @@
 use Rattle.std.specs.Prelude.{ℕ, ◌≤◌, ◌<◌, ◌+◌, ◌*◌, ◌≡◌, List, Bool, false, length, ltb}
 use Rattle.answers.specs.Answers.{Said, delivered, refused}
 use Rattle.wire.specs.declared.Flow.{Flow}
+use Rattle.wire.specs.declared.StreamHead.{StreamHead}
 use Rattle.wire.specs.Segment.{Segment}
 use Rattle.wire.specs.Type9.{flags, segment_of}
 use Rattle.sizes.specs.Sizes.{data_length}
@@ -27,10 +28,10 @@ pub record Closing (s : State) (found number : ℕ) (says : Said) (dropped : Boo
   pub state : after ≡ with_stream s found closed_stream
 
 -- what the code has read of a type 9 packet: its flags, where the data begin, and the flow
-pub record Fields (words packet : List ℕ) (bits from : ℕ) (flow : Flow) : Type 0 where
-  pub flag_bits : bits ≡ flags (ids_in (state_of words)) packet
-  pub data_from_lem : from ≡ (stream_for words packet).from
-  pub sender : flow ≡ (stream_for words packet).flow
+pub record Fields (words packet : List ℕ) (head : StreamHead) : Type 0 where
+  pub flag_bits : head.flags ≡ flags (ids_in (state_of words)) packet
+  pub data_from_lem : head.from ≡ (stream_for words packet).from
+  pub sender : head.flow ≡ (stream_for words packet).flow
 
 -- the PDU of context n delivered, and the context freed
 pub record Delivering (s : State) (n : ℕ) (flow : Flow) (stream total : ℕ) (gave : Bool) (says : Said) (dropped : Bool) (after : State) : Type 0 where

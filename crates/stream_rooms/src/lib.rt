@@ -1,27 +1,30 @@
 // What a type 9 segment does to one context and its room: its data stored, the PDU delivered, the context closed.
 #![tactic(auto)]
 
-ghost use Rattle.std.specs.Prelude.{◌≡◌, ◌+◌, ◌*◌, ◌<◌, ◌≤◌, length};
+ghost use Rattle.std.specs.Prelude.{◌≡◌, IfSome, unwrap_or, ◌+◌, ◌*◌, ◌<◌, length};
 ghost use Rattle.lists.specs.Bytes.{written};
-ghost use Rattle.answers.specs.Figures.{telling, AllSet};
+ghost use Rattle.refusals.specs.Numbers.{number_of};
+ghost use Rattle.answers.specs.Answers.{said};
 ghost use Rattle.contexts.specs.Words.{state_of, state_words};
 ghost use Rattle.contexts.specs.State.{stream_contexts};
 ghost use Rattle.stream_rooms.specs.Placing.{data_of};
 ghost use Rattle.stream_rooms.specs.Inside.{Ready, Closing, Delivering, Fits, stream_for};
 
-use answers::Figures;
+use answers::{Answer, Reading};
+use refusals::Refusal;
 use wire::Flow;
 
 // A refusal that closes the flow's context, where it has one. Every caller has tested the state, and `found` is what was found.
-pub fn refused_closing(state: &mut [usize], found: usize, number: usize) -> Figures
-    requires { (length state.old ≡ state_words) × (found ≤ stream_contexts) }
-    ensures { Closing (state_of state.old) found number (telling result) result.dropped (state_of state.new) × AllSet result result.dropped 0 }
+pub fn refused_closing(state: &mut [usize], found: Option<usize>, refusal: Refusal) -> Reading
+    requires { (length state.old ≡ state_words) × IfSome found (λ n. n < stream_contexts) }
+    ensures { Closing (state_of state.old) (unwrap_or found stream_contexts) (number_of refusal) (said result.answer) result.dropped (state_of state.new)
+        × (result.response ≡ 0) }
 {
-    if found < contexts::STREAM_CONTEXTS {
-        stream_contexts::close_stream(state, found);
-        return answers::refusal(number, true, 0);
-    }
-    answers::refusal(number, false, 0)
+    let Some(n) = found else {
+        return answers::refusal(refusal, false, 0);
+    };
+    stream_contexts::close_stream(state, n);
+    answers::refusal(refusal, true, 0)
 }
 
 // The PDU of context n is delivered, `total` bytes of it, and the context freed.
@@ -32,22 +35,20 @@ pub fn deliver(
     stream: usize,
     total: usize,
     dropped: bool,
-) -> Figures
+) -> Reading
     requires { (n < stream_contexts) × (length state.old ≡ state_words) }
-    ensures { Delivering (state_of state.old) n flow stream total dropped (telling result) result.dropped (state_of state.new) × AllSet result result.dropped 0 }
+    ensures { Delivering (state_of state.old) n flow stream total dropped (said result.answer) result.dropped (state_of state.new) × (result.response ≡ 0) }
 {
     stream_contexts::close_stream(state, n);
-    Figures {
-        kind: answers::DELIVERED,
-        number: 0,
+    Reading {
+        answer: Ok(Answer::Delivered {
+            context: n,
+            flow,
+            stream,
+            length: total,
+        }),
         dropped,
         response: 0,
-        context: n,
-        source: flow.source,
-        cos_or_letter: flow.cos,
-        stream_or_mailbox: stream,
-        length: total,
-        priority: flow.priority,
     }
 }
 
