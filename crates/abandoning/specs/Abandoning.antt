@@ -1,9 +1,10 @@
 -- Abandoning a context: what a lent state is refused with, then 13; a free context stays as it is (document 01, 'Cutting and joining PDUs' and
 -- 'Refusal numbers').
-use Rattle.std.specs.Prelude.{ℕ, ◌≡◌, List, [], ◌∷◌, ◌++◌, Bool, cond, not, ltb}
+use Rattle.std.specs.Prelude.{ℕ, ◌≡◌, List, [], ◌∷◌, ◌++◌, Bool, cond, not, ltb, Result}
 use Rattle.answers.specs.Answers.{AbandonSaid, closed, free, abandon_refused, said_of_abandon}
 use Rattle.answers.specs.Stands.{Stands, stands}
 use Rattle.answers.specs.declared.Abandoned.{Abandoned}
+use Rattle.refusals.specs.declared.Refusal.{Refusal}
 use Rattle.tables.specs.Refusals.{Row, row, all, Verdict, refuse, accept, verdict}
 use Rattle.contexts.specs.State.{State, stream_in, message_in, with_stream, with_message, closed_stream, closed_message, is_free_stream, is_free_message, stream_contexts, message_contexts}
 use Rattle.contexts.specs.Words.{state_of, words_of}
@@ -30,8 +31,8 @@ unfoldable pub abandon_message : List ℕ → ℕ → Stands AbandonSaid
 abandon_message words n =
     abandon_by words (is_free_message (message_in (state_of words) n)) (with_message (state_of words) n closed_message) (verdict (context_table words message_contexts n))
 
-abbrev pub AbandonStreamPromise : List ℕ → ℕ → Abandoned → List ℕ → Type 0
+abbrev pub AbandonStreamPromise : List ℕ → ℕ → Result Abandoned Refusal → List ℕ → Type 0
 AbandonStreamPromise words n r after = stands (said_of_abandon r) after ≡ abandon_stream words n
 
-abbrev pub AbandonMessagePromise : List ℕ → ℕ → Abandoned → List ℕ → Type 0
+abbrev pub AbandonMessagePromise : List ℕ → ℕ → Result Abandoned Refusal → List ℕ → Type 0
 AbandonMessagePromise words n r after = stands (said_of_abandon r) after ≡ abandon_message words n

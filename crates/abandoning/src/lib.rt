@@ -4,41 +4,36 @@
 ghost use Rattle.abandoning.specs.Abandoning.{AbandonStreamPromise, AbandonMessagePromise};
 
 use answers::Abandoned;
+use refusals::Refusal;
 
 // Abandons stream context n. A free one stays as it is.
-pub fn abandon_stream(state: &mut [usize], n: usize) -> Abandoned
+pub fn abandon_stream(state: &mut [usize], n: usize) -> Result<Abandoned, Refusal>
     ensures { AbandonStreamPromise state.old n result state.new }
 {
-    let number = lent_state::state_refusal(state);
-    if number != 0 {
-        return Abandoned::Refused(number);
-    }
+    lent_state::state_refusal(state)?;
     if contexts::STREAM_CONTEXTS <= n {
-        return Abandoned::Refused(13);
+        return Err(Refusal::NoContext);
     }
     let c = stream_contexts::stream_at(state, n);
     if c.live == 0 {
-        return Abandoned::WasFree;
+        return Ok(Abandoned::WasFree);
     }
     stream_contexts::close_stream(state, n);
-    Abandoned::Closed
+    Ok(Abandoned::Closed)
 }
 
 // Abandons message context n. A free one stays as it is.
-pub fn abandon_message(state: &mut [usize], n: usize) -> Abandoned
+pub fn abandon_message(state: &mut [usize], n: usize) -> Result<Abandoned, Refusal>
     ensures { AbandonMessagePromise state.old n result state.new }
 {
-    let number = lent_state::state_refusal(state);
-    if number != 0 {
-        return Abandoned::Refused(number);
-    }
+    lent_state::state_refusal(state)?;
     if contexts::MESSAGE_CONTEXTS <= n {
-        return Abandoned::Refused(13);
+        return Err(Refusal::NoContext);
     }
     let c = message_contexts::message_at(state, n);
     if c.live == 0 {
-        return Abandoned::WasFree;
+        return Ok(Abandoned::WasFree);
     }
     message_contexts::close_message(state, n);
-    Abandoned::Closed
+    Ok(Abandoned::Closed)
 }

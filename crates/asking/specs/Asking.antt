@@ -1,11 +1,12 @@
 -- Asking after a context, a call that the paper does not have: refused as abandoning it is (19, 12 and 13); else whether it is open, and what it
 -- holds.
-use Rattle.std.specs.Prelude.{ℕ, ◌≡◌, List, cond}
+use Rattle.std.specs.Prelude.{ℕ, ◌≡◌, List, cond, Result, Option}
 use Rattle.tables.specs.Refusals.{Leaves, verdict, by_verdict}
 use Rattle.answers.specs.Answers.{StreamContextSaid, stream_is_open, stream_is_free, stream_ask_refused, said_of_stream}
 use Rattle.answers.specs.Answers.{MessageContextSaid, message_is_open, message_is_free, message_ask_refused, said_of_message}
-use Rattle.answers.specs.declared.StreamAsked.{StreamAsked}
-use Rattle.answers.specs.declared.MessageAsked.{MessageAsked}
+use Rattle.answers.specs.declared.UnfinishedPdu.{UnfinishedPdu}
+use Rattle.answers.specs.declared.UnfinishedMessage.{UnfinishedMessage}
+use Rattle.refusals.specs.declared.Refusal.{Refusal}
 use Rattle.sizes.specs.Sizes.{bytes_of}
 use Rattle.contexts.specs.declared.StreamContext.{StreamContext}
 use Rattle.contexts.specs.declared.MessageContext.{MessageContext}
@@ -45,8 +46,8 @@ pub record AsksAsAbandons : Type 0 where
   pub stream : (words : List ℕ) (n : ℕ) → (abandon_stream words n).says ≡ abandons_stream (ask_stream words n)
   pub message : (words : List ℕ) (n : ℕ) → (abandon_message words n).says ≡ abandons_message (ask_message words n)
 
-abbrev pub StreamContextPromise : List ℕ → ℕ → StreamAsked → Type 0
+abbrev pub StreamContextPromise : List ℕ → ℕ → Result (Option UnfinishedPdu) Refusal → Type 0
 StreamContextPromise words n r = said_of_stream r ≡ ask_stream words n
 
-abbrev pub MessageContextPromise : List ℕ → ℕ → MessageAsked → Type 0
+abbrev pub MessageContextPromise : List ℕ → ℕ → Result (Option UnfinishedMessage) Refusal → Type 0
 MessageContextPromise words n r = said_of_message r ≡ ask_message words n

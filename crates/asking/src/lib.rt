@@ -4,54 +4,47 @@
 
 ghost use Rattle.asking.specs.Asking.{StreamContextPromise, MessageContextPromise};
 
-use answers::{MessageAsked, StreamAsked};
+use answers::{UnfinishedMessage, UnfinishedPdu};
+use refusals::Refusal;
 
 // What stream context n holds.
-pub fn stream_context(state: &[usize], n: usize) -> StreamAsked
+pub fn stream_context(state: &[usize], n: usize) -> Result<Option<UnfinishedPdu>, Refusal>
     ensures { StreamContextPromise state.now n result }
 {
-    let number = lent_state::state_refusal(state);
-    if number != 0 {
-        return StreamAsked::Refused(number);
-    }
+    lent_state::state_refusal(state)?;
     if contexts::STREAM_CONTEXTS <= n {
-        return StreamAsked::Refused(13);
+        return Err(Refusal::NoContext);
     }
     let c = stream_contexts::stream_at(state, n);
     if c.live == 0 {
-        return StreamAsked::Free;
+        return Ok(None);
     }
-    let flow = c.flow;
-    StreamAsked::Open {
-        flow,
+    Ok(Some(UnfinishedPdu {
+        flow: c.flow,
         stream: c.stream,
         held: c.held,
-    }
+    }))
 }
 
 // What message context n holds.
-pub fn message_context(state: &[usize], n: usize) -> MessageAsked
+pub fn message_context(state: &[usize], n: usize) -> Result<Option<UnfinishedMessage>, Refusal>
     ensures { MessageContextPromise state.now n result }
 {
-    let number = lent_state::state_refusal(state);
-    if number != 0 {
-        return MessageAsked::Refused(number);
-    }
+    lent_state::state_refusal(state)?;
     if contexts::MESSAGE_CONTEXTS <= n {
-        return MessageAsked::Refused(13);
+        return Err(Refusal::NoContext);
     }
     let m = message_contexts::message_at(state, n);
     if m.live == 0 {
-        return MessageAsked::Free;
+        return Ok(None);
     }
-    let size = sizes::bytes_of(m.ssize);
-    MessageAsked::Open {
+    Ok(Some(UnfinishedMessage {
         source: m.source,
         letter: m.letter,
         mbox: m.mbox,
         msglen: m.msglen,
-        size,
+        size: sizes::bytes_of(m.ssize),
         marks: m.marks,
         last: m.last,
-    }
+    }))
 }

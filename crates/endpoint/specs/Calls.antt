@@ -1,9 +1,9 @@
 -- Setup, and how many words a state has (document 01, 'Refusal numbers'). Reading: reading/specs. Abandoning: abandoning/specs. Rooms:
 -- room_parts/specs.
-use Rattle.std.specs.Prelude.{ℕ, ◌≡◌, List, [], ◌∷◌, not, length, replicate, eqb}
+use Rattle.std.specs.Prelude.{ℕ, ◌≡◌, List, [], ◌∷◌, not, length, replicate, eqb, Result, ⊤}
 use Rattle.answers.specs.Answers.{SetupSaid, ready, setup_refused, said_of_setup}
 use Rattle.answers.specs.Stands.{Stands, stands}
-use Rattle.answers.specs.declared.Begun.{Begun}
+use Rattle.refusals.specs.declared.Refusal.{Refusal}
 use Rattle.tables.specs.Refusals.{RowOf, row, VerdictOf, refuse, accept, verdict}
 use Rattle.wire.specs.declared.Setup.{Setup}
 use Rattle.wire.specs.Packet.{too_wide}
@@ -38,7 +38,7 @@ setup_by words settings accept = stands ready (words_of (fresh settings))
 unfoldable pub setup : List ℕ → Setup → Stands SetupSaid
 setup words settings = setup_by words settings (verdict (setup_table words settings))
 
-abbrev pub SetupPromise : List ℕ → Setup → Begun → List ℕ → Type 0
+abbrev pub SetupPromise : List ℕ → Setup → Result ⊤ Refusal → List ℕ → Type 0
 SetupPromise words settings r after = stands (said_of_setup r) after ≡ setup words settings
 
 -- the promise of `state_length`

@@ -7,8 +7,9 @@ ghost use Rattle.reading.specs.Read.{ReadPromise};
 ghost use Rattle.endpoint.specs.Calls.{SetupPromise, LengthPromise};
 
 pub use abandoning::{abandon_message, abandon_stream};
-use answers::{Begun, Reading};
+use answers::Reading;
 pub use asking::{message_context, stream_context};
+pub use refusals::Refusal;
 pub use room_parts::{message_room, stream_room};
 pub use wire::Setup;
 
@@ -20,26 +21,26 @@ pub fn state_length() -> usize
 }
 
 // Makes a state for a device ID, an MTU, rooms of R bytes and a width of IDs.
-pub fn setup(state: &mut [usize], settings: Setup) -> Begun
+pub fn setup(state: &mut [usize], settings: Setup) -> Result<(), Refusal>
     ensures { SetupPromise state.old settings result state.new }
 {
     if state.len() != contexts::WORDS {
-        return Begun::Refused(12);
+        return Err(Refusal::Buffer);
     }
     if ids::too_wide(settings.narrow, settings.device) {
         contexts::clear(state);
-        return Begun::Refused(47);
+        return Err(Refusal::WideId);
     }
     if sizes::bad_mtu(settings.mtu) {
         contexts::clear(state);
-        return Begun::Refused(18);
+        return Err(Refusal::Mtu);
     }
     if bad_streams::bad_room(settings.mtu, settings.room) {
         contexts::clear(state);
-        return Begun::Refused(19);
+        return Err(Refusal::State);
     }
     contexts::begin(state, settings);
-    Begun::Ready
+    Ok(())
 }
 
 // Reads one packet.
@@ -53,6 +54,5 @@ pub fn read(
     ensures { ReadPromise (lent (desk state.old stream_memory.old message_memory.old response.old) packet.now)
         result (desk state.new stream_memory.new message_memory.new response.new) }
 {
-    let told = packets::read(state, stream_memory, message_memory, response, packet);
-    answers::reading_of(told)
+    packets::read(state, stream_memory, message_memory, response, packet)
 }

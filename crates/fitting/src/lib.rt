@@ -6,8 +6,8 @@ ghost use Rattle.answers.specs.Answers.{said_of_writer};
 ghost use Rattle.cutting.specs.Cutting.{segment_count, ids_for, packet_of};
 ghost use Rattle.writing.specs.Writer.{wrote_of, fitting};
 
-use answers::Written;
 use cutting::Heading;
+use refusals::Refusal;
 
 // Writes a segment that the PDU has, where the output has room for it. `count` is how many the PDU makes, `ids` the bytes of an ID.
 fn write_at(
@@ -18,7 +18,7 @@ fn write_at(
     number: usize,
     count: usize,
     ids: usize,
-) -> Written
+) -> Result<usize, Refusal>
     requires priority_bound { (heading.priority ≤ 3) × (0 < mtu) × (mtu ≤ 256) × (length pdu.now ≤ 65536) }
     requires count_value { (count ≡ segment_count mtu (length pdu.now)) × (number < count) }
     requires ids_value { (ids ≡ ids_for heading) × (1 ≤ ids) × (ids ≤ 2) }
@@ -31,13 +31,13 @@ fn write_at(
     let front = segment_head::head_length(first, last, ids);
     let length = front + n + n % 2;
     if out.len() < length {
-        return Written::Refused(16);
+        return Err(Refusal::Out);
     }
     let at = ids::header(ids) + 2;
     segment_head::put_head(out, heading, segment_head::flags(first, last, n), ids);
     segment_head::put_field(out, at, first, last, heading.stream, pdu.len());
     cutting::put(out, front, &pdu[from..from + n]);
-    Written::Length(length)
+    Ok(length)
 }
 
 // The same with IDs as the heading chooses. The width parts here, so that each side has its places as constants.
@@ -48,7 +48,7 @@ pub fn write_fitting(
     pdu: &[u8],
     number: usize,
     count: usize,
-) -> Written
+) -> Result<usize, Refusal>
     requires priority_bound { (heading.priority ≤ 3) × (0 < mtu) × (mtu ≤ 256) × (length pdu.now ≤ 65536) }
     requires count_value { (count ≡ segment_count mtu (length pdu.now)) × (number < count) }
     ensures { wrote_of (said_of_writer result) out.new ≡ fitting out.old (packet_of heading mtu pdu.now number) }

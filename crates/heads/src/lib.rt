@@ -5,69 +5,79 @@ ghost use Rattle.std.specs.Prelude.{◌≡◌, true, ◌+◌, ◌≤◌, length}
 ghost use Rattle.wire.specs.Packet.{header, id_bytes};
 ghost use Rattle.wire.specs.Head.{is9};
 ghost use Rattle.wire.specs.Inside.{headed, headed_behind};
+ghost use Rattle.heads.specs.Heads.{HeadIs};
 
-// Rows 5 and 1 of a type 9 packet that has its flags: 9, or the refusal.
-fn head_of_9(packet: &[u8], ids: usize) -> usize
+use refusals::Refusal;
+
+// The types that are read.
+#[derive(Clone, Copy, Debug, PartialEq, Eq)]
+pub enum PacketType {
+    DataStreaming = 9,
+    Message = 11,
+}
+
+// Rows 5 and 1 of a type 9 packet that has its flags.
+fn head_of_9(packet: &[u8], ids: usize) -> Result<PacketType, Refusal>
     requires { (ids ≤ 2) × (header ids + 2 ≤ length packet.now) × (is9 packet.now ≡ true) }
-    ensures { result ≡ headed_behind 5 ids packet.now }
+    ensures { HeadIs (headed_behind 5 ids packet.now) result }
 {
     let h = ids::header(ids);
     let flags = lists::wide(packet[h + 1]);
     if wire::bit(flags, 4) {
-        return 5;
+        return Err(Refusal::Extended);
     }
     if h + 4 <= packet.len() {
-        return 9;
+        return Ok(PacketType::DataStreaming);
     }
     // neither S nor E: no field
     if flags < 64 {
-        return 9;
+        return Ok(PacketType::DataStreaming);
     }
-    1
+    Err(Refusal::Short)
 }
 
-// The head from row 4 on: 9, 11, or the refusal.
-fn head_by_type(packet: &[u8], ids: usize) -> usize
+// The head from row 4 on.
+fn head_by_type(packet: &[u8], ids: usize) -> Result<PacketType, Refusal>
     requires { (1 ≤ ids) × (ids ≤ 2) × (header ids ≤ length packet.now) }
-    ensures { result ≡ headed_behind 3 ids packet.now }
+    ensures { HeadIs (headed_behind 3 ids packet.now) result }
 {
     let h = ids::header(ids);
     let kind = lists::wide(packet[0]) % 16;
     if kind == 9 {
         if packet.len() < h + 2 {
-            return 1;
+            return Err(Refusal::Short);
         }
         return head_of_9(packet, ids);
     }
     if kind == 11 {
         if packet.len() < h + 2 {
-            return 1;
+            return Err(Refusal::Short);
         }
-        return 11;
+        return Ok(PacketType::Message);
     }
-    4
+    Err(Refusal::Type)
 }
 
-// Rows 1 to 5, for the endpoint of that device ID whose IDs have so many bytes: the packet's type, 9 or 11, or the refusal.
-fn head_at(packet: &[u8], device: usize, ids: usize) -> usize
+// Rows 1 to 5, for the endpoint of that device ID whose IDs have so many bytes: the packet's type, or the refusal.
+fn head_at(packet: &[u8], device: usize, ids: usize) -> Result<PacketType, Refusal>
     requires { (1 ≤ ids) × (ids ≤ 2) }
-    ensures { result ≡ headed device ids packet.now }
+    ensures { HeadIs (headed device ids packet.now) result }
 {
     if packet.len() < ids::header(ids) {
-        return 1;
+        return Err(Refusal::Short);
     }
     if lists::wide(packet[0]) / 16 % 4 != ids - 1 {
-        return 2;
+        return Err(Refusal::IdWidth);
     }
     if ids::id_at(packet, 1, ids) != device {
-        return 3;
+        return Err(Refusal::OtherDevice);
     }
     head_by_type(packet, ids)
 }
 
 // Rows 1 to 5 at the width of the endpoint. It parts here, so that each side has its places as constants (docs/PERFORMANCE.md).
-pub fn head(packet: &[u8], device: usize, narrow: usize) -> usize
-    ensures { result ≡ headed device (id_bytes narrow) packet.now }
+pub fn head(packet: &[u8], device: usize, narrow: usize) -> Result<PacketType, Refusal>
+    ensures { HeadIs (headed device (id_bytes narrow) packet.now) result }
 {
     if narrow == 0 {
         return head_at(packet, device, 2);

@@ -4,24 +4,23 @@
 
 ghost use Rattle.std.specs.Prelude.{◌≡◌, ◌≤◌, length};
 ghost use Rattle.lists.specs.First.{any};
+ghost use Rattle.refusals.specs.Numbers.{refused_by};
 ghost use Rattle.contexts.specs.State.{stream_contexts};
 ghost use Rattle.contexts.specs.Words.{state_of, state_words};
 ghost use Rattle.refusal19.specs.Refusal19.{bad_stream, bad_message, named_by_19};
 ghost use Rattle.lent_state.specs.Lent.{state_refusal, has_room};
+
+use refusals::Refusal;
 
 // Whether 19 names a stream context.
 fn any_bad_stream(state: &[usize], room: usize) -> bool
     requires { length state.now ≡ state_words }
     ensures { result ≡ any (bad_stream room) (state_of state.now).streams }
 {
-    let mut i = 0;
-    while i < contexts::STREAM_CONTEXTS {
-        if bad_streams::bad_stream(stream_contexts::stream_at(state, i), room) {
-            return true;
-        }
-        i += 1;
-    }
-    false
+    lists::lowest(contexts::STREAM_CONTEXTS, |n| {
+        bad_streams::bad_stream(stream_contexts::stream_at(state, n), room)
+    })
+    .is_some()
 }
 
 // Whether 19 names a message context.
@@ -29,14 +28,10 @@ fn any_bad_message(state: &[usize]) -> bool
     requires { length state.now ≡ state_words }
     ensures { result ≡ any bad_message (state_of state.now).messages }
 {
-    let mut i = 0;
-    while i < contexts::MESSAGE_CONTEXTS {
-        if bad_messages::bad_message(message_contexts::message_at(state, i)) {
-            return true;
-        }
-        i += 1;
-    }
-    false
+    lists::lowest(contexts::MESSAGE_CONTEXTS, |n| {
+        bad_messages::bad_message(message_contexts::message_at(state, n))
+    })
+    .is_some()
 }
 
 // Whether refusal 19 names the state. The caller has tested its length.
@@ -58,17 +53,17 @@ fn named_by_19(state: &[usize]) -> bool
     any_bad_message(state)
 }
 
-// What a lent state is refused with: 12 where the buffer is no state, 19, or 0.
-pub fn state_refusal(state: &[usize]) -> usize
-    ensures { result ≡ state_refusal state.now }
+// What a lent state is refused with: 12 where the buffer is no state, or 19.
+pub fn state_refusal(state: &[usize]) -> Result<(), Refusal>
+    ensures { refused_by result ≡ state_refusal state.now }
 {
     if state.len() != contexts::WORDS {
-        return 12;
+        return Err(Refusal::Buffer);
     }
     if named_by_19(state) {
-        return 19;
+        return Err(Refusal::State);
     }
-    0
+    Ok(())
 }
 
 // Whether a memory of that size has so many rooms, n is one of them, and it holds l bytes. Every caller knows the rooms to be few and small.

@@ -1,7 +1,7 @@
 -- Writing one record of a log, or of a burst: what is refused, what is written, and that it reads back.
 -- How a record is written, to the byte, is `written_record` (log_records/specs/Written.antt).
-use Rattle.std.specs.Prelude.{ℕ, ◌+◌, ◌≤◌, ◌≡◌, List, [], ◌∷◌, cond, length, take, drop, ltb}
-use Rattle.answers.specs.declared.Written.{Written}
+use Rattle.std.specs.Prelude.{ℕ, ◌+◌, ◌≤◌, ◌≡◌, List, [], ◌∷◌, cond, length, take, drop, ltb, Result}
+use Rattle.refusals.specs.declared.Refusal.{Refusal}
 use Rattle.answers.specs.Answers.{wrote, said_of_writer}
 use Rattle.answers.specs.Once.{Outcome, OneOutcome}
 use Rattle.tables.specs.Refusals.{Row, row, all, verdict}
@@ -30,7 +30,7 @@ unfoldable pub record_length : ℕ → ℕ
 record_length size = cond (ltb longest_recorded size) 0 (length (length_bytes size) + size)
 
 -- the promise of `write_record`
-abbrev pub WriteRecordPromise : List ℕ → List ℕ → Written → List ℕ → Type 0
+abbrev pub WriteRecordPromise : List ℕ → List ℕ → Result ℕ Refusal → List ℕ → Type 0
 WriteRecordPromise out packet r after = wrote_of (said_of_writer r) after ≡ recording out packet
 
 -- the promise of `record_length`
@@ -39,7 +39,7 @@ RecordLengthPromise size r = r ≡ record_length size
 
 -- each promise allows one outcome
 abbrev pub WriteRecordOnce : Type 0
-WriteRecordOnce = (out packet : List ℕ) → OneOutcome (λ (y : Outcome Written (List ℕ)). WriteRecordPromise out packet y.answer y.after)
+WriteRecordOnce = (out packet : List ℕ) → OneOutcome (λ (y : Outcome (Result ℕ Refusal) (List ℕ)). WriteRecordPromise out packet y.answer y.after)
 
 abbrev pub RecordLengthOnce : Type 0
 RecordLengthOnce = (size : ℕ) → OneOutcome (RecordLengthPromise size)

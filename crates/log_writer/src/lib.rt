@@ -5,7 +5,7 @@ ghost use Rattle.std.specs.Prelude.{◌≡◌, ◌<◌, ◌≤◌, length, take}
 ghost use Rattle.log_records.specs.Written.{length_bytes};
 ghost use Rattle.log_writer.specs.Writing.{RecordLengthPromise, WriteRecordPromise};
 
-use answers::Written;
+use refusals::Refusal;
 
 // The longest packet that a record can hold.
 const LONGEST: usize = 16383;
@@ -42,19 +42,19 @@ pub fn record_length(size: usize) -> usize
 }
 
 // Writes the record of the packet into the front of `out`.
-pub fn write_record(out: &mut [u8], packet: &[u8]) -> Written
+pub fn write_record(out: &mut [u8], packet: &[u8]) -> Result<usize, Refusal>
     ensures { WriteRecordPromise out.old packet.now result out.new }
 {
     if LONGEST < packet.len() {
-        return Written::Refused(12);
+        return Err(Refusal::Buffer);
     }
     let front = front_of(packet.len());
     let length = front + packet.len();
     if out.len() < length {
-        return Written::Refused(16);
+        return Err(Refusal::Out);
     }
     let groups = groups_of(packet.len());
     lists::copy(out, &groups[..front]);
     lists::store(out, front, packet);
-    Written::Length(length)
+    Ok(length)
 }

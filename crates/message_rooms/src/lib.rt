@@ -2,6 +2,7 @@
 #![tactic(auto)]
 
 ghost use Rattle.std.specs.Prelude.{◌≡◌, false, ◌+◌, ◌<◌, ◌≤◌, ◌^◌, length};
+ghost use Rattle.refusals.specs.Numbers.{number_of};
 ghost use Rattle.answers.specs.Answers.{said};
 ghost use Rattle.responses.specs.Type13.{DONE, answered};
 ghost use Rattle.contexts.specs.State.{ids_in, message_contexts};
@@ -10,7 +11,8 @@ ghost use Rattle.rules.specs.Inside.{Sound};
 ghost use Rattle.message_rooms.specs.Placing.{message_joining, message_placed};
 ghost use Rattle.message_rooms.specs.Inside.{CanReply, reply_size, MessageReady, MessageFits, MessageKept, Replied};
 
-use answers::Reading;
+use answers::{Answer, Reading};
+use refusals::Refusal;
 use wire::MessageSegment;
 
 // The bytes of a message context's room, and of the memory that has one for each.
@@ -23,15 +25,15 @@ pub fn refuse(
     state: &[usize],
     response: &mut [u8],
     packet: &[u8],
-    number: usize,
+    refusal: Refusal,
     status: u8,
 ) -> Reading
     requires { CanReply state.now response.old packet.now × (status < 16) }
-    ensures { Replied (state_of state.now) response.old packet.now number status (said result.answer) response.new
+    ensures { Replied (state_of state.now) response.old packet.now (number_of refusal) status (said result.answer) response.new
         × (result.dropped ≡ false) × (result.response ≡ reply_size (state_of state.now)) }
 {
     let written = responses::respond(response, packet, contexts::narrow(state), status);
-    answers::refusal(number, false, written)
+    answers::refusal(refusal, false, written)
 }
 
 // An accepted segment: its response is DONE; how long it is. Every caller has a buffer for it and a packet with its head.
@@ -58,17 +60,16 @@ fn keep(
 {
     if marks::complete(marks as u16, m.msglen) {
         message_contexts::close_message(state, n);
-        return Figures {
-            kind: answers::MESSAGE,
-            number: 0,
+        return Reading {
+            answer: Ok(Answer::Message {
+                context: n,
+                source: m.source,
+                letter: m.letter,
+                mailbox: message_rules::mailbox_of(m),
+                length: m.msglen * sizes::bytes_of(m.ssize) + last,
+            }),
             dropped: false,
             response: written,
-            context: n,
-            source: m.source,
-            cos_or_letter: m.letter,
-            stream_or_mailbox: message_rules::mailbox_of(m),
-            length: m.msglen * sizes::bytes_of(m.ssize) + last,
-            priority: 0,
         };
     }
     message_contexts::keep_message(

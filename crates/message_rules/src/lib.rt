@@ -2,10 +2,12 @@
 #![tactic(auto)]
 
 ghost use Rattle.std.specs.Prelude.{◌≡◌, true, ◌<◌};
+ghost use Rattle.refusals.specs.Numbers.{refused_by};
 ghost use Rattle.wire.specs.Type11.{is_last, mailbox};
 ghost use Rattle.sizes.specs.Sizes.{bytes_of};
 ghost use Rattle.rules.specs.Messages.{judged, last_with};
 
+use refusals::Refusal;
 use wire::MessageSegment;
 
 // Whether a segment is its message's last, or only one.
@@ -18,35 +20,35 @@ pub fn is_last(m: MessageSegment) -> bool
     m.msgseg == m.msglen
 }
 
-// Row 21 of a last segment: the refusal, or 0. It is never past the last. Row 20 has refused a reserved size.
-fn judge_last(m: MessageSegment, size: usize) -> usize
+// Row 21 of a last segment. It is never past the last. Row 20 has refused a reserved size.
+fn judge_last(m: MessageSegment, size: usize) -> Result<(), Refusal>
     requires { (size ≡ bytes_of m.ssize) × (0 < size) × (is_last m ≡ true) }
-    ensures { result ≡ judged m }
+    ensures { refused_by result ≡ judged m }
 {
     if sizes::in_eights(m.raw, size) {
-        return 0;
+        return Ok(());
     }
-    21
+    Err(Refusal::SegmentLength)
 }
 
-// Rows 20 to 22: the refusal, or 0. Whether it is the last is asked once.
-pub fn judge(m: MessageSegment) -> usize
-    ensures { result ≡ judged m }
+// Rows 20 to 22. Whether it is the last is asked once.
+pub fn judge(m: MessageSegment) -> Result<(), Refusal>
+    ensures { refused_by result ≡ judged m }
 {
     let size = sizes::bytes_of(m.ssize);
     if size == 0 {
-        return 20;
+        return Err(Refusal::Ssize);
     }
     if is_last(m) {
         return judge_last(m, size);
     }
     if m.raw != size {
-        return 21;
+        return Err(Refusal::SegmentLength);
     }
     if m.msglen < m.msgseg {
-        return 22;
+        return Err(Refusal::PastLast);
     }
-    0
+    Ok(())
 }
 
 // The mailbox of a message of one segment, or of several. Every caller has fields of a packet.

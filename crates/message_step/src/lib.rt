@@ -10,7 +10,8 @@ ghost use Rattle.message_rooms.specs.Placing.{message_joining};
 ghost use Rattle.message_rooms.specs.Inside.{message_for, reply_size, MessageReady};
 ghost use Rattle.messages.specs.Joining.{message_stepped};
 
-use answers::Reading;
+use answers::{Answer, Reading};
+use refusals::Refusal;
 use wire::MessageSegment;
 
 // A single-segment message: the lowest free context, delivered at once.
@@ -27,10 +28,15 @@ fn take_alone(
         ≡ message_stepped (state_of state.old) memory.old response.old packet.now m)
         × (result.dropped ≡ false) × (result.response ≡ reply_size (state_of state.old)) }
 {
-    let n = finding::free_message(state);
-    if contexts::MESSAGE_CONTEXTS <= n {
-        return message_rooms::refuse(state, response, packet, 25, responses::RETRY);
-    }
+    let Some(n) = finding::free_message(state) else {
+        return message_rooms::refuse(
+            state,
+            response,
+            packet,
+            Refusal::MessagesFull,
+            responses::RETRY,
+        );
+    };
     lists::store(
         memory,
         n * message_rooms::ROOM,
@@ -39,17 +45,16 @@ fn take_alone(
     let written = message_rooms::done(state, response, packet);
     // it was free, but a given state may have other words than 0 in it
     message_contexts::close_message(state, n);
-    Figures {
-        kind: answers::MESSAGE,
-        number: 0,
+    Reading {
+        answer: Ok(Answer::Message {
+            context: n,
+            source: m.source,
+            letter: m.letter,
+            mailbox: message_rules::mailbox_of(m),
+            length: m.raw,
+        }),
         dropped: false,
         response: written,
-        context: n,
-        source: m.source,
-        cos_or_letter: m.letter,
-        stream_or_mailbox: message_rules::mailbox_of(m),
-        length: m.raw,
-        priority: 0,
     }
 }
 
@@ -66,19 +71,19 @@ fn take(
         ≡ message_stepped (state_of state.old) memory.old response.old packet.now m)
         × (result.dropped ≡ false) × (result.response ≡ reply_size (state_of state.old)) }
 {
-    let number = message_rules::judge(m);
-    if number != 0 {
-        return message_rooms::refuse(state, response, packet, number, responses::ERROR);
+    if let Err(refusal) = message_rules::judge(m) {
+        return message_rooms::refuse(state, response, packet, refusal, responses::ERROR);
     }
     if m.msglen == 0 {
         return take_alone(state, memory, response, packet, m);
     }
-    let c = choosing::choose(state, m);
-    if c.number != 0 {
-        let status = choosing::status_of(c.number);
-        return message_rooms::refuse(state, response, packet, c.number, status);
+    match choosing::choose(state, m) {
+        Ok(c) => message_rooms::place(state, memory, response, packet, m, c.n, c.marks, c.last),
+        Err(refusal) => {
+            let status = choosing::status_of(refusal);
+            message_rooms::refuse(state, response, packet, refusal, status)
+        }
     }
-    message_rooms::place(state, memory, response, packet, m, c.n, c.marks, c.last)
 }
 
 // A type 11 packet from row 20 on. Every caller has tested the state, the buffers' sizes and the packet's head.

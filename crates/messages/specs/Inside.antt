@@ -1,5 +1,7 @@
 -- What the functions of choosing and message_step rely on and promise each other. No promise of a public call speaks of it.
-use Rattle.std.specs.Prelude.{ℕ, ◌<◌, ◌≡◌, List, false, cond, eqb, length}
+use Rattle.std.specs.Prelude.{ℕ, ◌<◌, ◌≡◌, List, false, cond, eqb, length, Result, IfOk}
+use Rattle.refusals.specs.declared.Refusal.{Refusal}
+use Rattle.refusals.specs.Numbers.{refused_by}
 use Rattle.wire.specs.declared.MessageSegment.{MessageSegment}
 use Rattle.wire.specs.Type11.{is_single}
 use Rattle.responses.specs.Type13.{ERROR, RETRY}
@@ -33,6 +35,6 @@ pub record Goes (s : State) (m : MessageSegment) (n marks last : ℕ) : Type 0 w
   pub fits : MessageFits m n marks last
 
 -- refused by a row, or where it goes
-pub record Chooses (s : State) (m : MessageSegment) (c : Chosen) : Type 0 where
-  pub row : c.number ≡ refusal_by_state s m
-  pub goes : c.number ≡ 0 → Goes s m c.n c.marks c.last
+pub record Chooses (s : State) (m : MessageSegment) (r : Result Chosen Refusal) : Type 0 where
+  pub row : refused_by r ≡ refusal_by_state s m
+  pub goes : IfOk r (λ c. Goes s m c.n c.marks c.last)

@@ -1,11 +1,9 @@
 // What a type 11 packet does, from row 20 of the refusal table on: definitions and their laws. choosing and message_step are the code.
 #![tactic(auto)]
 
-// Where a segment of a message of several goes: refused by a row's number, or 0 and context n with the marks and the last segment's length that
-// it has so far.
+// Where a segment of a message of several goes: context n, with the marks and the last segment's length that it has so far.
 #[derive(Clone, Copy)]
 pub struct Chosen {
-    pub number: usize,
     pub n: usize,
     pub marks: usize,
     pub last: usize,

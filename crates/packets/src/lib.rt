@@ -3,9 +3,11 @@
 
 ghost use Rattle.reading.specs.Desk.{desk};
 ghost use Rattle.reading.specs.Table.{lent};
-ghost use Rattle.reading.specs.Inside.{ReadyToRead, FiguresPromise};
+ghost use Rattle.reading.specs.Read.{ReadPromise};
+ghost use Rattle.reading.specs.Inside.{ReadyToRead};
 
 use answers::Reading;
+use heads::PacketType;
 
 // One packet. Every caller has tested the state and the memories; a run over many packets tests them once.
 pub fn step(
@@ -16,17 +18,14 @@ pub fn step(
     packet: &[u8],
 ) -> Reading
     requires { ReadyToRead (desk state.old stream_memory.old message_memory.old response.old) }
-    ensures { FiguresPromise (lent (desk state.old stream_memory.old message_memory.old response.old) packet.now)
+    ensures { ReadPromise (lent (desk state.old stream_memory.old message_memory.old response.old) packet.now)
         result (desk state.new stream_memory.new message_memory.new response.new) }
 {
-    let kind = heads::head(packet, contexts::device(state), contexts::narrow(state));
-    if kind < 9 {
-        return answers::refusal(kind, false, 0);
+    match heads::head(packet, contexts::device(state), contexts::narrow(state)) {
+        Ok(PacketType::DataStreaming) => stream_step::step(state, stream_memory, packet),
+        Ok(PacketType::Message) => message_step::step(state, message_memory, response, packet),
+        Err(refusal) => answers::refusal(refusal, false, 0),
     }
-    if kind == 9 {
-        return stream_step::step(state, stream_memory, packet);
-    }
-    message_step::step(state, message_memory, response, packet)
 }
 
 // Reads one packet: rows 19 and 12, then the packet by its type, as the step above does. With the same lines in both, neither waits for a call before
@@ -38,19 +37,15 @@ pub fn read(
     response: &mut [u8],
     packet: &[u8],
 ) -> Reading
-    ensures { FiguresPromise (lent (desk state.old stream_memory.old message_memory.old response.old) packet.now)
+    ensures { ReadPromise (lent (desk state.old stream_memory.old message_memory.old response.old) packet.now)
         result (desk state.new stream_memory.new message_memory.new response.new) }
 {
-    let number = reading::lent_refusal(state, stream_memory, message_memory, response);
-    if number != 0 {
-        return answers::refusal(number, false, 0);
+    if let Err(refusal) = reading::lent_refusal(state, stream_memory, message_memory, response) {
+        return answers::refusal(refusal, false, 0);
     }
-    let head = heads::head(packet, contexts::device(state), contexts::narrow(state));
-    if head < 9 {
-        return answers::refusal(head, false, 0);
+    match heads::head(packet, contexts::device(state), contexts::narrow(state)) {
+        Ok(PacketType::DataStreaming) => stream_step::step(state, stream_memory, packet),
+        Ok(PacketType::Message) => message_step::step(state, message_memory, response, packet),
+        Err(refusal) => answers::refusal(refusal, false, 0),
     }
-    if head == 9 {
-        return stream_step::step(state, stream_memory, packet);
-    }
-    message_step::step(state, message_memory, response, packet)
 }

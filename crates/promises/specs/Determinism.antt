@@ -1,12 +1,9 @@
 -- Determinism: of each call, any two outcomes that its promise allows are one, in the answer, the state and every lent byte. No exceptions.
-use Rattle.std.specs.Prelude.{ℕ, ◌≡◌, List}
+use Rattle.std.specs.Prelude.{ℕ, ◌≡◌, List, Result, ⊤}
 use Rattle.std.specs.Borrow.{Bor}
 use Rattle.answers.specs.declared.Reading.{Reading}
-use Rattle.answers.specs.declared.Begun.{Begun}
 use Rattle.answers.specs.declared.Abandoned.{Abandoned}
-use Rattle.answers.specs.declared.StreamAsked.{StreamAsked}
-use Rattle.answers.specs.declared.MessageAsked.{MessageAsked}
-use Rattle.answers.specs.declared.Written.{Written}
+use Rattle.refusals.specs.declared.Refusal.{Refusal}
 use Rattle.answers.specs.Once.{Outcome, OneOutcome}
 use Rattle.wire.specs.declared.Setup.{Setup}
 use Rattle.reading.specs.Desk.{Desk}
@@ -25,13 +22,13 @@ OneRoom allowed = (r r' : Bor (List ℕ)) → allowed r → allowed r' → (r.re
 
 pub record OneOutcomeEach : Type 0 where
   pub state_length : OneOutcome LengthPromise
-  pub setup : (words : List ℕ) (settings : Setup) → OneOutcome (λ (y : Outcome Begun (List ℕ)). SetupPromise words settings y.answer y.after)
+  pub setup : (words : List ℕ) (settings : Setup) → OneOutcome (λ (y : Outcome (Result ⊤ Refusal) (List ℕ)). SetupPromise words settings y.answer y.after)
   pub read : (x : Lent) → OneOutcome (λ (y : Outcome Reading Desk). ReadPromise x y.answer y.after)
-  pub abandon_stream_lem : (words : List ℕ) (n : ℕ) → OneOutcome (λ (y : Outcome Abandoned (List ℕ)). AbandonStreamPromise words n y.answer y.after)
-  pub abandon_message_lem : (words : List ℕ) (n : ℕ) → OneOutcome (λ (y : Outcome Abandoned (List ℕ)). AbandonMessagePromise words n y.answer y.after)
+  pub abandon_stream_lem : (words : List ℕ) (n : ℕ) → OneOutcome (λ (y : Outcome (Result Abandoned Refusal) (List ℕ)). AbandonStreamPromise words n y.answer y.after)
+  pub abandon_message_lem : (words : List ℕ) (n : ℕ) → OneOutcome (λ (y : Outcome (Result Abandoned Refusal) (List ℕ)). AbandonMessagePromise words n y.answer y.after)
   pub stream_context : (words : List ℕ) (n : ℕ) → OneOutcome (StreamContextPromise words n)
   pub message_context_lem : (words : List ℕ) (n : ℕ) → OneOutcome (MessageContextPromise words n)
   pub stream_room_lem : (words : List ℕ) (memory : Bor (List ℕ)) (n l : ℕ) → OneRoom (StreamRoomPromise words memory n l)
   pub message_room_lem : (words : List ℕ) (memory : Bor (List ℕ)) (n l : ℕ) → OneRoom (MessageRoomPromise words memory n l)
   pub segment_count_lem : (mtu size : ℕ) → OneOutcome (CountPromise mtu size)
-  pub write_segment : (out : List ℕ) (h : Heading) (mtu : ℕ) (pdu : List ℕ) (k : ℕ) → OneOutcome (λ (y : Outcome Written (List ℕ)). WritePromise out h mtu pdu k y.answer y.after)
+  pub write_segment : (out : List ℕ) (h : Heading) (mtu : ℕ) (pdu : List ℕ) (k : ℕ) → OneOutcome (λ (y : Outcome (Result ℕ Refusal) (List ℕ)). WritePromise out h mtu pdu k y.answer y.after)

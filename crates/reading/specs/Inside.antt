@@ -1,20 +1,11 @@
--- What packets, and a burst, rely on and promise those above. No promise of a public call speaks of it.
+-- What packets, and a burst, rely on. No promise of a public call speaks of it.
 use Rattle.std.specs.Prelude.{ℕ, ◌≤◌, ◌*◌, ◌≡◌, false, length}
-use Rattle.answers.specs.declared.Figures.{Figures}
-use Rattle.answers.specs.Figures.{telling, AllSet}
 use Rattle.responses.specs.Type13.{response_size}
 use Rattle.contexts.specs.State.{ids_in, stream_contexts}
 use Rattle.contexts.specs.Words.{state_words}
 use Rattle.refusal19.specs.Refusal19.{named_by_19}
 use Rattle.message_rooms.specs.Placing.{message_memory_bytes}
 use Rattle.reading.specs.Desk.{Desk, state_on}
-use Rattle.reading.specs.Table.{Lent}
-use Rattle.reading.specs.Read.{settled, reading}
-
--- the promise of reading, of an answer as numbers
-pub record FiguresPromise (x : Lent) (t : Figures) (after : Desk) : Type 0 where
-  pub promised : settled (telling t) t.dropped t.response after ≡ reading x
-  pub numbers : AllSet t t.dropped t.response
 
 -- rows 19 and 12 passed, the response buffer aside: what a run over many packets keeps
 pub record Fit (d : Desk) : Type 0 where

@@ -2,10 +2,13 @@
 #![tactic(auto)]
 
 ghost use Rattle.std.specs.Prelude.{◌≡◌, false, length};
+ghost use Rattle.refusals.specs.Numbers.{refused_by};
 ghost use Rattle.contexts.specs.Words.{state_of, state_words};
 ghost use Rattle.refusal19.specs.Refusal19.{named_by_19};
 ghost use Rattle.reading.specs.Desk.{desk};
 ghost use Rattle.reading.specs.Table.{wrong_sizes, lent_refusal};
+
+use refusals::Refusal;
 
 // Row 12 of the memories and the response buffer. The caller has found that 19 does not name the state.
 fn wrong_memory(
@@ -29,21 +32,18 @@ fn wrong_memory(
     response.len() < responses::size(1)
 }
 
-// What everything lent is refused with, rows 19 and 12: 19, 12 or 0. A run over many packets asks once.
+// What everything lent is refused with, rows 19 and 12. A run over many packets asks once.
 pub fn lent_refusal(
     state: &[usize],
     stream_memory: &[u8],
     message_memory: &[u8],
     response: &[u8],
-) -> usize
-    ensures { result ≡ lent_refusal (desk state.now stream_memory.now message_memory.now response.now) }
+) -> Result<(), Refusal>
+    ensures { refused_by result ≡ lent_refusal (desk state.now stream_memory.now message_memory.now response.now) }
 {
-    let number = lent_state::state_refusal(state);
-    if number != 0 {
-        return number;
-    }
+    lent_state::state_refusal(state)?;
     if wrong_memory(state, stream_memory, message_memory, response) {
-        return 12;
+        return Err(Refusal::Buffer);
     }
-    0
+    Ok(())
 }

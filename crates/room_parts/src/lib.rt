@@ -22,7 +22,7 @@ fn room_part<'a>(memory: &'a [u8], rooms: usize, room: usize, n: usize, l: usize
 pub fn stream_room<'a>(state: &[usize], memory: &'a [u8], n: usize, l: usize) -> &'a [u8]
     ensures { StreamRoomPromise state.now memory.entry n l result }
 {
-    if lent_state::state_refusal(state) != 0 {
+    if lent_state::state_refusal(state).is_err() {
         return &memory[0..0];
     }
     room_part(
@@ -38,7 +38,7 @@ pub fn stream_room<'a>(state: &[usize], memory: &'a [u8], n: usize, l: usize) ->
 pub fn message_room<'a>(state: &[usize], memory: &'a [u8], n: usize, l: usize) -> &'a [u8]
     ensures { MessageRoomPromise state.now memory.entry n l result }
 {
-    if lent_state::state_refusal(state) != 0 {
+    if lent_state::state_refusal(state).is_err() {
         return &memory[0..0];
     }
     room_part(

@@ -4,8 +4,8 @@
 ghost use Rattle.std.specs.Prelude.{◌≡◌, length};
 ghost use Rattle.writing.specs.Writer.{wide_ids, WritePromise, CountPromise};
 
-use answers::Written;
 use cutting::Heading;
+use refusals::Refusal;
 
 // The number of segments of a PDU of `length` bytes; 0 where the writer would refuse the MTU or the length.
 pub fn segment_count(mtu: usize, length: usize) -> usize
@@ -37,24 +37,24 @@ pub fn write_segment(
     mtu: usize,
     pdu: &[u8],
     number: usize,
-) -> Written
+) -> Result<usize, Refusal>
     ensures { WritePromise out.old heading mtu pdu.now number result out.new }
 {
     if wide_ids(heading) {
-        return Written::Refused(47);
+        return Err(Refusal::WideId);
     }
     if sizes::bad_mtu(mtu) {
-        return Written::Refused(18);
+        return Err(Refusal::Mtu);
     }
     if 3 < heading.priority {
-        return Written::Refused(17);
+        return Err(Refusal::Priority);
     }
     if cutting::bad_size(pdu.len()) {
-        return Written::Refused(14);
+        return Err(Refusal::Pdu);
     }
     let count = cutting::count_of(mtu, pdu.len());
     if count <= number {
-        return Written::Refused(15);
+        return Err(Refusal::NoSegment);
     }
     fitting::write_fitting(out, heading, mtu, pdu, number, count)
 }

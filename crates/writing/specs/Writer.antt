@@ -1,7 +1,7 @@
 -- The segment writer: its refusals in the paper's order, what it answers and what it leaves (document 01, after the table).
-use Rattle.std.specs.Prelude.{ℕ, ◌≡◌, List, [], ◌∷◌, Bool, cond, not, ◌||◌, length, ltb}
+use Rattle.std.specs.Prelude.{ℕ, ◌≡◌, List, [], ◌∷◌, Bool, cond, not, ◌||◌, length, ltb, Result}
 use Rattle.lists.specs.Bytes.{written}
-use Rattle.answers.specs.declared.Written.{Written}
+use Rattle.refusals.specs.declared.Refusal.{Refusal}
 use Rattle.answers.specs.Answers.{WriterSaid, wrote, write_refused, said_of_writer}
 use Rattle.tables.specs.Refusals.{Row, row, all, Verdict, refuse, accept, verdict}
 use Rattle.wire.specs.Packet.{too_wide}
@@ -52,7 +52,7 @@ unfoldable pub count_to_write : ℕ → ℕ → ℕ
 count_to_write mtu size = cond (bad_mtu mtu) 0 (cond (bad_size size) 0 (segment_count mtu size))
 
 -- the promise of `write_segment`
-abbrev pub WritePromise : List ℕ → Heading → ℕ → List ℕ → ℕ → Written → List ℕ → Type 0
+abbrev pub WritePromise : List ℕ → Heading → ℕ → List ℕ → ℕ → Result ℕ Refusal → List ℕ → Type 0
 WritePromise out h mtu pdu k r after = wrote_of (said_of_writer r) after ≡ writing out h mtu pdu k
 
 -- the promise of `segment_count`
