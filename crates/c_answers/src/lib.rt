@@ -3,60 +3,63 @@
 
 ghost use Rattle.std.specs.Prelude.{◌≡◌};
 ghost use Rattle.answers.specs.Answers.{said_of_setup, said_of_abandon, said_of_writer};
-ghost use Rattle.lists.specs.Bytes.{written};
-ghost use Rattle.c_reports.specs.Reports.{numbers_of_setup, numbers_of_abandon, numbers_of_writer};
+ghost use Rattle.c_reports.specs.Reports.{kind_number};
+ghost use Rattle.c_answers.specs.Numbers.{numbers, numbers_of_setup, numbers_of_abandon, numbers_of_writer};
 
-use answers::{Abandoned, Begun, Written};
-use c_reports::Numbers;
+use answers::Abandoned;
+use c_reports::Kind;
+use refusals::Refusal;
+
+// Its kind, and the refusal's number or the length written.
+#[repr(C)]
+#[derive(Clone, Copy)]
+pub struct Numbers {
+    pub kind: usize,
+    pub number: usize,
+}
+
+fn of(kind: Kind, number: usize) -> Numbers
+    ensures { result ≡ numbers (kind_number kind) number }
+{
+    Numbers {
+        kind: kind as usize,
+        number,
+    }
+}
 
 // What setup answers.
-pub fn of_setup(begun: Begun) -> Numbers
-    ensures { result ≡ numbers_of_setup (said_of_setup begun) }
-{
-    match begun {
-        Begun::Ready => Numbers {
-            kind: answers::READY,
-            number: 0,
-        },
-        Begun::Refused(number) => Numbers {
-            kind: answers::REFUSED,
-            number,
-        },
+impl From<Result<(), Refusal>> for Numbers {
+    ghost from_gives = { λ answer told. told ≡ numbers_of_setup (said_of_setup answer) };
+
+    fn from(answer: Result<(), Refusal>) -> Numbers {
+        match answer {
+            Ok(()) => of(Kind::Ready, 0),
+            Err(refusal) => of(Kind::Refused, refusal.number()),
+        }
     }
 }
 
 // What abandoning a context answers.
-pub fn of_abandon(abandoned: Abandoned) -> Numbers
-    ensures { result ≡ numbers_of_abandon (said_of_abandon abandoned) }
-{
-    match abandoned {
-        Abandoned::Closed => Numbers {
-            kind: answers::CLOSED,
-            number: 0,
-        },
-        Abandoned::WasFree => Numbers {
-            kind: answers::FREE,
-            number: 0,
-        },
-        Abandoned::Refused(number) => Numbers {
-            kind: answers::REFUSED,
-            number,
-        },
+impl From<Result<Abandoned, Refusal>> for Numbers {
+    ghost from_gives = { λ answer told. told ≡ numbers_of_abandon (said_of_abandon answer) };
+
+    fn from(answer: Result<Abandoned, Refusal>) -> Numbers {
+        match answer {
+            Ok(Abandoned::Closed) => of(Kind::Closed, 0),
+            Ok(Abandoned::WasFree) => of(Kind::Free, 0),
+            Err(refusal) => of(Kind::Refused, refusal.number()),
+        }
     }
 }
 
-// What the segment writer answers.
-pub fn of_writer(written: Written) -> Numbers
-    ensures { result ≡ numbers_of_writer (said_of_writer written) }
-{
-    match written {
-        Written::Length(length) => Numbers {
-            kind: answers::WRITTEN,
-            number: length,
-        },
-        Written::Refused(number) => Numbers {
-            kind: answers::REFUSED,
-            number,
-        },
+// What the writers answer.
+impl From<Result<usize, Refusal>> for Numbers {
+    ghost from_gives = { λ answer told. told ≡ numbers_of_writer (said_of_writer answer) };
+
+    fn from(answer: Result<usize, Refusal>) -> Numbers {
+        match answer {
+            Ok(length) => of(Kind::Written, length),
+            Err(refusal) => of(Kind::Refused, refusal.number()),
+        }
     }
 }

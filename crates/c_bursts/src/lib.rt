@@ -3,24 +3,29 @@
 
 ghost use Rattle.std.specs.Prelude.{◌≡◌};
 ghost use Rattle.reading.specs.Desk.{desk};
+ghost use Rattle.answers.specs.Answers.{said};
+ghost use Rattle.c_reports.specs.Reports.{kind_of};
 ghost use Rattle.c_bursts.specs.Bursts.{run, pause_of};
-ghost use Rattle.c_bursts.specs.Inside.{ReadyToRun, PacketPromise, StepPromise};
+ghost use Rattle.c_bursts.specs.Inside.{ReadyToRun, PacketPromise, StepPromise, goes_or_stops};
 
+use answers::Answer;
+use c_reports::Report;
 use log_records::Next;
+use refusals::Refusal;
 
 // The bytes of `responses` that each packet has for its own.
 pub const SLOT: usize = 8;
 
-// Why a burst stops: refused as a whole, at its end, at a bad record, without room for another report or response, or behind a delivery.
-pub const REFUSED: usize = 0;
-
-pub const END: usize = 1;
-
-pub const BAD: usize = 2;
-
-pub const FULL: usize = 3;
-
-pub const DELIVERY: usize = 4;
+// Why a burst stops: refused as a whole, at its end, at a bad record, without room for another report or response, or behind a delivery. The numbers
+// are those of include/kaiverohm.h.
+#[derive(Clone, Copy, Debug, PartialEq, Eq)]
+pub enum Stop {
+    Refused = 0,
+    End = 1,
+    Bad = 2,
+    Full = 3,
+    Delivery = 4,
+}
 
 // Why a burst stopped, the refusal's number, the packets read, and where the first unread record begins.
 #[repr(C)]
@@ -32,15 +37,15 @@ pub struct Burst {
     pub next: usize,
 }
 
-// 0 where the burst goes on, else why it stops; the packets read so far, and where the next record begins.
+// Why the burst stops, if it does; the packets read so far, and where the next record begins.
 #[derive(Clone, Copy)]
 pub struct Step {
-    pub stop: usize,
+    pub stop: Option<Stop>,
     pub count: usize,
     pub next: usize,
 }
 
-// Reads a packet, with its own slot for the response and its own words for the report. Answers the report's kind.
+// Reads a packet, with its own slot for the response and its own words for the report. Answers what reading it said.
 fn read_packet(
     state: &mut [usize],
     stream_memory: &mut [u8],
@@ -49,39 +54,32 @@ fn read_packet(
     reports: &mut [usize],
     packet: &[u8],
     count: usize,
-) -> usize
+) -> Result<Answer, Refusal>
     requires { ReadyToRun (run (desk state.old stream_memory.old message_memory.old responses.old) reports.old count 0) 1 }
     ensures { PacketPromise (run (desk state.old stream_memory.old message_memory.old responses.old) reports.old count 0)
         packet.now result (desk state.new stream_memory.new message_memory.new responses.new) reports.new }
 {
     let at = SLOT * count;
     let end = at + SLOT;
-    let told = packets::step(
+    let reading = packets::step(
         state,
         stream_memory,
         message_memory,
         &mut responses[at..end],
         packet,
     );
-    let report = c_reports::reported(told);
-    c_reports::put(reports, c_reports::WORDS * count, report);
-    report.kind
+    c_reports::put(reports, c_reports::WORDS * count, Report::from(reading));
+    reading.answer
 }
 
-// Whether the burst stops behind a packet whose report has that kind.
-fn pausing(pause: usize, kind: usize) -> usize
-    ensures { result ≡ pause_of pause kind }
+// Whether the burst stops behind a packet: where the caller asked for it, and the packet delivered a PDU or a message.
+fn pausing(pause: usize, answer: Result<Answer, Refusal>) -> Option<Stop>
+    ensures { goes_or_stops result ≡ pause_of pause (kind_of (said answer)) }
 {
-    if pause == 0 {
-        return 0;
+    match answer {
+        Ok(Answer::Delivered { .. } | Answer::Message { .. }) if pause != 0 => Some(Stop::Delivery),
+        _ => None,
     }
-    if kind == answers::DELIVERED {
-        return DELIVERY;
-    }
-    if kind == answers::MESSAGE {
-        return DELIVERY;
-    }
-    0
 }
 
 // One step: the record at a place is read, where there is one and it has room. There is room for `room` packets more.
@@ -104,24 +102,24 @@ pub fn step_at(
 {
     match log_records::next_record(burst, at) {
         Next::End => Step {
-            stop: END,
+            stop: Some(Stop::End),
             count,
             next: at,
         },
         Next::Bad => Step {
-            stop: BAD,
+            stop: Some(Stop::Bad),
             count,
             next: at,
         },
         Next::Record { from, size, next } => {
             if room == 0 {
                 return Step {
-                    stop: FULL,
+                    stop: Some(Stop::Full),
                     count,
                     next: at,
                 };
             }
-            let kind = read_packet(
+            let answer = read_packet(
                 state,
                 stream_memory,
                 message_memory,
@@ -131,7 +129,7 @@ pub fn step_at(
                 count,
             );
             Step {
-                stop: pausing(pause, kind),
+                stop: pausing(pause, answer),
                 count: count + 1,
                 next,
             }

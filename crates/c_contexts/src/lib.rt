@@ -3,9 +3,12 @@
 
 ghost use Rattle.std.specs.Prelude.{◌≡◌};
 ghost use Rattle.answers.specs.Answers.{said_of_stream, said_of_message};
-ghost use Rattle.c_contexts.specs.Open.{open_stream_of, open_message_of};
+ghost use Rattle.c_reports.specs.Reports.{kind_number};
+ghost use Rattle.c_contexts.specs.Open.{no_stream, open_stream_of, no_message, open_message_of};
 
-use answers::{MessageAsked, StreamAsked};
+use answers::{UnfinishedMessage, UnfinishedPdu};
+use c_reports::Kind;
+use refusals::Refusal;
 
 // Kind, refusal number; of an open one its flow's source and cos, its streamID, how many bytes are held, and its flow's priority.
 #[repr(C)]
@@ -35,86 +38,78 @@ pub struct OpenMessage {
     pub last: usize,
 }
 
-// What is said of a stream context.
-pub fn of_stream(asked: StreamAsked) -> OpenStream
-    ensures { result ≡ open_stream_of (said_of_stream asked) }
+// What is said of a stream context where no PDU is open: its kind, and a refusal's number.
+fn no_stream(kind: Kind, number: usize) -> OpenStream
+    ensures { result ≡ no_stream (kind_number kind) number }
 {
-    match asked {
-        StreamAsked::Open { flow, stream, held } => OpenStream {
-            kind: answers::OPEN,
-            number: 0,
-            source: flow.source,
-            cos: flow.cos,
-            stream,
-            held,
-            priority: flow.priority,
-        },
-        StreamAsked::Free => OpenStream {
-            kind: answers::FREE,
-            number: 0,
-            source: 0,
-            cos: 0,
-            stream: 0,
-            held: 0,
-            priority: 0,
-        },
-        StreamAsked::Refused(number) => OpenStream {
-            kind: answers::REFUSED,
-            number,
-            source: 0,
-            cos: 0,
-            stream: 0,
-            held: 0,
-            priority: 0,
-        },
+    OpenStream {
+        kind: kind as usize,
+        number,
+        source: 0,
+        cos: 0,
+        stream: 0,
+        held: 0,
+        priority: 0,
+    }
+}
+
+// What is said of a stream context.
+impl From<Result<Option<UnfinishedPdu>, Refusal>> for OpenStream {
+    ghost from_gives = { λ answer told. told ≡ open_stream_of (said_of_stream answer) };
+
+    fn from(answer: Result<Option<UnfinishedPdu>, Refusal>) -> OpenStream {
+        match answer {
+            Ok(Some(pdu)) => OpenStream {
+                kind: Kind::Open as usize,
+                number: 0,
+                source: pdu.flow.source,
+                cos: pdu.flow.cos,
+                stream: pdu.stream,
+                held: pdu.held,
+                priority: pdu.flow.priority,
+            },
+            Ok(None) => no_stream(Kind::Free, 0),
+            Err(refusal) => no_stream(Kind::Refused, refusal.number()),
+        }
+    }
+}
+
+// What is said of a message context where no message is open.
+fn no_message(kind: Kind, number: usize) -> OpenMessage
+    ensures { result ≡ no_message (kind_number kind) number }
+{
+    OpenMessage {
+        kind: kind as usize,
+        number,
+        source: 0,
+        letter: 0,
+        mbox: 0,
+        msglen: 0,
+        size: 0,
+        marks: 0,
+        last: 0,
     }
 }
 
 // What is said of a message context.
-pub fn of_message(asked: MessageAsked) -> OpenMessage
-    ensures { result ≡ open_message_of (said_of_message asked) }
-{
-    match asked {
-        MessageAsked::Open {
-            source,
-            letter,
-            mbox,
-            msglen,
-            size,
-            marks,
-            last,
-        } => OpenMessage {
-            kind: answers::OPEN,
-            number: 0,
-            source,
-            letter,
-            mbox,
-            msglen,
-            size,
-            marks,
-            last,
-        },
-        MessageAsked::Free => OpenMessage {
-            kind: answers::FREE,
-            number: 0,
-            source: 0,
-            letter: 0,
-            mbox: 0,
-            msglen: 0,
-            size: 0,
-            marks: 0,
-            last: 0,
-        },
-        MessageAsked::Refused(number) => OpenMessage {
-            kind: answers::REFUSED,
-            number,
-            source: 0,
-            letter: 0,
-            mbox: 0,
-            msglen: 0,
-            size: 0,
-            marks: 0,
-            last: 0,
-        },
+impl From<Result<Option<UnfinishedMessage>, Refusal>> for OpenMessage {
+    ghost from_gives = { λ answer told. told ≡ open_message_of (said_of_message answer) };
+
+    fn from(answer: Result<Option<UnfinishedMessage>, Refusal>) -> OpenMessage {
+        match answer {
+            Ok(Some(m)) => OpenMessage {
+                kind: Kind::Open as usize,
+                number: 0,
+                source: m.source,
+                letter: m.letter,
+                mbox: m.mbox,
+                msglen: m.msglen,
+                size: m.size,
+                marks: m.marks,
+                last: m.last,
+            },
+            Ok(None) => no_message(Kind::Free, 0),
+            Err(refusal) => no_message(Kind::Refused, refusal.number()),
+        }
     }
 }

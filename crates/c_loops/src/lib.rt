@@ -39,9 +39,9 @@ pub fn run_over(
             count,
             at,
         );
-        if t.stop != 0 {
+        if let Some(stop) = t.stop {
             return Burst {
-                stop: t.stop,
+                stop: stop as usize,
                 number: 0,
                 count: t.count,
                 next: t.next,

@@ -42,7 +42,7 @@ fn room_at(rooms: usize, room: usize, size: usize, n: usize, l: usize) -> Place
 pub fn stream_place(state: &[usize], size: usize, n: usize, l: usize) -> Place
     ensures { StreamPlacePromise state.now size n l result }
 {
-    if lent_state::state_refusal(state) != 0 {
+    if lent_state::state_refusal(state).is_err() {
         return nowhere();
     }
     room_at(contexts::STREAM_CONTEXTS, contexts::room(state), size, n, l)
@@ -52,7 +52,7 @@ pub fn stream_place(state: &[usize], size: usize, n: usize, l: usize) -> Place
 pub fn message_place(state: &[usize], size: usize, n: usize, l: usize) -> Place
     ensures { MessagePlacePromise state.now size n l result }
 {
-    if lent_state::state_refusal(state) != 0 {
+    if lent_state::state_refusal(state).is_err() {
         return nowhere();
     }
     room_at(contexts::MESSAGE_CONTEXTS, message_rooms::ROOM, size, n, l)

@@ -2,28 +2,22 @@
 use Rattle.std.specs.Prelude.{ℕ, List, [], ◌∷◌, Bool, cond}
 use Rattle.lists.specs.Bytes.{byte}
 use Rattle.answers.specs.Answers.{Said, held, delivered, message, refused}
-use Rattle.answers.specs.Answers.{SetupSaid, ready, setup_refused, AbandonSaid, closed, free, abandon_refused, WriterSaid, wrote, write_refused}
-use Rattle.answers.specs.Kinds.{refused_kind, held_kind, delivered_kind, message_kind, ready_kind, closed_kind, free_kind, written_kind}
+use Rattle.answers.specs.Kinds.{refused_kind, held_kind, delivered_kind, message_kind, ready_kind, closed_kind, free_kind, written_kind, open_kind}
+use Rattle.c_reports.specs.declared.Kind.{Kind}
+use Rattle.c_reports.specs.declared.Kind.TheVariants as kind
 use Rattle.c_reports.specs.declared.Report.{Report}
-use Rattle.c_reports.specs.declared.Numbers.{Numbers}
 
--- ---- the answer of a call that reads no packet: its kind, and the refusal's number or the length written
-
-abbrev pub numbers : ℕ → ℕ → Numbers
-numbers kind number = record { kind = kind; number = number }
-
-abbrev pub numbers_of_setup : SetupSaid → Numbers
-numbers_of_setup ready = numbers ready_kind 0
-numbers_of_setup (setup_refused number) = numbers refused_kind number
-
-abbrev pub numbers_of_abandon : AbandonSaid → Numbers
-numbers_of_abandon closed = numbers closed_kind 0
-numbers_of_abandon free = numbers free_kind 0
-numbers_of_abandon (abandon_refused number) = numbers refused_kind number
-
-abbrev pub numbers_of_writer : WriterSaid → Numbers
-numbers_of_writer (wrote size) = numbers written_kind size
-numbers_of_writer (write_refused number) = numbers refused_kind number
+-- the number of a kind
+abbrev pub kind_number : Kind → ℕ
+kind_number kind.Refused = refused_kind
+kind_number kind.Held = held_kind
+kind_number kind.Delivered = delivered_kind
+kind_number kind.Message = message_kind
+kind_number kind.Ready = ready_kind
+kind_number kind.Closed = closed_kind
+kind_number kind.Free = free_kind
+kind_number kind.Written = written_kind
+kind_number kind.Open = open_kind
 
 -- ---- the report of a packet
 

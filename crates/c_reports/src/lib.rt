@@ -2,11 +2,25 @@
 #![tactic(auto)]
 
 ghost use Rattle.std.specs.Prelude.{◌≡◌, ◌+◌, ◌≤◌, length};
-ghost use Rattle.answers.specs.Figures.{telling, AllSet};
+ghost use Rattle.answers.specs.Answers.{said};
 ghost use Rattle.lists.specs.Bytes.{written};
-ghost use Rattle.c_reports.specs.Reports.{flag_of, report_of, report_words, words_of_report};
+ghost use Rattle.c_reports.specs.Reports.{kind_number, flag_of, plain_of, report_of, report_words, words_of_report};
 
-use answers::Figures;
+use answers::{Answer, Reading};
+
+// The kinds of answers, of every call, as include/kaiverohm.h has them: answers/specs/Kinds.antt.
+#[derive(Clone, Copy, Debug, PartialEq, Eq)]
+pub enum Kind {
+    Refused = 0,
+    Held = 1,
+    Delivered = 2,
+    Message = 3,
+    Ready = 4,
+    Closed = 5,
+    Free = 6,
+    Written = 7,
+    Open = 8,
+}
 
 // The words of a report.
 pub const WORDS: usize = 10;
@@ -28,31 +42,67 @@ pub struct Report {
     pub priority: usize,
 }
 
-fn flag(b: bool) -> usize
-    ensures { result ≡ flag_of b }
-{
-    if b {
-        return 1;
-    }
-    0
-}
-
-// The report of reading a packet: its numbers, each in its place. Every caller has numbers that are those of what they tell.
-pub fn reported(t: Figures) -> Report
-    requires { AllSet t t.dropped t.response }
-    ensures { result ≡ report_of (telling t) t.dropped t.response }
+// What carries no PDU and no message.
+fn plain(kind: Kind, number: usize, dropped: bool, response: usize) -> Report
+    ensures { result ≡ plain_of (kind_number kind) number (flag_of dropped) response }
 {
     Report {
-        kind: t.kind,
-        number: t.number,
-        dropped: flag(t.dropped),
-        response: t.response,
-        context: t.context,
-        source: t.source,
-        cos_or_letter: t.cos_or_letter,
-        stream_or_mailbox: t.stream_or_mailbox,
-        length: t.length,
-        priority: t.priority,
+        kind: kind as usize,
+        number,
+        dropped: usize::from(dropped),
+        response,
+        context: 0,
+        source: 0,
+        cos_or_letter: 0,
+        stream_or_mailbox: 0,
+        length: 0,
+        priority: 0,
+    }
+}
+
+// The report of reading a packet.
+impl From<Reading> for Report {
+    ghost from_gives = { λ reading report. report ≡ report_of (said reading.answer) reading.dropped reading.response };
+
+    fn from(reading: Reading) -> Report {
+        let dropped = reading.dropped;
+        let response = reading.response;
+        match reading.answer {
+            Err(refusal) => plain(Kind::Refused, refusal.number(), dropped, response),
+            Ok(Answer::Held) => plain(Kind::Held, 0, dropped, response),
+            Ok(
+                Answer::Delivered {
+                    context,
+                    flow,
+                    stream,
+                    length,
+                },
+            ) => Report {
+                context,
+                source: flow.source,
+                cos_or_letter: flow.cos,
+                stream_or_mailbox: stream,
+                length,
+                priority: flow.priority,
+                ..plain(Kind::Delivered, 0, dropped, response)
+            },
+            Ok(
+                Answer::Message {
+                    context,
+                    source,
+                    letter,
+                    mailbox,
+                    length,
+                },
+            ) => Report {
+                context,
+                source,
+                cos_or_letter: letter,
+                stream_or_mailbox: mailbox,
+                length,
+                ..plain(Kind::Message, 0, dropped, response)
+            },
+        }
     }
 }
 
@@ -71,12 +121,4 @@ pub fn put(words: &mut [usize], at: usize, r: Report)
     words[at + 7] = r.stream_or_mailbox;
     words[at + 8] = r.length;
     words[at + 9] = r.priority;
-}
-
-// The answer of a call that reads no packet: its kind, and the refusal's number or the length written.
-#[repr(C)]
-#[derive(Clone, Copy)]
-pub struct Numbers {
-    pub kind: usize,
-    pub number: usize,
 }

@@ -3,30 +3,27 @@
 #![tactic(auto)]
 
 ghost use Rattle.std.specs.Prelude.{◌≡◌};
+ghost use Rattle.refusals.specs.Numbers.{number_of};
 ghost use Rattle.reading.specs.Desk.{desk};
 ghost use Rattle.c_bursts.specs.Bursts.{refused_all, answering, room_for, BurstPromise};
 
-use c_bursts::Burst;
+use c_bursts::{Burst, Stop};
+use refusals::Refusal;
 
 // The packets that have room for a report and a response.
 fn room_for(report_words: usize, response_bytes: usize) -> usize
     ensures { result ≡ room_for report_words response_bytes }
 {
-    let a = report_words / c_reports::WORDS;
-    let b = response_bytes / c_bursts::SLOT;
-    if a < b {
-        return a;
-    }
-    b
+    (report_words / c_reports::WORDS).min(response_bytes / c_bursts::SLOT)
 }
 
 // A burst that is refused as a whole.
-fn refused(number: usize) -> Burst
-    ensures { result ≡ answering refused_all number 0 0 }
+fn refused(refusal: Refusal) -> Burst
+    ensures { result ≡ answering refused_all (number_of refusal) 0 0 }
 {
     Burst {
-        stop: c_bursts::REFUSED,
-        number,
+        stop: Stop::Refused as usize,
+        number: refusal.number(),
         count: 0,
         next: 0,
     }
@@ -46,9 +43,8 @@ pub fn read_burst(
     ensures { BurstPromise pause (desk state.old stream_memory.old message_memory.old responses.old) reports.old
         burst.now result (desk state.new stream_memory.new message_memory.new responses.new) reports.new }
 {
-    let number = reading::lent_refusal(state, stream_memory, message_memory, responses);
-    if number != 0 {
-        return refused(number);
+    if let Err(refusal) = reading::lent_refusal(state, stream_memory, message_memory, responses) {
+        return refused(refusal);
     }
     let room = room_for(reports.len(), responses.len());
     c_loops::run_over(

@@ -9,9 +9,9 @@ use Rattle.endpoint.specs.Calls.{setup}
 use Rattle.abandoning.specs.Abandoning.{abandon_stream, abandon_message}
 use Rattle.cutting.specs.declared.Heading.{Heading}
 use Rattle.writing.specs.Writer.{writing}
-use Rattle.c_reports.specs.declared.Numbers.{Numbers}
+use Rattle.c_answers.specs.declared.Numbers.{Numbers}
 use Rattle.c_reports.specs.declared.Report.{Report}
-use Rattle.c_reports.specs.Reports.{numbers_of_setup, numbers_of_abandon, numbers_of_writer}
+use Rattle.c_answers.specs.Numbers.{numbers_of_setup, numbers_of_abandon, numbers_of_writer}
 use Rattle.asking.specs.Asking.{ask_stream, ask_message}
 use Rattle.c_contexts.specs.declared.OpenStream.{OpenStream}
 use Rattle.c_contexts.specs.declared.OpenMessage.{OpenMessage}

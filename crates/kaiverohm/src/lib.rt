@@ -13,10 +13,11 @@ ghost use Rattle.kaiverohm.specs.Exports.{InterfacePromise, WriteRecordFromCProm
 ghost use Rattle.kaiverohm.specs.Exports.{SetupFromCPromise, ReadFromCPromise, AbandonStreamFromCPromise, AbandonMessageFromCPromise, WriteFromCPromise};
 ghost use Rattle.kaiverohm.specs.Exports.{StreamContextFromCPromise, MessageContextFromCPromise};
 
+use c_answers::Numbers;
 use c_bursts::Burst;
 use c_contexts::{OpenMessage, OpenStream};
 use c_places::Place;
-use c_reports::{Numbers, Report};
+use c_reports::Report;
 use cutting::Heading;
 use wire::Setup;
 
@@ -38,7 +39,7 @@ pub fn kaiverohm_state_length() -> usize
 pub fn kaiverohm_setup(state: &mut [usize], settings: Setup) -> Numbers
     ensures { SetupFromCPromise state.old settings result state.new }
 {
-    c_answers::of_setup(endpoint::setup(state, settings))
+    Numbers::from(endpoint::setup(state, settings))
 }
 
 // Reads one packet.
@@ -52,8 +53,7 @@ pub fn kaiverohm_read(
     ensures { ReadFromCPromise (lent (desk state.old stream_memory.old message_memory.old response.old) packet.now)
         result (desk state.new stream_memory.new message_memory.new response.new) }
 {
-    let told = packets::read(state, stream_memory, message_memory, response, packet);
-    c_reports::reported(told)
+    Report::from(endpoint::read(state, stream_memory, message_memory, response, packet))
 }
 
 // Reads the packets of a burst.
@@ -84,28 +84,28 @@ pub fn kaiverohm_read_burst(
 pub fn kaiverohm_stream_context(state: &[usize], n: usize) -> OpenStream
     ensures { StreamContextFromCPromise state.now n result }
 {
-    c_contexts::of_stream(endpoint::stream_context(state, n))
+    OpenStream::from(endpoint::stream_context(state, n))
 }
 
 // What message context n holds.
 pub fn kaiverohm_message_context(state: &[usize], n: usize) -> OpenMessage
     ensures { MessageContextFromCPromise state.now n result }
 {
-    c_contexts::of_message(endpoint::message_context(state, n))
+    OpenMessage::from(endpoint::message_context(state, n))
 }
 
 // Gives the PDU of stream context n up.
 pub fn kaiverohm_abandon_stream(state: &mut [usize], n: usize) -> Numbers
     ensures { AbandonStreamFromCPromise state.old n result state.new }
 {
-    c_answers::of_abandon(endpoint::abandon_stream(state, n))
+    Numbers::from(endpoint::abandon_stream(state, n))
 }
 
 // Gives the message of message context n up.
 pub fn kaiverohm_abandon_message(state: &mut [usize], n: usize) -> Numbers
     ensures { AbandonMessageFromCPromise state.old n result state.new }
 {
-    c_answers::of_abandon(endpoint::abandon_message(state, n))
+    Numbers::from(endpoint::abandon_message(state, n))
 }
 
 // Where the first l bytes of stream context n's room lie, in a stream memory of that size.
@@ -139,7 +139,7 @@ pub fn kaiverohm_write_segment(
 ) -> Numbers
     ensures { WriteFromCPromise out.old heading mtu pdu.now number result out.new }
 {
-    c_answers::of_writer(segments::write_segment(out, heading, mtu, pdu, number))
+    Numbers::from(segments::write_segment(out, heading, mtu, pdu, number))
 }
 
 // How many bytes the record of a packet has.
@@ -153,5 +153,5 @@ pub fn kaiverohm_record_length(packet_length: usize) -> usize
 pub fn kaiverohm_write_record(out: &mut [u8], packet: &[u8]) -> Numbers
     ensures { WriteRecordFromCPromise out.old packet.now result out.new }
 {
-    c_answers::of_writer(log_writer::write_record(out, packet))
+    Numbers::from(log_writer::write_record(out, packet))
 }

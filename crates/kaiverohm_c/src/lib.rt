@@ -13,10 +13,11 @@ ghost use Rattle.kaiverohm.specs.Exports.{InterfacePromise, WriteRecordFromCProm
 ghost use Rattle.kaiverohm.specs.Exports.{SetupFromCPromise, ReadFromCPromise, AbandonStreamFromCPromise, AbandonMessageFromCPromise, WriteFromCPromise};
 ghost use Rattle.kaiverohm.specs.Exports.{StreamContextFromCPromise, MessageContextFromCPromise};
 
+use c_answers::Numbers;
 use c_bursts::Burst;
 use c_contexts::{OpenMessage, OpenStream};
 use c_places::Place;
-use c_reports::{Numbers, Report};
+use c_reports::Report;
 use cutting::Heading;
 use wire::Setup;
 
