@@ -3,6 +3,7 @@ use Prim.Native.Nat.{ℕ, ◌-◌, ◌≤◌, ◌<◌}
 use mathlib.Core.Path.{◌≡◌, refl, ap, sym, ◌∙◌}
 use mathlib.Core.List.{List, [], ◌∷◌}
 use mathlib.Core.Bool.{cond}
+use native.Mathlib.Omega.{arith}
 use lib.Dec.{eqb}
 use lib.ListN.{get_or}
 use Rattle.refusals.specs.declared.Refusal.{Refusal}
@@ -49,3 +50,11 @@ back row.WideId = refl
 -- no two rows have one number
 pub number_once : (a b : Refusal) → number_of a ≡ number_of b → a ≡ b
 number_once a b e = sym (back a) ∙ (ap refusal_of e ∙ back b)
+
+-- no row has the number 0
+pub number_some : (r : Refusal) → number_of r ≡ 0 → ⊥
+unfolding refusal_of
+number_some r z =
+    let is : row.WideId ≡ r = ap refusal_of (sym z) ∙ back r in
+    let zero : number_of row.WideId ≡ 0 = ap number_of is ∙ z in
+    omega arith
