@@ -46,20 +46,6 @@ data_whole ids p raw inside =
     let place : length p - raw ≡ message_data_from ids = omega arith in
     ap (λ (n : ℕ). take (length p - n) (drop n p)) place ∙ take_all (length p - message_data_from ids) (drop (message_data_from ids) p) (simp length-drop (omega arith))
 
--- ---- a response, by the number that chooses the width
-
-module _ (s : State) {narrow : ℕ} (e : narrow ≡ s.setup.narrow) where
-  pub reply_made : {written : ℕ} {after : List ℕ} (before packet : List ℕ) (status : ℕ)
-      → (written ≡ response_size (id_bytes narrow)) × (after ≡ answered (id_bytes narrow) before packet status)
-      → (written ≡ reply_size s) × (after ≡ answered (ids_in s) before packet status)
-  reply_made {written} {after} before packet status r =
-      subst (λ (n : ℕ). (written ≡ response_size (id_bytes n)) × (after ≡ answered (id_bytes n) before packet status)) e r
-
-pub reply_requires : (words : List ℕ) {narrow : ℕ} {response packet : List ℕ} → narrow ≡ (state_of words).setup.narrow → CanReply words response packet
-    → (response_size (id_bytes narrow) ≤ length response) × (header (id_bytes narrow) + 2 ≤ length packet)
-reply_requires words {narrow} {response} {packet} e r =
-    subst (λ (n : ℕ). (response_size (id_bytes n) ≤ length response) × (header (id_bytes n) + 2 ≤ length packet)) (sym e) (r.room, r.head)
-
 -- where the rest of the step can be
 pub can_reply : {words memory response packet : List ℕ} {m : MessageSegment} → MessageReady words memory response packet m → CanReply words response packet
 can_reply r = record { words_whole = r.whole; room = r.reply; head = omega (arith, r.inside) }
