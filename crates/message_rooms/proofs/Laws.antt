@@ -1,6 +1,6 @@
 -- Laws of a context's room: where its segments end, and what a store and a context put make of it.
 use Prim.Native.Nat.{ℕ, ◌≤◌, ◌<◌, ◌+◌, ◌-◌, ◌*◌, ◌^◌}
-use mathlib.Core.Path.{◌≡◌, sym, ap, subst, ◌∙◌}
+use mathlib.Core.Path.{◌≡◌, ap, ◌∙◌}
 use mathlib.Core.List.{List}
 use native.Mathlib.Omega.{arith}
 use native.Mathlib.Nat.{mul-le-mul_right}
@@ -10,15 +10,13 @@ use lib.Pow.{pow_mono}
 use Rattle.lists.specs.Bytes.{written}
 use Rattle.answers.specs.Answers.{Said}
 use Rattle.wire.specs.declared.MessageSegment.{MessageSegment}
-use Rattle.wire.specs.Packet.{header, id_bytes}
 use Rattle.wire.specs.Type11.{message_data_from}
 use Rattle.sizes.specs.Sizes.{bytes_of}
-use Rattle.responses.specs.Type13.{response_size, DONE, answered}
+use Rattle.responses.specs.Type13.{DONE, answered}
 use Rattle.contexts.specs.State.{State, ids_in, message_contexts}
-use Rattle.contexts.specs.Words.{state_of}
 use Rattle.rules.specs.Messages.{last_with}
 use Rattle.message_rooms.specs.Placing.{message_joining, message_data, marks_with, message_placed, message_room_bytes, message_memory_bytes}
-use Rattle.message_rooms.specs.Inside.{MessageKept, reply_size, CanReply, MessageReady}
+use Rattle.message_rooms.specs.Inside.{MessageKept, CanReply, MessageReady}
 
 -- ---- numbers that stay inside
 
