@@ -12,13 +12,14 @@ use Rattle.answers.specs.Answers.{Said}
 use Rattle.wire.specs.declared.MessageSegment.{MessageSegment}
 use Rattle.wire.specs.Type11.{message_data_from}
 use Rattle.sizes.specs.Sizes.{bytes_of}
+use Rattle.sizes.proofs.Laws.{bytes_le}
 use Rattle.responses.specs.Type13.{DONE, answered}
 use Rattle.contexts.specs.State.{State, ids_in, message_contexts}
 use Rattle.rules.specs.Messages.{last_with}
 use Rattle.message_rooms.specs.Placing.{message_joining, message_data, marks_with, message_placed, message_room_bytes, message_memory_bytes}
 use Rattle.message_rooms.specs.Inside.{MessageKept, CanReply, MessageReady}
 
--- ---- numbers that stay inside
+-- ---- numbers that stay inside (`small`)
 
 pub product_le : (k size : ℕ) → k < 16 → size ≤ 256 → k * size ≤ 3840
 product_le k size b h =
@@ -34,6 +35,8 @@ pub marks_le : (marks msglen : ℕ) → msglen < 16 → marks < 2 ^ (msglen + 1)
 marks_le marks msglen h m =
     let bound : 2 ^ (msglen + 1) ≤ 65536 = pow_mono {j = 16} (omega arith) in
     omega arith
+
+pub ruleset small = (bytes_le, product_le, segment-ends)
 
 -- ---- what the stores and the context make
 

@@ -1,29 +1,11 @@
 -- `message_rooms::place` meets its contract: the store ends inside the room, and a mark that was not set leaves room for it.
-use Rattle.std.proofs.Common.{ℕ, ◌+◌, ◌<◌, ◌≤◌, ◌^◌, sym, subst, arith, length-take, length-drop}
+use Rattle.std.proofs.Common.{ℕ, ◌+◌, ◌<◌, ◌≤◌, ◌^◌, sym, subst, arith}
 use Rattle.sizes.proofs.Laws.{bytes_le}
 use Rattle.marks.proofs.Marks.{room_for_mark}
 use Rattle.contexts.specs.Words.{state_of}
 use Rattle.rules.proofs.Laws.{last_with_le}
-use Rattle.message_rooms.proofs.Laws.{placing, product_le, segment-ends}
+use Rattle.message_rooms.proofs.Laws.{placing}
 use Rattle.message_rooms.proofs.place.Goals as goal
-
--- the segment's place in its room
-pub overflow_mul-m : goal.overflow_mul-m
-overflow_mul-m c =
-    let z : c.bytes_of-size.result ≤ 256 = rw c.bytes_of-size.ensures (bytes_le _) in
-    omega (arith, product_le _ _ c.requires.message_ready.number z)
-
-pub overflow_add-n : goal.overflow_add-n
-overflow_add-n c =
-    let z : c.bytes_of-size.result ≤ 256 = rw c.bytes_of-size.ensures (bytes_le _) in
-    omega (arith, product_le _ _ c.requires.message_ready.number z, c.requires.message_fits.context)
-
--- the store ends inside the memory
-pub store-requires : goal.store-requires
-store-requires c =
-    let s = c.requires in
-    let ends = segment-ends _ _ _ _ s.message_fits.context s.message_ready.number (bytes_le c.args.m.ssize) s.sound.fits in
-    simp (c.bytes_of-size.ensures, length-take, length-drop) (omega (arith, ends, s.message_ready.size, s.message_ready.inside))
 
 -- the marks with this segment's: none stands past msglen
 pub keep-requires-clause-marks_bound : goal.keep-requires-clause-marks_bound
