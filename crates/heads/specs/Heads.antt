@@ -1,5 +1,5 @@
 -- What the head of a packet answers: its type, 9 or 11, or the row of the table that refuses it.
-use Rattle.std.specs.Prelude.{ℕ, ◌≡◌, ◌<◌, Result, Ok, Err, IfErr}
+use Rattle.std.specs.Prelude.{ℕ, Result, Ok, Err}
 use Rattle.refusals.specs.declared.Refusal.{Refusal}
 use Rattle.refusals.specs.Numbers.{number_of}
 use Rattle.heads.specs.declared.PacketType.{PacketType}
@@ -12,8 +12,3 @@ type_number packet.Message = 11
 abbrev pub head_number : Result PacketType Refusal → ℕ
 head_number (Ok t) = type_number t
 head_number (Err refusal) = number_of refusal
-
--- what is answered is that number; rows 1 to 5 refuse, so that no refusal is taken for a type
-pub record HeadIs (n : ℕ) (r : Result PacketType Refusal) : Type 0 where
-  pub number : head_number r ≡ n
-  pub row : IfErr r (λ refusal. number_of refusal < 9)

@@ -1,11 +1,12 @@
 // Rows 1 to 5 of the refusal table: the head of a packet, by which it is refused, or of type 9 or 11. No state.
 #![tactic(auto)]
 
-ghost use Rattle.std.specs.Prelude.{◌≡◌, true, ◌+◌, ◌≤◌, length};
+ghost use Rattle.std.specs.Prelude.{◌≡◌, true, IfErr, ◌+◌, ◌<◌, ◌≤◌, length};
+ghost use Rattle.refusals.specs.Numbers.{number_of};
 ghost use Rattle.wire.specs.Packet.{header, id_bytes};
 ghost use Rattle.wire.specs.Head.{is9};
 ghost use Rattle.wire.specs.Inside.{headed, headed_behind};
-ghost use Rattle.heads.specs.Heads.{HeadIs};
+ghost use Rattle.heads.specs.Heads.{head_number};
 
 use refusals::Refusal;
 
@@ -19,7 +20,8 @@ pub enum PacketType {
 // Rows 5 and 1 of a type 9 packet that has its flags.
 fn head_of_9(packet: &[u8], ids: usize) -> Result<PacketType, Refusal>
     requires { (ids ≤ 2) × (header ids + 2 ≤ length packet.now) × (is9 packet.now ≡ true) }
-    ensures { HeadIs (headed_behind 5 ids packet.now) result }
+    ensures number { head_number result ≡ headed_behind 5 ids packet.now }
+    ensures row { IfErr result (λ refusal. number_of refusal < 9) }
 {
     let h = ids::header(ids);
     let flags = lists::wide(packet[h + 1]);
@@ -39,7 +41,8 @@ fn head_of_9(packet: &[u8], ids: usize) -> Result<PacketType, Refusal>
 // The head from row 4 on.
 fn head_by_type(packet: &[u8], ids: usize) -> Result<PacketType, Refusal>
     requires { (1 ≤ ids) × (ids ≤ 2) × (header ids ≤ length packet.now) }
-    ensures { HeadIs (headed_behind 3 ids packet.now) result }
+    ensures number { head_number result ≡ headed_behind 3 ids packet.now }
+    ensures row { IfErr result (λ refusal. number_of refusal < 9) }
 {
     let h = ids::header(ids);
     let kind = lists::wide(packet[0]) % 16;
@@ -61,7 +64,8 @@ fn head_by_type(packet: &[u8], ids: usize) -> Result<PacketType, Refusal>
 // Rows 1 to 5, for the endpoint of that device ID whose IDs have so many bytes: the packet's type, or the refusal.
 fn head_at(packet: &[u8], device: usize, ids: usize) -> Result<PacketType, Refusal>
     requires { (1 ≤ ids) × (ids ≤ 2) }
-    ensures { HeadIs (headed device ids packet.now) result }
+    ensures number { head_number result ≡ headed device ids packet.now }
+    ensures row { IfErr result (λ refusal. number_of refusal < 9) }
 {
     if packet.len() < ids::header(ids) {
         return Err(Refusal::Short);
@@ -77,7 +81,8 @@ fn head_at(packet: &[u8], device: usize, ids: usize) -> Result<PacketType, Refus
 
 // Rows 1 to 5 at the width of the endpoint. It parts here, so that each side has its places as constants (docs/PERFORMANCE.md).
 pub fn head(packet: &[u8], device: usize, narrow: usize) -> Result<PacketType, Refusal>
-    ensures { HeadIs (headed device (id_bytes narrow) packet.now) result }
+    ensures number { head_number result ≡ headed device (id_bytes narrow) packet.now }
+    ensures row { IfErr result (λ refusal. number_of refusal < 9) }
 {
     if narrow == 0 {
         return head_at(packet, device, 2);

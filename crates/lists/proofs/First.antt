@@ -7,7 +7,7 @@ use native.Mathlib.Omega.{arith}
 use native.Mathlib.Numerals.{add-one}
 use lib.ListN.{length, get_or, drop, drop_of_length-le}
 use lib.Seq.{drop-cons}
-use Rattle.std.specs.Prelude.{Option, Some, None, IfSome, unwrap_or}
+use Rattle.std.specs.Prelude.{Option, Some, None, IfSome, is_some, unwrap_or}
 use Rattle.lists.specs.First.{first_of, any, IsFound}
 use Rattle.lists.proofs.Tests.{by_test, neither}
 
@@ -104,3 +104,13 @@ found_first p l d count z None hit before hits misses =
 found_first p l d count z (Some n) hit before hits misses =
     let passes = hits n hit in
     (first_found p l d n (rw z passes.0) (passed_by p l d n (omega arith) (λ k h. misses k (omega arith) (before k h))) passes.1, passes.0)
+
+-- and whether one was found is whether one passes
+pub found_any : {A : Type 0} (p : A → Bool) (l : List A) (d : A) (count : ℕ) → length l ≡ count → {Hit Miss : ℕ → Type 0} (found : Option ℕ)
+    → IfSome found Hit → ((k : ℕ) → k < unwrap_or found count → Miss k)
+    → ((n : ℕ) → Hit n → (n < count) × (p (get_or l n d) ≡ true)) → ((n : ℕ) → n < count → Miss n → p (get_or l n d) ≡ false)
+    → is_some found ≡ any p l
+found_any p l d count z None hit before hits misses = sym (all_fail p l d (λ k h. misses k (rw (← z) h) (before k (rw (← z) h))))
+found_any p l d count z (Some n) hit before hits misses =
+    let passes = hits n hit in
+    sym (any_found p l d n (rw z passes.0) passes.1)

@@ -6,10 +6,12 @@ use mathlib.Core.Bool.{Bool, false, not, ◌||◌}
 use lib.Dec.{eqb, ltb}
 use lib.ListN.{length}
 use borrow.Author.Tests.{eq-eqb, le-ltb, eqb-true, ltb-false, not-false}
-use Rattle.answers.specs.Answers.{Said, refused}
-use Rattle.answers.specs.declared.Figures.{Figures}
-use Rattle.answers.specs.Figures.{figures_of, telling, AllSet}
-use Rattle.answers.proofs.Telling.{told_says, told_dropped, told_response, told_tells_whole}
+use Rattle.std.specs.Prelude.{Err}
+use Rattle.refusals.specs.declared.Refusal.{Refusal}
+use Rattle.refusals.specs.Numbers.{number_of}
+use Rattle.answers.specs.Answers.{Said, said}
+use Rattle.answers.specs.declared.Reading.{Reading}
+use Rattle.answers.specs.Readings.{reading_of}
 use Rattle.tables.specs.Refusals.{all}
 use Rattle.responses.specs.Type13.{response_size}
 use Rattle.contexts.specs.State.{ids_in, stream_contexts}
@@ -21,16 +23,11 @@ use Rattle.message_rooms.specs.Placing as message_room
 use Rattle.message_rooms.specs.Placing.{message_memory_bytes}
 use Rattle.reading.specs.Desk.{Desk, state_on, with_streams, with_messages}
 use Rattle.reading.specs.Table.{Lent, state_in, wrong_sizes}
-use Rattle.reading.specs.Read.{settled, refusing, of_stream, of_message, reading}
-use Rattle.reading.specs.Inside.{FiguresPromise}
+use Rattle.reading.specs.Read.{settled, refusing, of_stream, of_message, reading, ReadPromise}
 
 -- a refusal that changes nothing
-pub refusal_promised : (x : Lent) (number : ℕ) (t : Figures) → t ≡ figures_of (refused number) false 0 → refusing x number all ≡ reading x → FiguresPromise x t x.desk
-refusal_promised x number t f e =
-    record {
-      promised = rw (told_says t (refused number) false 0 f, told_dropped t (refused number) false 0 f, told_response t (refused number) false 0 f) e;
-      numbers = told_tells_whole t (refused number) false 0 f;
-    }
+pub refusal_promised : (x : Lent) (r : Refusal) (told : Reading) → told ≡ reading_of (Err r) false 0 → refusing x (number_of r) all ≡ reading x → ReadPromise x told x.desk
+refusal_promised x r told e w = rw e w
 
 -- what a step leaves in the words
 stream_settled : (x : Lent) (says : Said) (dropped : Bool) (words memory : List ℕ) (j : stream_room.Joined) → length words ≡ state_words
@@ -43,21 +40,16 @@ message_settled : (x : Lent) (says : Said) (words memory response : List ℕ) (j
 message_settled x says words memory response j z e =
     ap (λ (w : List ℕ). settled says false (response_size (ids_in (state_in x))) (with_messages x.desk w memory response)) (sym (words_of_lem words z)) ∙ ap (of_message x) e
 
--- and with the numbers that tell it
-pub stream_promised : (x : Lent) (t : Figures) (words memory : List ℕ) (j : stream_room.Joined) → length words ≡ state_words
-    → (stream_room.joining (telling t) t.dropped (state_of words) memory ≡ j) × AllSet t t.dropped 0 → of_stream x j ≡ reading x
-    → FiguresPromise x t (with_streams x.desk words memory)
-stream_promised x t words memory j z k e =
-    let response = told_response t (telling t) t.dropped 0 k.1 in
-    record { promised = rw response (stream_settled x (telling t) t.dropped words memory j z k.0 ∙ e); numbers = told_tells_whole t (telling t) t.dropped 0 k.1 }
+-- and with the reading that says so
+pub stream_promised : (x : Lent) (t : Reading) (words memory : List ℕ) (j : stream_room.Joined) → length words ≡ state_words
+    → (stream_room.joining (said t.answer) t.dropped (state_of words) memory ≡ j) × (t.response ≡ 0) → of_stream x j ≡ reading x
+    → ReadPromise x t (with_streams x.desk words memory)
+stream_promised x t words memory j z k e = rw k.1 (stream_settled x (said t.answer) t.dropped words memory j z k.0 ∙ e)
 
-pub message_promised : (x : Lent) (t : Figures) (words memory response : List ℕ) (j : message_room.MessageJoined) → length words ≡ state_words
-    → (message_room.message_joining (telling t) (state_of words) memory response ≡ j) × AllSet t false (response_size (ids_in (state_in x))) → of_message x j ≡ reading x
-    → FiguresPromise x t (with_messages x.desk words memory response)
-message_promised x t words memory response j z k e =
-    let written = told_response t (telling t) false (response_size (ids_in (state_in x))) k.1 in
-    let dropped = told_dropped t (telling t) false (response_size (ids_in (state_in x))) k.1 in
-    record { promised = rw (written, dropped) (message_settled x (telling t) words memory response j z k.0 ∙ e); numbers = told_tells_whole t (telling t) false (response_size (ids_in (state_in x))) k.1 }
+pub message_promised : (x : Lent) (t : Reading) (words memory response : List ℕ) (j : message_room.MessageJoined) → length words ≡ state_words
+    → (message_room.message_joining (said t.answer) (state_of words) memory response ≡ j) × (t.dropped ≡ false) × (t.response ≡ response_size (ids_in (state_in x))) → of_message x j ≡ reading x
+    → ReadPromise x t (with_messages x.desk words memory response)
+message_promised x t words memory response j z k e = rw (k.1, k.2) (message_settled x (said t.answer) words memory response j z k.0 ∙ e)
 
 -- row 12 passed
 pub sizes_right : (d : Desk) → length d.stream_memory ≡ stream_contexts * (state_on d).setup.room → length d.message_memory ≡ message_memory_bytes → response_size (ids_in (state_on d)) ≤ length d.response

@@ -4,11 +4,11 @@ use Rattle.wire.specs.Packet.{id_bytes}
 use Rattle.heads.proofs.head.Goals as goal
 
 -- 16 bits
-pub returns-then-narrow-eq0 : goal.returns-then-narrow-eq0
+pub returns-then-narrow-eq0-clause-number : goal.returns-then-narrow-eq0-clause-number
 unfolding id_bytes
-returns-then-narrow-eq0 c = simp (eq-eqb _ _ c.if-narrow-eq0.true, ← c.head_at.ensures)
+returns-then-narrow-eq0-clause-number c = simp (eq-eqb _ _ c.if-narrow-eq0.true, ← c.head_at.ensures.number)
 
 -- 8 bits
-pub returns : goal.returns
+pub returns-clause-number : goal.returns-clause-number
 unfolding id_bytes
-returns c = simp (ne_eqb _ _ c.if-narrow-eq0.false, ← c.head_at-2.ensures)
+returns-clause-number c = simp (ne_eqb _ _ c.if-narrow-eq0.false, ← c.head_at-2.ensures.number)

@@ -9,20 +9,20 @@ use Rattle.wire.proofs.HeadLaws.{behind_3}
 use Rattle.heads.proofs.head_at.Goals as goal
 
 -- 1: without its IDs
-pub returns-then-packet-header : goal.returns-then-packet-header
+pub returns-then-packet-header-clause-number : goal.returns-then-packet-header-clause-number
 unfolding headed head_rows verdict
-returns-then-packet-header c = simp (← c.header.ensures, lt-ltb _ _ c.if-packet-header.true)
+returns-then-packet-header-clause-number c = simp (← c.header.ensures, lt-ltb _ _ c.if-packet-header.true)
 
 -- 2: tt
-pub returns-then-wide-ids : goal.returns-then-wide-ids
+pub returns-then-wide-ids-clause-number : goal.returns-then-wide-ids-clause-number
 unfolding headed head_rows verdict
-returns-then-wide-ids c =
+returns-then-wide-ids-clause-number c =
     simp (← c.header.ensures, le-ltb _ _ c.if-packet-header.false, ← c.wide.ensures.0, ne_eqb _ _ c.if-wide-ids.true)
 
 -- 3: destination
-pub returns-then-id_at-device : goal.returns-then-id_at-device
+pub returns-then-id_at-device-clause-number : goal.returns-then-id_at-device-clause-number
 unfolding headed head_rows verdict
-returns-then-id_at-device c =
+returns-then-id_at-device-clause-number c =
     simp (
       ← c.header.ensures,
       le-ltb _ _ c.if-packet-header.false,
@@ -33,8 +33,8 @@ returns-then-id_at-device c =
     )
 
 -- by its type
-pub returns : goal.returns
-returns c =
-    c.head_by_type.ensures
+pub returns-clause-number : goal.returns-clause-number
+returns-clause-number c =
+    c.head_by_type.ensures.number
     ∙ behind_3 _ _ _ (omega (arith, c.header.ensures, c.if-packet-header.false)) (simp (← c.wide.ensures.0) c.if-wide-ids.false)
     (simp (← c.id_at.ensures) c.if-id_at-device.false)

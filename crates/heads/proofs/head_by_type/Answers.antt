@@ -10,21 +10,21 @@ use Rattle.wire.proofs.HeadLaws.{behind_5}
 use Rattle.heads.proofs.head_by_type.Goals as goal
 
 -- type 9. 1: without its flags
-pub returns-then-packet-h : goal.returns-then-packet-h
+pub returns-then-packet-h-clause-number : goal.returns-then-packet-h-clause-number
 unfolding headed_behind head_rows verdict
-returns-then-packet-h c =
+returns-then-packet-h-clause-number c =
     simp (← c.header-h.ensures, ← c.wide-kind.ensures.0, eq-eqb _ _ c.if-kind-eq9.true, lt-ltb _ _ c.if-packet-h.true)
 
 -- type 9
-pub returns-then-kind-eq9 : goal.returns-then-kind-eq9
-returns-then-kind-eq9 c =
-    c.head_of_9.ensures
+pub returns-then-kind-eq9-clause-number : goal.returns-then-kind-eq9-clause-number
+returns-then-kind-eq9-clause-number c =
+    c.head_of_9.ensures.number
     ∙ behind_5 _ _ (simp (← c.wide-kind.ensures.0) (eq-eqb _ _ c.if-kind-eq9.true)) (omega (arith, c.header-h.ensures, c.if-packet-h.false))
 
 -- type 11. 1: without its second byte
-pub returns-then-packet-h-2 : goal.returns-then-packet-h-2
+pub returns-then-packet-h-2-clause-number : goal.returns-then-packet-h-2-clause-number
 unfolding headed_behind head_rows verdict
-returns-then-packet-h-2 c =
+returns-then-packet-h-2-clause-number c =
     simp (
       ← c.header-h.ensures,
       ← c.wide-kind.ensures.0,
@@ -34,9 +34,9 @@ returns-then-packet-h-2 c =
     )
 
 -- type 11
-pub returns-then-kind-eq11 : goal.returns-then-kind-eq11
+pub returns-then-kind-eq11-clause-number : goal.returns-then-kind-eq11-clause-number
 unfolding headed_behind head_rows verdict
-returns-then-kind-eq11 c =
+returns-then-kind-eq11-clause-number c =
     simp (
       ← c.header-h.ensures,
       ← c.wide-kind.ensures.0,
@@ -46,7 +46,7 @@ returns-then-kind-eq11 c =
     ) (search rules)
 
 -- 4: another type
-pub returns : goal.returns
+pub returns-clause-number : goal.returns-clause-number
 unfolding headed_behind head_rows verdict
-returns c =
+returns-clause-number c =
     simp (← c.wide-kind.ensures.0, ne_eqb _ _ c.if-kind-eq9.false, ne_eqb _ _ c.if-kind-eq11.false)

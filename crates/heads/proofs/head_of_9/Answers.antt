@@ -24,26 +24,26 @@ not_extended c = rw (← flags-read c.args.packet.now c.args.ids _ _ c.wide-flag
 -- ---- the ways out
 
 -- 5: xh
-pub returns-then-bit : goal.returns-then-bit
-returns-then-bit c =
+pub returns-then-bit-clause-number : goal.returns-then-bit-clause-number
+returns-then-bit-clause-number c =
     let e = flags-read c.args.packet.now c.args.ids _ _ c.wide-flags.ensures.0 c.header-h.ensures in
     extended _ _ c.requires.2 (rw (← e) (sym c.bit.ensures ∙ c.if-bit.true))
 
 -- long enough for a field
-pub returns-then-h-packet : goal.returns-then-h-packet
-returns-then-h-packet c =
-    long-enough _ _ c.requires.2 (not_extended (goal.at.returns-then-h-packet c).Else-bit) (omega (arith, c.header-h.ensures))
+pub returns-then-h-packet-clause-number : goal.returns-then-h-packet-clause-number
+returns-then-h-packet-clause-number c =
+    long-enough _ _ c.requires.2 (not_extended (goal.at.returns-then-h-packet-clause-number c).Else-bit) (omega (arith, c.header-h.ensures))
 
 -- neither S nor E
-pub returns-then-flags-lt64 : goal.returns-then-flags-lt64
-returns-then-flags-lt64 c =
+pub returns-then-flags-lt64-clause-number : goal.returns-then-flags-lt64-clause-number
+returns-then-flags-lt64-clause-number c =
     let e = flags-read c.args.packet.now c.args.ids _ _ c.wide-flags.ensures.0 c.header-h.ensures in
     let low = low-flags _ c.if-flags-lt64.true in
-    no_field _ _ c.requires.2 (not_extended (goal.at.returns-then-flags-lt64 c).Else-bit) (rw (← e) low.0) (rw (← e) low.1)
+    no_field _ _ c.requires.2 (not_extended (goal.at.returns-then-flags-lt64-clause-number c).Else-bit) (rw (← e) low.0) (rw (← e) low.1)
 
 -- 1: no room for the field
-pub returns : goal.returns
-returns c =
+pub returns-clause-number : goal.returns-clause-number
+returns-clause-number c =
     let e = flags-read c.args.packet.now c.args.ids _ _ c.wide-flags.ensures.0 c.header-h.ensures in
-    field_cut _ _ c.requires.2 (not_extended (goal.at.returns c).Else-bit) (rw (← e) (high_flags _ c.wide-flags.ensures.1 c.if-flags-lt64.false))
+    field_cut _ _ c.requires.2 (not_extended (goal.at.returns-clause-number c).Else-bit) (rw (← e) (high_flags _ c.wide-flags.ensures.1 c.if-flags-lt64.false))
     (omega (arith, c.header-h.ensures))

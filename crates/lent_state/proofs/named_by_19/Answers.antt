@@ -1,5 +1,4 @@
 -- `lent_state::named_by_19` meets its contract: the four parts of 19, in the paper's order.
-use borrow.Author.Rules.{rules}
 use Rattle.refusal19.specs.Refusal19.{named_by_19}
 use Rattle.lent_state.proofs.named_by_19.Goals as goal
 

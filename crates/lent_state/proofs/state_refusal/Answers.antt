@@ -1,6 +1,5 @@
 -- `lent_state::state_refusal` meets its contract: each return is one of the rows of a lent state.
 use mathlib.Core.Path.{sym, ◌∙◌}
-use borrow.Author.Rules.{rules}
 use Rattle.lent_state.proofs.Lent.{no_state, named_state, good-state}
 use Rattle.lent_state.proofs.state_refusal.Goals as goal
 
