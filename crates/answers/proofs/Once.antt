@@ -3,7 +3,8 @@ use mathlib.Core.Path.{◌≡◌, refl, ap, ap₂, sym, ◌∙◌}
 use Rattle.std.specs.Prelude.{ℕ, ⊤, Result, Ok, Err, Option, Some, None}
 use Rattle.refusals.specs.declared.Refusal.{Refusal}
 use Rattle.refusals.specs.Numbers.{number_of}
-use Rattle.refusals.proofs.Back.{refusal_of, back}
+use Rattle.refusals.proofs.Back.{refusal_of, back, IsRow}
+use Rattle.wire.specs.declared.Flow.{Flow}
 use Rattle.answers.specs.declared.Answer.{Answer}
 use Rattle.answers.specs.declared.Answer.TheVariants as answer
 use Rattle.answers.specs.declared.Abandoned.{Abandoned}
@@ -37,6 +38,26 @@ answer_back (Err r) = ap Err (back r)
 
 pub said-once : (a b : Result Answer Refusal) → said a ≡ said b → a ≡ b
 said-once = once said answer_of answer_back
+
+-- what can be said: a refusal by a number of the table, and all that is no refusal
+abbrev pub Sayable : Said → Type 0
+Sayable s = said (answer_of s) ≡ s
+
+pub held_sayable : Sayable held
+unfolding answer_of
+held_sayable = refl
+
+pub delivered_sayable : (context : ℕ) (flow : Flow) (stream size : ℕ) → Sayable (delivered context flow stream size)
+unfolding answer_of
+delivered_sayable _ _ _ _ = refl
+
+pub message_sayable : (context source letter mailbox size : ℕ) → Sayable (message context source letter mailbox size)
+unfolding answer_of
+message_sayable _ _ _ _ _ = refl
+
+pub refused_sayable : (number : ℕ) → IsRow number → Sayable (refused number)
+unfolding answer_of
+refused_sayable number e = ap refused e
 
 -- ---- setup
 

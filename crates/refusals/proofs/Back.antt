@@ -3,22 +3,24 @@ use Prim.Native.Nat.{ℕ, ◌-◌, ◌≤◌, ◌<◌}
 use mathlib.Core.Path.{◌≡◌, refl, ap, sym, ◌∙◌}
 use mathlib.Core.List.{List, [], ◌∷◌}
 use mathlib.Core.Bool.{cond}
+use native.Mathlib.Omega.{arith}
 use lib.Dec.{eqb}
 use lib.ListN.{get_or}
+use Rattle.std.specs.Prelude.{Result, Ok, Err, IsErrAnd}
 use Rattle.refusals.specs.declared.Refusal.{Refusal}
 use Rattle.refusals.specs.declared.Refusal.TheVariants as row
 use Rattle.refusals.specs.Numbers.{number_of}
 
 -- the rows 1 to 25, in their order
-first_rows : List Refusal
+abbrev first_rows : List Refusal
 first_rows = row.Short ∷ row.IdWidth ∷ row.OtherDevice ∷ row.Type ∷ row.Extended ∷ row.Form ∷ row.Size ∷ row.NotOpen ∷ row.PastRoom ∷ row.StreamsFull ∷ row.EndLength ∷ row.Buffer ∷ row.NoContext ∷ row.Pdu ∷ row.NoSegment ∷ row.Out ∷ row.Priority ∷ row.Mtu ∷ row.State ∷ row.Ssize ∷ row.SegmentLength ∷ row.PastLast ∷ row.OtherMessage ∷ row.Twice ∷ row.MessagesFull ∷ []
 
 -- the row of a number; that of 47 where it is none of 1 to 25
-pub refusal_of : ℕ → Refusal
+unfoldable pub refusal_of : ℕ → Refusal
 refusal_of n = cond (eqb n 0) row.WideId (get_or first_rows (n - 1) row.WideId)
 
 pub back : (r : Refusal) → refusal_of (number_of r) ≡ r
-unfolding refusal_of first_rows
+unfolding refusal_of
 back row.Short = refl
 back row.IdWidth = refl
 back row.OtherDevice = refl
@@ -49,3 +51,41 @@ back row.WideId = refl
 -- no two rows have one number
 pub number_once : (a b : Refusal) → number_of a ≡ number_of b → a ≡ b
 number_once a b e = sym (back a) ∙ (ap refusal_of e ∙ back b)
+
+-- no row has the number 0, which says that none refuses
+pub never_0 : (r : Refusal) → number_of r ≡ 0 → ⊥
+never_0 row.Short e = absurd (omega arith)
+never_0 row.IdWidth e = absurd (omega arith)
+never_0 row.OtherDevice e = absurd (omega arith)
+never_0 row.Type e = absurd (omega arith)
+never_0 row.Extended e = absurd (omega arith)
+never_0 row.Form e = absurd (omega arith)
+never_0 row.Size e = absurd (omega arith)
+never_0 row.NotOpen e = absurd (omega arith)
+never_0 row.PastRoom e = absurd (omega arith)
+never_0 row.StreamsFull e = absurd (omega arith)
+never_0 row.EndLength e = absurd (omega arith)
+never_0 row.Buffer e = absurd (omega arith)
+never_0 row.NoContext e = absurd (omega arith)
+never_0 row.Pdu e = absurd (omega arith)
+never_0 row.NoSegment e = absurd (omega arith)
+never_0 row.Out e = absurd (omega arith)
+never_0 row.Priority e = absurd (omega arith)
+never_0 row.Mtu e = absurd (omega arith)
+never_0 row.State e = absurd (omega arith)
+never_0 row.Ssize e = absurd (omega arith)
+never_0 row.SegmentLength e = absurd (omega arith)
+never_0 row.PastLast e = absurd (omega arith)
+never_0 row.OtherMessage e = absurd (omega arith)
+never_0 row.Twice e = absurd (omega arith)
+never_0 row.MessagesFull e = absurd (omega arith)
+never_0 row.WideId e = absurd (omega arith)
+
+-- what `?` passes on is the refusal that came
+pub passed_on : {A : Type 0} (r : Result A Refusal) (e : Refusal) → IsErrAnd r (λ (x : Refusal). x ≡ e) → r ≡ Err e
+passed_on (Ok _) e h = absurd h
+passed_on (Err x) e h = ap Err h
+
+-- a number that is one of the table's
+abbrev pub IsRow : ℕ → Type 0
+IsRow n = number_of (refusal_of n) ≡ n
