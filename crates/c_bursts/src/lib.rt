@@ -73,6 +73,7 @@ fn read_packet(
 }
 
 // Whether the burst stops behind a packet: where the caller asked for it, and the packet delivered a PDU or a message.
+#[tactic(auto, unfolding(crate::specs::Bursts::pause_of))]
 fn pausing(pause: usize, answer: Result<Answer, Refusal>) -> Option<Stop>
     ensures { goes_or_stops result ≡ pause_of pause (kind_of (said answer)) }
 {
