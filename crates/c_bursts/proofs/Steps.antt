@@ -22,12 +22,6 @@ use Rattle.c_bursts.specs.Inside.{ReadyToRun, PacketPromise}
 
 -- ---- one step
 
--- with room for some packets there is room for one
-pub one_of : (r : Run) (room : ℕ) → ReadyToRun r room → (room ≡ 0 → ⊥) → ReadyToRun r 1
-one_of r room ready n =
-    let space = ready.space in
-    record { fit = ready.fit; space = record { replies = omega (arith, space.replies, n); answers = omega (arith, space.answers, n) } }
-
 -- a report's kind is that of what it says
 kind_said : (says : Said) (dropped : Bool) (replied : ℕ) → (report_of says dropped replied).kind ≡ kind_of says
 unfolding report_of
