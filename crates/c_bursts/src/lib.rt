@@ -6,7 +6,7 @@ ghost use Rattle.reading.specs.Desk.{desk};
 ghost use Rattle.answers.specs.Answers.{said};
 ghost use Rattle.c_reports.specs.Reports.{kind_of};
 ghost use Rattle.c_bursts.specs.Bursts.{run, pause_of};
-ghost use Rattle.c_bursts.specs.Inside.{ReadyToRun, PacketPromise, StepPromise, goes_or_stops};
+ghost use Rattle.c_bursts.specs.Inside.{ReadyToRun, PacketPromise, StepPromise, goes_or_stops, GoesOnAt0};
 
 use answers::Answer;
 use c_reports::Report;
@@ -75,7 +75,8 @@ fn read_packet(
 // Whether the burst stops behind a packet: where the caller asked for it, and the packet delivered a PDU or a message.
 #[tactic(auto, unfolding(crate::specs::Bursts::pause_of))]
 fn pausing(pause: usize, answer: Result<Answer, Refusal>) -> Option<Stop>
-    ensures { goes_or_stops result ≡ pause_of pause (kind_of (said answer)) }
+    ensures number { goes_or_stops result ≡ pause_of pause (kind_of (said answer)) }
+    ensures goes { GoesOnAt0 result }
 {
     match answer {
         Ok(Answer::Delivered { .. } | Answer::Message { .. }) if pause != 0 => Some(Stop::Delivery),

@@ -35,18 +35,18 @@ slice_bounds-read_packet-end c =
 pub returns-then-room-eq0 : goal.returns-then-room-eq0
 returns-then-room-eq0 c =
     let at = goal.at.returns-then-room-eq0 c in
-    record { leaves = at_full _ _ _ (lent_to at.Start) _ (found at.In-Ok-Some) c.if-room-eq0.true; fit = c.requires.fit }
+    record { leaves = at_full _ _ _ (lent_to at.Start) _ (found at.In-Ok-Some) c.if-room-eq0.true; goes = λ z. absurd (omega (arith, z)); fit = c.requires.fit }
 
 -- the end
 pub returns-in-Ok-None : goal.returns-in-Ok-None
 returns-in-Ok-None c =
     let end : next_record c.args.burst.now c.args.at ≡ Ok None = sym (rw c.in-Ok-None.field-0-is at c.in-Ok-None.ensures) in
-    record { leaves = at-end _ _ _ (lent_to (goal.at.returns-in-Ok-None c).Start) end; fit = c.requires.fit }
+    record { leaves = at-end _ _ _ (lent_to (goal.at.returns-in-Ok-None c).Start) end; goes = λ z. absurd (omega (arith, z)); fit = c.requires.fit }
 
 -- a bad record
 pub returns-in-Err : goal.returns-in-Err
 returns-in-Err c =
-    record { leaves = at_bad_lem _ _ _ (lent_to (goal.at.returns-in-Err c).Start) _ (sym c.in-Err.ensures); fit = c.requires.fit }
+    record { leaves = at_bad_lem _ _ _ (lent_to (goal.at.returns-in-Err c).Start) _ (sym c.in-Err.ensures); goes = λ z. absurd (omega (arith, z)); fit = c.requires.fit }
 
 -- a packet is read
 pub returns-else-room-eq0 : goal.returns-else-room-eq0
@@ -55,6 +55,7 @@ returns-else-room-eq0 c =
     let t = c.read_packet-answer in
     let after : Desk = desk t.new.state t.new.stream_memory t.new.message_memory t.new.responses in
     record {
-      leaves = at_record _ _ _ (lent_to at.Start) _ (found at.In-Ok-Some) _ _ after _ c.if-room-eq0.false t.ensures c.pausing.ensures;
+      leaves = at_record _ _ _ (lent_to at.Start) _ (found at.In-Ok-Some) _ _ after _ c.if-room-eq0.false t.ensures c.pausing.ensures.number;
+      goes = c.pausing.ensures.goes;
       fit = t.ensures.fit;
     }
