@@ -7,6 +7,10 @@ use native.Mathlib.Omega.{arith}
 use lib.Dec.{eqb}
 use lib.ListN.{length, take, drop}
 use borrow.Author.Tests.{lt-ltb, le-ltb, eq-eqb, ne_eqb, eqb-true, not-false}
+use Rattle.std.specs.Prelude.{Ok, Err}
+use Rattle.refusals.specs.declared.Refusal.{Refusal}
+use Rattle.refusals.specs.Numbers.{number_of}
+use Rattle.refusals.proofs.Back.{never_0}
 use Rattle.lists.specs.Bytes.{written}
 use Rattle.lists.proofs.Tests.{◌and◌}
 use Rattle.tables.specs.Refusals.{all_error, Verdict, by_verdict, none}
@@ -124,10 +128,7 @@ module _ (s : State) (m : MessageSegment) (t : is_single m ≡ false) where
     unfolding message_accepted
     new_accepted memory response p = rw (t, shut)
 
--- ---- what is chosen
-
-pub chooses_none : (s : State) (m : MessageSegment) (c : Chosen) (number : ℕ) → (number ≡ 0 → ⊥) → c.number ≡ number → refusal_by_state s m ≡ number → Chooses s m c
-chooses_none s m c number h e r = record { row = e ∙ sym r; goes = λ z. absurd (h (sym e ∙ z)) }
+-- ---- the status of a refusal
 
 -- every status is one
 pub status_small : (number : ℕ) → refusal_status number < 16
@@ -209,14 +210,15 @@ module _ (s : State) (memory response p : List ℕ) (m : MessageSegment) where
     passed n = sym (by_number ∙ rw n)
 
     -- what is chosen
-    module _ (c : Chosen) (chosen : Chooses s m c) where
-      pub chosen_refused : {says : Said} {after : List ℕ} (status : ℕ) → (c.number ≡ 0 → ⊥) → status ≡ refusal_status c.number
-          → Replied s response p c.number status says after → message_joining says s memory after ≡ message_stepped s memory response p m
-      chosen_refused status h e r = replying s memory response p c.number status _ _ r ∙ sym (by_number ∙ rw (← chosen.row, ne_eqb c.number 0 h, e))
+    pub chosen_refused : {says : Said} {after : List ℕ} (refusal : Refusal) (status : ℕ) → Chooses s m (Err refusal) → status ≡ refusal_status (number_of refusal)
+        → Replied s response p (number_of refusal) status says after → message_joining says s memory after ≡ message_stepped s memory response p m
+    chosen_refused refusal status chosen e r =
+        replying s memory response p (number_of refusal) status _ _ r
+        ∙ sym (by_number ∙ rw (← chosen.row, ne_eqb (number_of refusal) 0 (never_0 refusal), e))
 
-      pub chosen-placed : {j : MessageJoined} → c.number ≡ 0 → j ≡ message_placed s memory response p m c.n c.marks c.last
-          → j ≡ message_stepped s memory response p m
-      chosen-placed h e = e ∙ ((chosen.goes h).accepts memory response p ∙ passed (sym chosen.row ∙ h))
+    pub chosen-placed : {j : MessageJoined} (c : Chosen) → Chooses s m (Ok c) → j ≡ message_placed s memory response p m c.n c.marks c.last
+        → j ≡ message_stepped s memory response p m
+    chosen-placed c chosen e = e ∙ (chosen.goes.accepts memory response p ∙ passed (sym chosen.row))
 
     -- a segment of several that is placed
     module _ (t : is_single m ≡ false) where

@@ -54,32 +54,11 @@ number_once a b e = sym (back a) ∙ (ap refusal_of e ∙ back b)
 
 -- no row has the number 0, which says that none refuses
 pub never_0 : (r : Refusal) → number_of r ≡ 0 → ⊥
-never_0 row.Short e = absurd (omega arith)
-never_0 row.IdWidth e = absurd (omega arith)
-never_0 row.OtherDevice e = absurd (omega arith)
-never_0 row.Type e = absurd (omega arith)
-never_0 row.Extended e = absurd (omega arith)
-never_0 row.Form e = absurd (omega arith)
-never_0 row.Size e = absurd (omega arith)
-never_0 row.NotOpen e = absurd (omega arith)
-never_0 row.PastRoom e = absurd (omega arith)
-never_0 row.StreamsFull e = absurd (omega arith)
-never_0 row.EndLength e = absurd (omega arith)
-never_0 row.Buffer e = absurd (omega arith)
-never_0 row.NoContext e = absurd (omega arith)
-never_0 row.Pdu e = absurd (omega arith)
-never_0 row.NoSegment e = absurd (omega arith)
-never_0 row.Out e = absurd (omega arith)
-never_0 row.Priority e = absurd (omega arith)
-never_0 row.Mtu e = absurd (omega arith)
-never_0 row.State e = absurd (omega arith)
-never_0 row.Ssize e = absurd (omega arith)
-never_0 row.SegmentLength e = absurd (omega arith)
-never_0 row.PastLast e = absurd (omega arith)
-never_0 row.OtherMessage e = absurd (omega arith)
-never_0 row.Twice e = absurd (omega arith)
-never_0 row.MessagesFull e = absurd (omega arith)
-never_0 row.WideId e = absurd (omega arith)
+unfolding refusal_of
+never_0 r z =
+    let is : row.WideId ≡ r = ap refusal_of (sym z) ∙ back r in
+    let zero : number_of row.WideId ≡ 0 = ap number_of is ∙ z in
+    omega arith
 
 -- what `?` passes on is the refusal that came
 pub passed_on : {A : Type 0} (r : Result A Refusal) (e : Refusal) → IsErrAnd r (λ (x : Refusal). x ≡ e) → r ≡ Err e

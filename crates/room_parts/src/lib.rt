@@ -22,30 +22,30 @@ fn room_part<'a>(memory: &'a [u8], rooms: usize, room: usize, n: usize, l: usize
 pub fn stream_room<'a>(state: &[usize], memory: &'a [u8], n: usize, l: usize) -> &'a [u8]
     ensures { StreamRoomPromise state.now memory.entry n l result }
 {
-    if lent_state::state_refusal(state).is_err() {
-        return &memory[0..0];
+    match lent_state::state_refusal(state) {
+        Ok(()) => room_part(
+            memory,
+            contexts::STREAM_CONTEXTS,
+            contexts::room(state),
+            n,
+            l,
+        ),
+        Err(_) => &memory[0..0],
     }
-    room_part(
-        memory,
-        contexts::STREAM_CONTEXTS,
-        contexts::room(state),
-        n,
-        l,
-    )
 }
 
 // The same of message context n.
 pub fn message_room<'a>(state: &[usize], memory: &'a [u8], n: usize, l: usize) -> &'a [u8]
     ensures { MessageRoomPromise state.now memory.entry n l result }
 {
-    if lent_state::state_refusal(state).is_err() {
-        return &memory[0..0];
+    match lent_state::state_refusal(state) {
+        Ok(()) => room_part(
+            memory,
+            contexts::MESSAGE_CONTEXTS,
+            message_rooms::ROOM,
+            n,
+            l,
+        ),
+        Err(_) => &memory[0..0],
     }
-    room_part(
-        memory,
-        contexts::MESSAGE_CONTEXTS,
-        message_rooms::ROOM,
-        n,
-        l,
-    )
 }

@@ -1,32 +1,28 @@
--- Laws of a context's room: where it ends, and what a store and a context put make of it.
-use Prim.Native.Nat.{ℕ, ◌≤◌, ◌<◌, ◌+◌, ◌-◌, ◌*◌}
-use mathlib.Core.Path.{◌≡◌, ap, sym, subst, subst₂, ◌∙◌}
+-- Laws of a context's room: what a store and a context put make of it.
+use Prim.Native.Nat.{ℕ, ◌≤◌, ◌+◌, ◌-◌, ◌*◌}
+use mathlib.Core.Path.{◌≡◌, refl, ap, sym, subst, subst₂, ◌∙◌}
 use mathlib.Core.List.{List}
 use mathlib.Core.Bool.{Bool, true, false, ◌||◌}
 use native.Mathlib.Omega.{arith}
-use native.Mathlib.Nat.{zero-add, suc-mul, mul-le-mul_right}
-use lib.ListN.{length, take, drop}
-use lib.Dec.{ltb}
+use native.Mathlib.Nat.{zero-add}
+use lib.ListN.{length}
 use lib.Seq.{set_out}
 use Rattle.lists.specs.Bytes.{word, written}
-use Rattle.answers.specs.Answers.{Said, held, refused}
-use Rattle.answers.specs.declared.Figures.{Figures}
-use Rattle.answers.specs.Figures.{figures_of, telling, AllSet}
-use Rattle.answers.proofs.Telling.{told_says, told_dropped, told_tells_own}
+use Rattle.std.specs.Prelude.{Result}
+use Rattle.refusals.specs.declared.Refusal.{Refusal}
+use Rattle.answers.specs.Answers.{Said, said, held}
+use Rattle.answers.specs.declared.Answer.{Answer}
+use Rattle.answers.specs.declared.Reading.{Reading}
+use Rattle.answers.specs.Readings.{reading_of}
 use Rattle.wire.specs.declared.Flow.{Flow}
 use Rattle.wire.specs.Segment.{Segment}
 use Rattle.wire.specs.Packet.{header, bit}
 use Rattle.wire.specs.Type9.{flags, is_s, is_e, segment_of}
 use Rattle.wire.proofs.Fields.{begins_is, ends_is, from_field, before_data}
-use Rattle.sizes.specs.Sizes.{data_length}
 use Rattle.contexts.specs.declared.StreamContext.{StreamContext}
 use Rattle.contexts.specs.State.{State, with_stream, closed_stream, open_stream, stream_contexts}
 use Rattle.stream_rooms.specs.Placing.{Joined, joining, placed, data_of}
-use Rattle.stream_rooms.specs.Inside.{Closing, Delivering, Fits}
-
--- room n ends inside the memory
-pub room-ends : (n base count room : ℕ) → n < stream_contexts → base + count ≤ room → n * room + base + count ≤ stream_contexts * room
-room-ends n base count room a b = omega (arith, suc-mul n room, mul-le-mul_right room a)
+use Rattle.stream_rooms.specs.Inside.{Delivering, Fits}
 
 -- past the last context nothing is put
 pub put_nowhere : (s : State) (n : ℕ) → length s.streams ≡ stream_contexts → stream_contexts ≤ n → s ≡ with_stream s n closed_stream
@@ -34,18 +30,10 @@ put_nowhere s n z h =
     ap (λ (l : List StreamContext). record { setup = s.setup; streams = l; messages = s.messages })
     (sym (set_out s.streams n closed_stream (omega arith)))
 
--- numbers of a refusal that closes
-pub closing_told : (s : State) {found number : ℕ} {dropped : Bool} {t : Figures} {after : State} → t ≡ figures_of (refused number) dropped 0 → dropped ≡ ltb found stream_contexts
-    → after ≡ with_stream s found closed_stream → Closing s found number (telling t) t.dropped after × AllSet t t.dropped 0
-closing_told s e d w = (
-  record { answer = told_says _ (refused _) _ _ e; drop = told_dropped _ (refused _) _ _ e ∙ d; state = w },
-  told_tells_own _ (refused _) _ _ e,
-)
-
--- what is said, by the numbers that were made of it
-pub joined_told : (says : Said) {dropped : Bool} {t : Figures} {state : State} {memory : List ℕ} {j : Joined} → t ≡ figures_of says dropped 0 → joining says dropped state memory ≡ j
-    → (joining (telling t) t.dropped state memory ≡ j) × AllSet t t.dropped 0
-joined_told says e k = (rw (told_says _ says _ _ e, told_dropped _ says _ _ e) k, told_tells_own _ says _ _ e)
+-- what is said, by the parts of the reading
+pub joined_told : {answer : Result Answer Refusal} {dropped : Bool} {t : Reading} {state : State} {memory : List ℕ} {j : Joined} → t ≡ reading_of answer dropped 0
+    → joining (said answer) dropped state memory ≡ j → (joining (said t.answer) t.dropped state memory ≡ j) × (t.response ≡ 0)
+joined_told e k = rw e (k, refl)
 
 -- the store and the context make the placing
 module _ (s : State) (memory after p : List ℕ) (g : Segment) (n base stream count : ℕ) (f : Fits s g n base count)
@@ -64,14 +52,6 @@ module _ (s : State) (memory after p : List ℕ) (g : Segment) (n base stream co
 pub of_stream_lem : {s : State} {n i j total : ℕ} {flow : Flow} {gave dropped : Bool} {says : Said} {state : State}
     → i ≡ j → Delivering s n flow i total gave says dropped state → Delivering s n flow j total gave says dropped state
 of_stream_lem {s} {n} {i} {j} {total} {flow} {gave} {dropped} {says} {state} e d = subst (λ (k : ℕ). Delivering s n flow k total gave says dropped state) e d
-
--- what the leaf stores is the data
-pub stored : (memory after p : List ℕ) (s : State) (g : Segment) {n base count room from : ℕ} → Fits s g n base count → room ≡ s.setup.room → from ≡ g.from
-    → after ≡ written memory (n * room + base) (take (from + count - from) (drop from p))
-    → after ≡ written memory (n * s.setup.room + base) (data_of p g)
-stored memory after p s g {n} {base} {count} {room} {from} f r w e =
-    let same : from + count - from ≡ data_length g = omega (arith, f.size) in
-    e ∙ rw (same, r, w)
 
 -- E, as the code has it
 pub ends_by : (ids : ℕ) (p : List ℕ) {bits : ℕ} {r b : Bool} → bits ≡ flags ids p → r ≡ bit bits 64 → r ≡ b → (segment_of ids p).ends ≡ b

@@ -6,7 +6,9 @@ use mathlib.Core.Bool.{Bool, true, false, cond, not, ◌||◌, ◌&&◌, or-true
 use native.Mathlib.Omega.{arith}
 use lib.Dec.{eqb, ltb}
 use lib.ListN.{length}
+use Rattle.std.specs.Prelude.{Option, Some, None}
 use borrow.Author.Tests.{lt-ltb, le-ltb, eqb-false, eqb-true, ltb-false, not-false}
+use Rattle.lists.specs.First.{IsFound}
 use Rattle.lists.proofs.First.{first_le, first_passes}
 use Rattle.lists.proofs.Tests.{neither, ◌and◌}
 use Rattle.tables.specs.Refusals.{none}
@@ -57,23 +59,23 @@ size-le true n mtu e = ltb-false mtu n e
 size-le false n mtu e = omega (arith, eqb-true n mtu (not-false (eqb n mtu) e))
 
 -- a start or single fits any room
-pub start_fits : (s : State) (g : Segment) {found count n : ℕ} → named_by_19 s ≡ false → Passed s g found count → n < stream_contexts → Fits s g n 0 count
+pub start_fits : (s : State) (g : Segment) {found : Option ℕ} {count n : ℕ} → named_by_19 s ≡ false → Passed s g found count → n < stream_contexts → Fits s g n 0 count
 start_fits s g e q h = record { context = h; size = q.size; within = q.within; behind = omega (arith, q.small, (good s e).holds) }
 
 -- what the flow's context holds is at most R, and the data at most the MTU
-pub total_le : (s : State) (g : Segment) {found count held : ℕ} → named_by_19 s ≡ false → Passed s g found count → length s.streams ≡ stream_contexts
-    → found < stream_contexts → held ≡ (stream_in s found).held → held + count ≤ 65792
-total_le s g e q z o own =
+pub total_le : (s : State) (g : Segment) {n count held : ℕ} → named_by_19 s ≡ false → Passed s g (Some n) count → length s.streams ≡ stream_contexts
+    → held ≡ (stream_in s n).held → held + count ≤ 65792
+total_le s g e q z own =
     let k = good s e in
-    let inside : found_for s g < length s.streams = rw (← q.flow, z) o in
-    omega (arith, own, ap (λ (n : ℕ). (stream_in s n).held) q.flow, (found_holds s g.flow k inside).1, k.room, q.small, k.most)
+    let inside : found_for s g < length s.streams = rw (← q.flow.0, z) q.flow.1 in
+    omega (arith, own, ap (λ (i : ℕ). (stream_in s i).held) q.flow.0, (found_holds s g.flow k inside).1, k.room, q.small, k.most)
 
 -- the context found is of the packet's flow
-pub own_flow : (s : State) (g : Segment) {found : ℕ} → found ≡ found_for s g → length s.streams ≡ stream_contexts → found < stream_contexts → (stream_in s found).flow ≡ g.flow
+pub own_flow : (s : State) (g : Segment) {n : ℕ} → IsFound stream_contexts (found_for s g) (Some n) → length s.streams ≡ stream_contexts → (stream_in s n).flow ≡ g.flow
 unfolding flow_context
-own_flow s g f z o =
-    let inside : found_for s g < length s.streams = rw (← f, z) o in
-    ap (λ (n : ℕ). (stream_in s n).flow) f ∙ of_flow_lem g.flow _ (first_passes (is_of_flow g.flow) s.streams closed_stream inside)
+own_flow s g f z =
+    let inside : found_for s g < length s.streams = rw (← f.0, z) f.1 in
+    ap (λ (i : ℕ). (stream_in s i).flow) f.0 ∙ of_flow_lem g.flow _ (first_passes (is_of_flow g.flow) s.streams closed_stream inside)
 
 -- a closing refusal
 closing : (s : State) (memory : List ℕ) (g : Segment) {found number : ℕ} {says : Said} {dropped : Bool} {state : State}
@@ -82,14 +84,14 @@ unfolding refused_closing
 closing s memory g f c = rw (c.answer, c.drop, c.state, f)
 
 -- ---- the tests of a continuation or end by what the code has: the flow's context and R
-module _ (s : State) (g : Segment) (t : g.begins ≡ false) {found count : ℕ} (q : Passed s g found count) where
-  open_flow : found < stream_contexts → not_open s g ≡ false
+module _ (s : State) (g : Segment) (t : g.begins ≡ false) {n count : ℕ} (q : Passed s g (Some n) count) where
+  open_flow : not_open s g ≡ false
   unfolding not_open
-  open_flow o = rw (t, ← q.flow, lt-ltb found stream_contexts o)
+  open_flow = rw (t, ← q.flow.0, lt-ltb n stream_contexts q.flow.1)
 
-  module _ {held : ℕ} (e : held ≡ (stream_in s found).held) where
+  module _ {held : ℕ} (e : held ≡ (stream_in s n).held) where
     total-is : total s g ≡ held + count
-    total-is = ap (λ (b : Bool). cond b 0 (stream_in s (found_for s g)).held + data_length g) t ∙ rw (← q.flow, ← e, ← q.size)
+    total-is = ap (λ (b : Bool). cond b 0 (stream_in s (found_for s g)).held + data_length g) t ∙ rw (← q.flow.0, ← e, ← q.size)
 
     passes : {room : ℕ} → room ≡ s.setup.room → passes_room s g ≡ ltb room (held + count)
     unfolding passes_room
@@ -126,7 +128,7 @@ module _ (s : State) (g : Segment) {count mtu : ℕ} (z : count ≡ data_length 
   unfolding missized
   sizes e = rw (← z, ← m) e
 
-  pub passed : {found : ℕ} → malformed g ≡ false → found ≡ found_for s g → wrong_size g.ends count mtu ≡ false → Passed s g found count
+  pub passed : {found : Option ℕ} → malformed g ≡ false → IsFound stream_contexts (found_for s g) found → wrong_size g.ends count mtu ≡ false → Passed s g found count
   passed d f e = record { row_6 = d; row_7 = sizes e; flow = f; size = z; within = rw z (data_le g); small = rw (← m) (size-le g.ends count mtu e) }
 
 module _ (s : State) (memory p : List ℕ) (g : Segment) where
@@ -159,25 +161,30 @@ module _ (s : State) (memory p : List ℕ) (g : Segment) where
   step-missized d z m f e k = closing s memory g f k ∙ sym (by_rows ∙ rw (d, sizes s g z m e))
 
   -- ---- a start or single
-  module _ (t : g.begins ≡ true) {found count : ℕ} (q : Passed s g found count) (fine : named_by_19 s ≡ false) where
+  module _ (t : g.begins ≡ true) {found : Option ℕ} {count : ℕ} (q : Passed s g found count) (fine : named_by_19 s ≡ false) where
     started : stepped s memory p g ≡ cond (none_free s g) (refused_staying s memory 10) (accepted s memory p g)
     started = by_rows ∙ rw (q.row_6, q.row_7, started_open s g t, started_within s g t fine q.row_7, started_length s g t)
 
-    pub begin_own : {j : Joined} → found < stream_contexts → j ≡ placed s memory p g found 0 g.field true → j ≡ stepped s memory p g
+    pub begin_own : {n : ℕ} {j : Joined} → found ≡ Some n → j ≡ placed s memory p g n 0 g.field true → j ≡ stepped s memory p g
     unfolding none_free accepted
-    begin_own o e = e ∙ sym (started ∙ rw (t, ← q.flow, lt-ltb found stream_contexts o))
+    begin_own {n} a e =
+        let f = rw a at q.flow in
+        e ∙ sym (started ∙ rw (t, ← f.0, lt-ltb n stream_contexts f.1))
 
-    module _ (o : stream_contexts ≤ found) {free : ℕ} (f : free ≡ free_stream s) where
-      pub begin_free : {j : Joined} → free < stream_contexts → j ≡ placed s memory p g free 0 g.field false → j ≡ stepped s memory p g
+    module _ (a : found ≡ None) where
+      none_open : found_for s g ≡ stream_contexts
+      none_open = sym (rw a at q.flow).0
+
+      pub begin_free : {n : ℕ} {j : Joined} → IsFound stream_contexts (free_stream s) (Some n) → j ≡ placed s memory p g n 0 g.field false → j ≡ stepped s memory p g
       unfolding none_free accepted
-      begin_free h e = e ∙ sym (started ∙ rw (t, ← q.flow, le-ltb found stream_contexts o, ← f, lt-ltb free stream_contexts h))
+      begin_free {n} f e = e ∙ sym (started ∙ rw (t, none_open, ← f.0, lt-ltb n stream_contexts f.1))
 
-      pub begin_none : stream_contexts ≤ free → joining (refused 10) false s memory ≡ stepped s memory p g
+      pub begin_none : IsFound stream_contexts (free_stream s) None → joining (refused 10) false s memory ≡ stepped s memory p g
       unfolding none_free refused_staying
-      begin_none h = sym (started ∙ rw (t, ← q.flow, le-ltb found stream_contexts o, ← f, le-ltb free stream_contexts h))
+      begin_none f = sym (started ∙ rw (t, none_open, ← f.0))
 
   -- ---- a continuation or end
-  module _ (t : g.begins ≡ false) {found count : ℕ} (q : Passed s g found count) where
+  module _ (t : g.begins ≡ false) {found : Option ℕ} {count : ℕ} (q : Passed s g found count) where
     continued : stepped s memory p g
         ≡ cond (not_open s g) (refused_staying s memory 8)
         (cond (passes_room s g) (refused_closing s memory g 9)
@@ -185,25 +192,28 @@ module _ (s : State) (memory p : List ℕ) (g : Segment) where
         (accepted s memory p g)))
     continued = by_rows ∙ rw (q.row_6, q.row_7, going_on s g t)
 
-    pub go_closed : stream_contexts ≤ found → joining (refused 8) false s memory ≡ stepped s memory p g
+    pub go_closed : found ≡ None → joining (refused 8) false s memory ≡ stepped s memory p g
     unfolding not_open refused_staying
-    go_closed o = sym (continued ∙ rw (t, ← q.flow, le-ltb found stream_contexts o))
+    go_closed a =
+        let f = rw a at q.flow in
+        sym (continued ∙ rw (t, ← f.0))
 
-    module _ (o : found < stream_contexts) {held room : ℕ} (e : held ≡ (stream_in s found).held) (r : room ≡ s.setup.room) where
-      pub go_passes : {says : Said} {dropped : Bool} {state : State} → room < held + count → Closing s found 9 says dropped state → joining says dropped state memory ≡ stepped s memory p g
-      go_passes h k = closing s memory g q.flow k ∙ sym (continued ∙ rw (open_flow s g t q o, passes s g t q e r, lt-ltb room (held + count) h))
+  -- in the flow's own context
+  module _ (t : g.begins ≡ false) {n count : ℕ} (q : Passed s g (Some n) count) {held room : ℕ} (e : held ≡ (stream_in s n).held) (r : room ≡ s.setup.room) where
+    pub go_passes : {says : Said} {dropped : Bool} {state : State} → room < held + count → Closing s n 9 says dropped state → joining says dropped state memory ≡ stepped s memory p g
+    go_passes h k = closing s memory g q.flow.0 k ∙ sym (continued t q ∙ rw (open_flow s g t q, passes s g t q e r, lt-ltb room (held + count) h))
 
-      module _ (h : held + count ≤ room) where
-        within : stepped s memory p g ≡ cond (wrong_length g (held + count)) (refused_closing s memory g 11) (accepted s memory p g)
-        within = continued ∙ rw (open_flow s g t q o, passes s g t q e r, le-ltb room (held + count) h, differs s g t q e)
+    module _ (h : held + count ≤ room) where
+      within : stepped s memory p g ≡ cond (wrong_length g (held + count)) (refused_closing s memory g 11) (accepted s memory p g)
+      within = continued t q ∙ rw (open_flow s g t q, passes s g t q e r, le-ltb room (held + count) h, differs s g t q e)
 
-        pub go_differs : {says : Said} {dropped : Bool} {state : State} → wrong_length g (held + count) ≡ true → Closing s found 11 says dropped state
-            → joining says dropped state memory ≡ stepped s memory p g
-        go_differs d k = closing s memory g q.flow k ∙ sym (within ∙ rw d)
+      pub go_differs : {says : Said} {dropped : Bool} {state : State} → wrong_length g (held + count) ≡ true → Closing s n 11 says dropped state
+          → joining says dropped state memory ≡ stepped s memory p g
+      go_differs d k = closing s memory g q.flow.0 k ∙ sym (within ∙ rw d)
 
-        pub go_placed : {j : Joined} → wrong_length g (held + count) ≡ false → j ≡ placed s memory p g found held (stream_in s found).stream false → j ≡ stepped s memory p g
-        unfolding accepted
-        go_placed d k = k ∙ sym (within ∙ rw d (rw (t, ← q.flow, lt-ltb found stream_contexts o, ← e)))
+      pub go_placed : {j : Joined} → wrong_length g (held + count) ≡ false → j ≡ placed s memory p g n held (stream_in s n).stream false → j ≡ stepped s memory p g
+      unfolding accepted
+      go_placed d k = k ∙ sym (within ∙ rw d (rw (t, ← q.flow.0, lt-ltb n stream_contexts q.flow.1, ← e)))
 
 -- ---- rows 6 to 8 by what the code has read of the packet
 

@@ -6,7 +6,7 @@ use Rattle.refusal19.proofs.Good.{Message}
 use Rattle.message_rooms.specs.Placing.{message_placed}
 use Rattle.message_rooms.specs.Inside.{MessageFits}
 use Rattle.message_rooms.proofs.Laws.{marks_le}
-use Rattle.messages.proofs.Laws.{open_msglen, open_ssize, open_marked, open_passes, open_accepted, chooses_none, found_message, last_le}
+use Rattle.messages.proofs.Laws.{open_msglen, open_ssize, open_marked, open_passes, open_accepted, found_message, last_le}
 use Rattle.choosing.proofs.choose_open.Goals as goal
 use Rattle.choosing.proofs.choose_open.Goals.{After-message_at-c}
 
@@ -30,15 +30,13 @@ is_good c = found_message _ c.args.m c.args.state.now _ refl c.requires.of_sever
 pub returns-then-c-m : goal.returns-then-c-m
 returns-then-c-m c =
     let own = (goal.at.returns-then-c-m c).After-message_at-c in
-    let other = open_msglen _ _ c.requires.of_several.several _ (is_open own) (is_own own) c.if-c-m.true in
-    chooses_none _ _ _ 23 (λ z. omega arith) c.refused_by.ensures other
+    record { row = sym (open_msglen _ _ c.requires.of_several.several _ (is_open own) (is_own own) c.if-c-m.true); goes = tt }
 
 -- 23: another ssize
 pub returns-then-c-m-2 : goal.returns-then-c-m-2
 returns-then-c-m-2 c =
     let own = (goal.at.returns-then-c-m-2 c).After-message_at-c in
-    let other = open_ssize _ _ c.requires.of_several.several _ (is_open own) (is_own own) c.if-c-m-2.true in
-    chooses_none _ _ _ 23 (λ z. omega arith) c.refused_by-then-c-m-2.ensures other
+    record { row = sym (open_ssize _ _ c.requires.of_several.several _ (is_open own) (is_own own) c.if-c-m-2.true); goes = tt }
 
 pub overflow_cast-c : goal.overflow_cast-c
 overflow_cast-c c =
@@ -50,8 +48,10 @@ pub returns-then-marked : goal.returns-then-marked
 returns-then-marked c =
     let own = (goal.at.returns-then-marked c).After-message_at-c in
     let twice = sym c.marked.ensures ∙ c.if-marked.true in
-    let already = open_marked _ _ c.requires.of_several.several _ (is_open own) (is_own own) c.if-c-m.false c.if-c-m-2.false twice in
-    chooses_none _ _ _ 24 (λ z. omega arith) c.refused_by-then-marked.ensures already
+    record {
+      row = sym (open_marked _ _ c.requires.of_several.several _ (is_open own) (is_own own) c.if-c-m.false c.if-c-m-2.false twice);
+      goes = tt;
+    }
 
 -- one more segment
 pub returns : goal.returns
@@ -71,7 +71,7 @@ returns c =
     } in
     record {
       row = sym (open_passes st m several found (is_open own) (is_own own) c.if-c-m.false c.if-c-m-2.false unset);
-      goes = λ z. record {
+      goes = record {
         accepts = λ memory response p. ap (λ (n : ℕ). message_placed st memory response p m n found.marks found.last) c.requires.found_lt_message_contexts.1
             ∙ open_accepted st m several found (is_open own) (is_own own) memory response p;
         fits = fits;

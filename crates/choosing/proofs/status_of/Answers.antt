@@ -1,14 +1,16 @@
 -- `choosing::status_of` meets its contract: 25 is answered by RETRY, any other by ERROR.
-use borrow.Author.Tests.{eq-eqb, ne_eqb}
+use borrow.Author.Tests.{ne_eqb}
+use Rattle.refusals.specs.declared.Refusal.TheVariants as row
+use Rattle.refusals.proofs.Back.{number_once}
 use Rattle.messages.specs.Inside.{refusal_status}
 use Rattle.choosing.proofs.status_of.Goals as goal
 
 -- 25
-pub returns-then-number-eq25 : goal.returns-then-number-eq25
+pub returns-in-MessagesFull : goal.returns-in-MessagesFull
 unfolding refusal_status
-returns-then-number-eq25 c = simp (eq-eqb _ _ c.if-number-eq25.true)
+returns-in-MessagesFull c = rw c.in-MessagesFull.is
 
 -- any other
-pub returns : goal.returns
+pub returns-in_default : goal.returns-in_default
 unfolding refusal_status
-returns c = simp (ne_eqb _ _ c.if-number-eq25.false)
+returns-in_default c = simp (ne_eqb _ _ (λ z. c.in_default.not-MessagesFull (number_once c.args.refusal row.MessagesFull z)))

@@ -1,7 +1,5 @@
 -- `message_rooms::keep` meets its contract: delivered where all are marked, else kept.
 use Rattle.std.proofs.Common.{◌≡◌, ◌≤◌, refl, sym, ◌∙◌, true, false, arith}
-use Rattle.answers.specs.Answers.{held}
-use Rattle.answers.proofs.Telling.{told_says, told_tells}
 use Rattle.sizes.proofs.Laws.{bytes_le}
 use Rattle.message_rooms.specs.Placing.{complete}
 use Rattle.message_rooms.proofs.Laws.{product_le, marks_le}
@@ -31,11 +29,11 @@ returns-then-complete c =
         state = rw all c.close_message.ensures;
       },
       refl,
+      refl,
     )
 
 -- kept
 pub returns : goal.returns
 returns c =
     let some : complete c.args.m c.args.marks ≡ false = sym c.complete.ensures.0 ∙ c.if-complete.false in
-    let t = c.holding.ensures in
-    (record { answer = told_says _ held _ _ t ∙ rw some; state = rw some c.keep_message.ensures }, told_tells _ held _ _ t)
+    (record { answer = rw (c.holding.ensures, some); state = rw some c.keep_message.ensures }, rw c.holding.ensures refl, rw c.holding.ensures refl)

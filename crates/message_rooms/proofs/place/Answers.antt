@@ -59,5 +59,6 @@ returns c = (
       c.requires.message_ready.inside
       c.store.ensures
       c.done-written.ensures.1,
-  rw (← c.done-written.ensures.0) c.keep.ensures.1,
+  c.keep.ensures.1,
+  rw (← c.done-written.ensures.0) c.keep.ensures.2,
 )

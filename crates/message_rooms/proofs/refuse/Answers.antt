@@ -1,8 +1,6 @@
 -- `message_rooms::refuse` meets its contract: the response is written, and the numbers are the refusal's.
-use Rattle.std.proofs.Common.{rules}
+use Rattle.std.proofs.Common.{rules, refl}
 use Rattle.contexts.specs.Words.{state_of}
-use Rattle.answers.specs.Answers.{refused}
-use Rattle.answers.proofs.Telling.{told_says, told_tells}
 use Rattle.message_rooms.proofs.Laws.{reply_requires, reply_made}
 use Rattle.message_rooms.proofs.refuse.Goals as goal
 
@@ -13,6 +11,5 @@ respond-written-requires c =
 
 pub returns : goal.returns
 returns c =
-    let t = c.refusal.ensures in
     let made = reply_made (state_of c.args.state.now) c.narrow.ensures _ _ _ c.respond-written.ensures in
-    (record { answer = told_says _ (refused _) _ _ t; response = made.1 }, rw (← made.0) (told_tells _ (refused _) _ _ t))
+    (record { answer = rw c.refusal.ensures refl; response = made.1 }, rw c.refusal.ensures refl, rw c.refusal.ensures made.0)

@@ -22,4 +22,4 @@ take-requires c = rw (read_is (goal.at.take-requires c).After-message_of-m) c.re
 pub returns : goal.returns
 returns c =
     let stepped = message_stepped (state_of c.args.state.now) c.args.memory.now c.args.response.now c.args.packet.now in
-    (c.take.ensures.0 ∙ ap stepped (read_is (goal.at.returns c).After-message_of-m), c.take.ensures.1)
+    (c.take.ensures.0 ∙ ap stepped (read_is (goal.at.returns c).After-message_of-m), c.take.ensures.1, c.take.ensures.2)

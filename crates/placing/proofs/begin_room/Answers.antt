@@ -1,17 +1,11 @@
 -- `placing::begin_room` meets its contract: the data are stored, and a single is delivered, a start kept.
 use native.Mathlib.Omega.{arith}
-use borrow.Author.Rules.{rules}
-use Rattle.answers.specs.Answers.{held}
 use Rattle.stream_rooms.proofs.Laws.{joined_told, ends_by, start-from, start_field, single, start}
 use Rattle.placing.proofs.begin_room.Goals as goal
 
-pub store_data-requires : goal.store_data-requires
-store_data-requires c =
-    record { ready = c.requires.ready; from_value = (c.requires.fields.0.data_from_lem, c.requires.fields.2) }
-
 -- a start or single has its streamID, before its data
-pub overflow_sub-from : goal.overflow_sub-from
-overflow_sub-from c =
+pub overflow_sub-head : goal.overflow_sub-head
+overflow_sub-head c =
     omega (arith, start-from _ _ c.requires.fields.1, c.requires.fields.0.data_from_lem)
 
 pub word_at-stream-requires : goal.word_at-stream-requires
@@ -32,5 +26,5 @@ returns-then-bit c =
 pub returns : goal.returns
 returns c =
     let fields = c.requires.fields.0 in
-    joined_told held c.holding.ensures (start _ _ _ _ _ _ _ c.requires.fields.2 c.store_data.ensures _ (start_field _ _ c.requires.fields.1 fields.data_from_lem c.word_at-stream.ensures.0)
+    joined_told c.holding.ensures (start _ _ _ _ _ _ _ c.requires.fields.2 c.store_data.ensures _ (start_field _ _ c.requires.fields.1 fields.data_from_lem c.word_at-stream.ensures.0)
     (ends_by _ _ fields.flag_bits c.bit.ensures c.if-bit.false) fields.sender c.keep_stream.ensures)

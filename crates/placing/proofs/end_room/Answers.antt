@@ -1,17 +1,12 @@
 -- `placing::end_room` meets its contract: the data are stored, and the PDU is delivered with the streamID of its context.
-use borrow.Author.Rules.{rules}
 use Rattle.stream_rooms.proofs.Laws.{ended, of_stream_lem}
 use Rattle.placing.proofs.end_room.Goals as goal
 
-pub store_data-requires : goal.store_data-requires
-store_data-requires c =
-    record { ready = c.requires.ready; from_value = (c.requires.from_value.0, c.requires.from_value.2.fits) }
-
 pub returns : goal.returns
 returns c =
-    let goes = c.requires.from_value.2 in
+    let goes = c.requires.fields.1 in
     let t = c.deliver.ensures in (
-      ended _ _ _ _ _ _ _ _ _ goes.fits c.store_data.ensures _ goes.kind c.requires.from_value.1
+      ended _ _ _ _ _ _ _ _ _ goes.fits c.store_data.ensures _ goes.kind c.requires.fields.0.sender
           (of_stream_lem c.stream_of-stream.ensures t.0),
       t.1,
     )

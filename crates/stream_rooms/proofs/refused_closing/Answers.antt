@@ -1,19 +1,13 @@
--- `stream_rooms::refused_closing` meets its contract: the context is closed where there is one.
-use mathlib.Core.Path.{sym}
-use borrow.Author.Tests.{lt-ltb, le-ltb}
-use borrow.Author.Rules.{rules}
+-- `stream_rooms::refused_closing` meets its contract: where no context is open, none is closed.
+use mathlib.Core.Path.{refl}
+use native.Mathlib.Omega.{arith}
 use Rattle.contexts.proofs.Words.{sixteen}
 use Rattle.contexts.specs.Words.{state_of}
-use Rattle.stream_rooms.proofs.Laws.{put_nowhere, closing_told}
+use Rattle.stream_rooms.proofs.Laws.{put_nowhere}
 use Rattle.stream_rooms.proofs.refused_closing.Goals as goal
 
--- one is open: closed
-pub returns-then-found-lt-STREAM_CONTEXTS : goal.returns-then-found-lt-STREAM_CONTEXTS
-returns-then-found-lt-STREAM_CONTEXTS c =
-    closing_told _ c.refusal.ensures (sym (lt-ltb _ _ c.if-found-lt-STREAM_CONTEXTS.true)) c.close_stream.ensures
-
--- none is
-pub returns : goal.returns
-returns c =
+-- none is open
+pub returns-in_default : goal.returns-in_default
+returns-in_default c =
     let words = c.args.state.now in
-    closing_told _ c.refusal-2.ensures (sym (le-ltb _ _ c.if-found-lt-STREAM_CONTEXTS.false)) (put_nowhere (state_of words) _ (sixteen words) c.if-found-lt-STREAM_CONTEXTS.false)
+    rw (c.in_default.is, c.refusal.ensures) (record { answer = refl; drop = refl; state = put_nowhere (state_of words) _ (sixteen words) (omega arith) }, refl)
