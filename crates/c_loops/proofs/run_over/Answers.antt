@@ -43,12 +43,6 @@ as_number why.Delivery = refl
 
 -- ---- the loop
 
-pub loop-stop-init : goal.loop-stop-init
-loop-stop-init c = begins _ _ _ _ c.requires
-
-pub step_at-t-requires : goal.step_at-t-requires
-step_at-t-requires c = c.loop-stop.invariant.ready
-
 -- the step stopped
 pub returns-in-Some : goal.returns-in-Some
 returns-in-Some c =
