@@ -10,7 +10,7 @@ ghost use Rattle.c_bursts.specs.Inside.{ReadyToRun, PacketPromise, StepPromise, 
 
 use answers::Answer;
 use c_reports::Report;
-use log_records::Next;
+use log_records::Record;
 use refusals::Refusal;
 
 // The bytes of `responses` that each packet has for its own.
@@ -101,17 +101,17 @@ pub fn step_at(
         result (desk state.new stream_memory.new message_memory.new responses.new) reports.new }
 {
     match log_records::next_record(burst, at) {
-        Next::End => Step {
+        Ok(None) => Step {
             stop: Some(Stop::End),
             count,
             next: at,
         },
-        Next::Bad => Step {
+        Err(_) => Step {
             stop: Some(Stop::Bad),
             count,
             next: at,
         },
-        Next::Record { from, size, next } => {
+        Ok(Some(Record { from, size, next })) => {
             if room == 0 {
                 return Step {
                     stop: Some(Stop::Full),
