@@ -8,20 +8,20 @@ use Rattle.log_records.specs.declared.BadLog.{BadLog}
 abbrev pub record_of : ℕ → ℕ → ℕ → Record
 record_of from size next = record { from = from; size = size; next = next }
 
-abbrev pub bad : BadLog
-bad = record {}
+abbrev pub unreadable : BadLog
+unreadable = record {}
 
 -- in a log of n bytes, the record whose packet has `size` bytes from `from` on; a cut record is bad
 unfoldable pub record_from : ℕ → ℕ → ℕ → Result Record BadLog
-record_from n from size = cond (ltb (n - from) size) (Err bad) (Ok (record_of from size (from + size)))
+record_from n from size = cond (ltb (n - from) size) (Err unreadable) (Ok (record_of from size (from + size)))
 
 -- lengths are in groups of seven bits, lowest group first, top bit set on all but the last byte, at most two bytes,
 -- a second byte never 0; a cut length is bad
 unfoldable pub long_record : List ℕ → ℕ → Result Record BadLog
 long_record log at =
-    cond (ltb (length log) (at + 2)) (Err bad)
-    (cond (eqb (byte log (at + 1)) 0) (Err bad)
-    (cond (ltb 127 (byte log (at + 1))) (Err bad)
+    cond (ltb (length log) (at + 2)) (Err unreadable)
+    (cond (eqb (byte log (at + 1)) 0) (Err unreadable)
+    (cond (ltb 127 (byte log (at + 1))) (Err unreadable)
     (record_from (length log) (at + 2) (byte log at - 128 + 128 * byte log (at + 1)))))
 
 -- what stands at a place of a log: a record, its end (`None`), or what is bad

@@ -59,7 +59,7 @@ pub fn next_record(log: &[u8], at: usize) -> Result<Option<Record>, BadLog>
     }
     let first = lists::wide(log[at]);
     if first < 128 {
-        return Ok(Some(record_from(log, at + 1, first)?));
+        return record_from(log, at + 1, first).map(Some);
     }
-    Ok(Some(long_record(log, at)?))
+    long_record(log, at).map(Some)
 }

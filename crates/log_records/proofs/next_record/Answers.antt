@@ -8,14 +8,5 @@ pub returns-then-log-at : goal.returns-then-log-at
 unfolding next_record
 returns-then-log-at c = simp (le-ltb _ _ c.if-log-at.true)
 
--- a length of one byte
 pub returns-then-first-lt128 : goal.returns-then-first-lt128
-unfolding next_record
-returns-then-first-lt128 c =
-    simp (lt-ltb _ _ c.if-log-at.false, ← c.wide-first.ensures.0, lt-ltb _ _ c.if-first-lt128.true, ← c.record_from.ensures)
-
--- a length of two bytes
-pub returns : goal.returns
-unfolding next_record
-returns c =
-    simp (lt-ltb _ _ c.if-log-at.false, ← c.wide-first.ensures.0, le-ltb _ _ c.if-first-lt128.false, ← c.long_record.ensures)
+returns-then-first-lt128 c = let a = c.map.ensures in ?
