@@ -10,7 +10,7 @@ use lib.Dec.{eqb, ltb}
 use borrow.Author.Tests.{lt-ltb, le-ltb, ltb-true, ltb-false, ne_eqb, eqb-false}
 use Rattle.lists.specs.Bytes.{byte}
 use Rattle.log_records.specs.declared.Record.{Record}
-use Rattle.log_records.specs.Records.{record_of, unreadable, record_from, long_record, Found, found, next_record}
+use Rattle.log_records.specs.Records.{record_of, unreadable, record_from, long_record, record_within, Found, found, next_record}
 
 -- a packet that is all there
 there : (n from size : ℕ) → from + size ≤ n → record_from n from size ≡ Ok (record_of from size (from + size))
@@ -19,7 +19,7 @@ there n from size h = simp (le-ltb (n - from) size (omega arith))
 
 -- a length of one byte
 pub small : (log : List ℕ) (at n : ℕ) → byte log at ≡ n → n < 128 → at + 1 + n ≤ length log → next_record log at ≡ Ok (Some (record_of (at + 1) n (at + 1 + n)))
-unfolding next_record
+unfolding next_record record_within
 small log at n first h room =
     let inside : at < length log = omega arith in
     simp (lt-ltb at (length log) inside, first, lt-ltb n 128 h, there (length log) (at + 1) n room)
@@ -27,7 +27,7 @@ small log at n first h room =
 -- a length of two bytes
 pub large : (log : List ℕ) (at low high : ℕ) → byte log at ≡ low + 128 → byte log (at + 1) ≡ high → 0 < high → high < 128
     → at + 2 + (low + 128 * high) ≤ length log → next_record log at ≡ Ok (Some (record_of (at + 2) (low + 128 * high) (at + 2 + (low + 128 * high))))
-unfolding next_record long_record
+unfolding next_record record_within long_record
 large log at low high first second some h room =
     let inside : at < length log = omega arith in
     let less : low + 128 - 128 ≡ low = omega arith in
@@ -52,7 +52,7 @@ pub data Stood (log : List ℕ) (at : ℕ) (x : Found) : Type 0 where
       → found (record_from (length log) (at + 2) (byte log at - 128 + 128 * byte log (at + 1))) ≡ x → Stood log at x
 
 pub stood : (log : List ℕ) (at : ℕ) {x : Found} → next_record log at ≡ x → Stood log at x
-unfolding next_record long_record
+unfolding next_record record_within long_record
 stood log at {x} e = go _ _ _ _ _ refl refl refl refl refl e
   where
     go : (a b c d f : Bool) → ltb at (length log) ≡ a → ltb (byte log at) 128 ≡ b → ltb (length log) (at + 2) ≡ c → eqb (byte log (at + 1)) 0 ≡ d

@@ -24,7 +24,11 @@ long_record log at =
     (cond (ltb 127 (byte log (at + 1))) (Err unreadable)
     (record_from (length log) (at + 2) (byte log at - 128 + 128 * byte log (at + 1)))))
 
--- what stands at a place of a log: a record, its end (`None`), or what is bad
+-- the record at a place before the log's end
+unfoldable pub record_within : List ℕ → ℕ → Result Record BadLog
+record_within log at = cond (ltb (byte log at) 128) (record_from (length log) (at + 1) (byte log at)) (long_record log at)
+
+-- what stands at a place of a log: a record, its end (`None`), or nothing that can be read
 abbrev pub Found : Type 0
 Found = Result (Option Record) BadLog
 
@@ -34,12 +38,7 @@ found (Err e) = Err e
 
 -- the record at a place of the log, or its end
 unfoldable pub next_record : List ℕ → ℕ → Found
-next_record log at =
-    cond (ltb at (length log))
-    (found (cond (ltb (byte log at) 128)
-    (record_from (length log) (at + 1) (byte log at))
-    (long_record log at)))
-    (Ok None)
+next_record log at = cond (ltb at (length log)) (found (record_within log at)) (Ok None)
 
 -- what `next_record` promises
 abbrev pub NextRecordPromise : List ℕ → ℕ → Found → Type 0

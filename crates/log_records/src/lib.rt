@@ -3,7 +3,7 @@
 
 ghost use Rattle.std.specs.Prelude.{◌≡◌, ◌+◌, ◌<◌, ◌≤◌, length};
 ghost use Rattle.lists.specs.Bytes.{byte};
-ghost use Rattle.log_records.specs.Records.{record_from, long_record, NextRecordPromise};
+ghost use Rattle.log_records.specs.Records.{record_from, long_record, record_within, NextRecordPromise};
 
 // A record: where its packet begins, how many bytes that has, and the place behind it.
 #[derive(Clone, Copy)]
@@ -50,6 +50,18 @@ fn long_record(log: &[u8], at: usize) -> Result<Record, BadLog>
     record_from(log, at + 2, lists::wide(log[at]) - 128 + 128 * second)
 }
 
+// The record at a place before the log's end.
+fn record_within(log: &[u8], at: usize) -> Result<Record, BadLog>
+    requires { at < length log.now }
+    ensures { result ≡ record_within log.now at }
+{
+    let first = lists::wide(log[at]);
+    if first < 128 {
+        return record_from(log, at + 1, first);
+    }
+    long_record(log, at)
+}
+
 // The record at that place, unless the log is bad there. At the log's end, and past it, there is none.
 pub fn next_record(log: &[u8], at: usize) -> Result<Option<Record>, BadLog>
     ensures { NextRecordPromise log.now at result }
@@ -57,9 +69,5 @@ pub fn next_record(log: &[u8], at: usize) -> Result<Option<Record>, BadLog>
     if log.len() <= at {
         return Ok(None);
     }
-    let first = lists::wide(log[at]);
-    if first < 128 {
-        return record_from(log, at + 1, first).map(Some);
-    }
-    long_record(log, at).map(Some)
+    Ok(Some(record_within(log, at)?))
 }
