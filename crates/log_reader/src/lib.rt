@@ -22,6 +22,7 @@ pub fn place_behind(found: Result<Option<Record>, BadLog>, at: usize) -> usize
     }
 }
 
+// Not an iterator: where the log is bad, `next` stays there and finds the same again, and an iterator would not end.
 impl<'a> LogReader<'a> {
     // A reader at the log's beginning.
     pub fn new(log: &'a [u8]) -> LogReader<'a>
@@ -61,6 +62,37 @@ impl<'a> LogReader<'a> {
     }
 }
 
+// The methods are functions of the crate too.
+pub fn new<'a>(log: &'a [u8]) -> LogReader<'a>
+    ensures { NewReaderPromise log.entry result }
+{
+    LogReader::new(log)
+}
+
+pub fn place<'a>(reader: LogReader<'a>) -> usize
+    ensures { PlacePromise reader.entry result }
+{
+    reader.place()
+}
+
+pub fn moved<'a>(reader: LogReader<'a>, at: usize) -> LogReader<'a>
+    ensures { MovedPromise reader.entry at result }
+{
+    reader.moved(at)
+}
+
+pub fn found<'a>(reader: LogReader<'a>) -> Result<Option<Record>, BadLog>
+    ensures { FoundPromise reader.entry result }
+{
+    reader.found()
+}
+
+pub fn next<'s, 'a>(reader: &'s mut LogReader<'a>) -> Result<Option<Record>, BadLog>
+    ensures { NextPromise reader.old result reader.new }
+{
+    reader.next()
+}
+
 // The record at a place of a log, read by a reader.
 pub fn record_at(log: &[u8], at: usize) -> Result<Option<Record>, BadLog>
     ensures { RecordAtPromise log.now at result }
@@ -81,11 +113,10 @@ pub fn place_after(log: &[u8], at: usize) -> usize
 pub fn count_records(log: &[u8]) -> usize
     ensures { CountRecordsPromise log.now result }
 {
-    let mut at = 0;
+    let mut reader = LogReader::new(log);
     let mut count = 0;
-    while let Ok(Some(record)) = record_at(log, at) {
-        at = record.next;
-        count = count + 1;
+    while let Ok(Some(_)) = reader.next() {
+        count += 1;
     }
     count
 }

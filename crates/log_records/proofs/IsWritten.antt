@@ -2,19 +2,18 @@
 use Prim.Native.Nat.{ℕ, zero, suc, ◌+◌, ◌-◌, ◌*◌, ◌/◌, ◌%◌, ◌≤◌, ◌<◌}
 use mathlib.Core.Path.{◌≡◌, refl, ap, sym, ◌∙◌}
 use mathlib.Core.List.{List, [], ◌∷◌, ◌++◌, append_assoc}
-use mathlib.Core.Bool.{Bool, true, false, cond, false≢true}
+use mathlib.Core.Bool.{true, false≢true}
 use native.Mathlib.Omega.{arith}
 use native.Mathlib.Numerals.{add-one}
 use native.Mathlib.Nat.{div-add-mod', mod-lt}
 use lib.ListN.{length, take, drop, length-drop, take-append-drop, drop_of_length-le}
 use lib.Seq.{drop-cons, drop-drop, length-take-le}
-use lib.Dec.{ltb}
-use borrow.Author.Tests.{lt-ltb, le-ltb, ltb-false}
+use borrow.Author.Tests.{lt-ltb, le-ltb}
 use Rattle.lists.specs.Bytes.{byte}
 use Rattle.std.specs.Prelude.{Result, Ok, Err, Some, None}
 use Rattle.log_records.specs.declared.Record.{Record}
 use Rattle.log_records.specs.declared.BadLog.{BadLog}
-use Rattle.log_records.specs.Records.{Found, found, Records, by_next, record_from, next_record, records_from, records_of}
+use Rattle.log_records.specs.Records.{Found, found, Records, by_next, next_record, records_from, records_of}
 use Rattle.log_records.specs.Written.{length_bytes, written_log, AllShort, LogIsWritten}
 use Rattle.log_records.proofs.Found.{Stood, past, bad, one, two, stood, fits}
 
