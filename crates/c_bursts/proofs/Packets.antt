@@ -9,17 +9,17 @@ use lib.Seq.{drop-drop}
 use borrow.Rule.Slice.PartMut.{mid_of, put_mid}
 use Rattle.lists.specs.Bytes.{written}
 use Rattle.lists.proofs.Written.{written_is}
-use Rattle.answers.specs.declared.Figures.{Figures}
-use Rattle.answers.specs.Figures.{telling}
+use Rattle.answers.specs.declared.Reading.{Reading}
+use Rattle.answers.specs.Answers.{said}
 use Rattle.wire.specs.declared.Setup.{Setup}
 use Rattle.wire.specs.Packet.{header}
 use Rattle.wire.proofs.Widths.{two_bytes}
 use Rattle.contexts.specs.State.{ids_in, stream_contexts}
 use Rattle.reading.specs.Desk.{Desk, state_on, with_response}
 use Rattle.reading.specs.Table.{lent}
-use Rattle.reading.specs.Read.{Settled, settled, reading}
+use Rattle.reading.specs.Read.{Settled, settled, reading, ReadPromise}
 use Rattle.reading.specs.Good.{StillGood}
-use Rattle.reading.specs.Inside.{Fit, ReadyToRead, FiguresPromise}
+use Rattle.reading.specs.Inside.{Fit, ReadyToRead}
 use Rattle.reading.proofs.Kept.{stays_good}
 use Rattle.c_reports.specs.declared.Report.{Report}
 use Rattle.c_reports.specs.Reports.{report_of, report_words, words_of_report}
@@ -59,9 +59,9 @@ module _ (r : Run) (ready : ReadyToRun r 1) where
   }
 
   -- what reading left: in its memories, in its slot, and with the report beside it
-  module _ (packet : List ℕ) (small : get_or packet (header (ids_in (state_on r.desk))) 0 < 256) (t : Figures) (after : Desk) (promise : FiguresPromise (lent lent_desk packet) t after) where
-    as_defined : settled (telling t) t.dropped t.response after ≡ read_in r packet
-    as_defined = promise.promised ∙ ap (λ (s : List ℕ). reading (lent (with_response r.desk s) packet)) slot_is
+  module _ (packet : List ℕ) (small : get_or packet (header (ids_in (state_on r.desk))) 0 < 256) (t : Reading) (after : Desk) (promise : ReadPromise (lent lent_desk packet) t after) where
+    as_defined : settled (said t.answer) t.dropped t.response after ≡ read_in r packet
+    as_defined = promise ∙ ap (λ (s : List ℕ). reading (lent (with_response r.desk s) packet)) slot_is
 
     still-good : StillGood (state_on r.desk) after.words
     still-good = rw (ap (λ (l : Settled). l.desk.words) as_defined) (stays_good (lent_in r packet) ready.fit.whole ready.fit.good small)
@@ -76,14 +76,14 @@ module _ (r : Run) (ready : ReadyToRun r 1) where
       }
 
       pub packet-read : length after.response ≡ length lent_slot
-          → (report : Report) (reports : List ℕ) → report ≡ report_of (telling t) t.dropped t.response → reports ≡ written r.reports (report_words * r.count) (words_of_report report)
-          → PacketPromise r packet report.kind (with_response after (put_mid (slot_bytes * r.count) size r.desk.response after.response)) reports
+          → (report : Report) (reports : List ℕ) → report ≡ report_of (said t.answer) t.dropped t.response → reports ≡ written r.reports (report_words * r.count) (words_of_report report)
+          → PacketPromise r packet t.answer (with_response after (put_mid (slot_bytes * r.count) size r.desk.response after.response)) reports
       packet-read slot report reports e f = record {
         leaves =
             ap₂ (λ (a b : List ℕ). run (with_response after a) b (r.count + 1) r.next)
             (put_back r.desk.response after.response (slot_bytes * r.count) size (slot ∙ slot-length ∙ sym size_is))
             (f ∙ ap (λ (w : Report). written r.reports (report_words * r.count) (words_of_report w)) e)
             ∙ ap (answers_placed r r.next) as_defined;
-        reported = ap (λ (w : Report). w.kind) e ∙ ap (λ (l : Settled). (report_for l).kind) as_defined;
+        reported = ap (λ (l : Settled). l.says) as_defined;
         fit = still_fit _;
       }

@@ -9,53 +9,64 @@ use lib.ListN.{length, take, drop}
 use borrow.Author.Tests.{eq-eqb, ne_eqb, eqb-false}
 use Rattle.reading.specs.Desk.{Desk}
 use Rattle.reading.specs.Inside.{Fit}
-use Rattle.log_records.specs.declared.Next.{Next}
-use Rattle.log_records.specs.declared.Next.TheVariants.{Record, End, Bad}
-use Rattle.log_records.specs.Records.{next_record}
-use Rattle.log_records.proofs.Found.{inside}
-use Rattle.c_bursts.specs.Bursts.{Run, run, StepLeft, step_left, step_over, step_by, pause_of, step_in, at_end, at_bad, is_full, stopped, ran}
+use Rattle.std.specs.Prelude.{Result, Ok, Err, Some, None}
+use Rattle.refusals.specs.declared.Refusal.{Refusal}
+use Rattle.answers.specs.declared.Answer.{Answer}
+use Rattle.answers.specs.Answers.{Said, held, delivered, message, refused, said}
+use Rattle.log_records.specs.declared.Record.{Record}
+use Rattle.log_records.specs.declared.BadLog.{BadLog}
+use Rattle.log_records.specs.Records.{Found, next_record}
+use Rattle.c_reports.specs.Reports.{kind_of, report_of}
+use Rattle.c_bursts.specs.Bursts.{Run, run, StepLeft, step_left, step_over, step_by, read_in, pause_of, step_in, at_end, at_bad, is_full, stopped, ran}
 use Rattle.c_bursts.specs.Inside.{ReadyToRun, PacketPromise}
 
 -- ---- one step
 
--- with room for some packets there is room for one
-pub one_of : (r : Run) (room : ℕ) → ReadyToRun r room → (room ≡ 0 → ⊥) → ReadyToRun r 1
-one_of r room ready n =
-    let space = ready.space in
-    record { fit = ready.fit; space = record { replies = omega (arith, space.replies, n); answers = omega (arith, space.answers, n) } }
+-- a report's kind is that of what it says
+kind_said : (says : Said) (dropped : Bool) (replied : ℕ) → (report_of says dropped replied).kind ≡ kind_of says
+unfolding report_of
+kind_said (refused _) _ _ = refl
+kind_said held _ _ = refl
+kind_said (delivered _ _ _ _) _ _ = refl
+kind_said (message _ _ _ _ _) _ _ = refl
 
 module _ (burst : List ℕ) (pause room : ℕ) (r : Run) where
-  pub at-end : next_record burst r.next ≡ End → step_left at_end r ≡ step_in pause room burst r
+  pub at-end : next_record burst r.next ≡ Ok None → step_left at_end r ≡ step_in pause room burst r
   unfolding step_in
   at-end e = sym (ap (step_by pause room burst r) e)
 
-  pub at_bad_lem : next_record burst r.next ≡ Bad → step_left at_bad r ≡ step_in pause room burst r
+  pub at_bad_lem : (b : BadLog) → next_record burst r.next ≡ Err b → step_left at_bad r ≡ step_in pause room burst r
   unfolding step_in
-  at_bad_lem e = sym (ap (step_by pause room burst r) e)
+  at_bad_lem b e = sym (ap (step_by pause room burst r) e)
 
-  module _ (from size next : ℕ) (found : next_record burst r.next ≡ Record from size next) where
+  module _ (found : Record) (stands : next_record burst r.next ≡ Ok (Some found)) where
     pub at_full : room ≡ 0 → step_left is_full r ≡ step_in pause room burst r
     unfolding step_in
-    at_full z = rw (found, eq-eqb room 0 z)
+    at_full z = rw (stands, eq-eqb room 0 z)
 
-    pub over-packet : (room ≡ 0 → ⊥) → step_over pause r (take size (drop from burst)) next ≡ step_in pause room burst r
+    pub over-packet : (room ≡ 0 → ⊥) → step_over pause r (take found.size (drop found.from burst)) found.next ≡ step_in pause room burst r
     unfolding step_in
-    over-packet n = rw (found, ne_eqb room 0 n)
+    over-packet n = rw (stands, ne_eqb room 0 n)
 
-    -- the packet has its size
-    packet_is : take (from + size - from) (drop from burst) ≡ take size (drop from burst)
+    -- the bytes of the packet, which has its size
+    abbrev packet : List ℕ
+    packet = take (found.from + found.size - found.from) (drop found.from burst)
+
+    packet_is : packet ≡ take found.size (drop found.from burst)
     packet_is =
-        let e : from + size - from ≡ size = omega arith in
-        ap (λ (k : ℕ). take k (drop from burst)) e
+        let e : found.from + found.size - found.from ≡ found.size = omega arith in
+        ap (λ (k : ℕ). take k (drop found.from burst)) e
 
     -- read from a run that does not know where the next record begins
-    pub at_record : (kind stop : ℕ) (after : Desk) (reports : List ℕ) → (room ≡ 0 → ⊥)
-        → PacketPromise (run r.desk r.reports r.count 0) (take (from + size - from) (drop from burst)) kind after reports
-        → stop ≡ pause_of pause kind
-        → step_left stop (run after reports (r.count + 1) next) ≡ step_in pause room burst r
-    at_record kind stop after reports n p e =
-        ap₂ (λ (k : ℕ) (x : Run). step_left k (run x.desk x.reports x.count next)) (e ∙ ap (pause_of pause) p.reported) p.leaves
-        ∙ (ap (λ (packet : List ℕ). step_over pause r packet next) packet_is
+    pub at_record : (answer : Result Answer Refusal) (stop : ℕ) (after : Desk) (reports : List ℕ) → (room ≡ 0 → ⊥)
+        → PacketPromise (run r.desk r.reports r.count 0) packet answer after reports
+        → stop ≡ pause_of pause (kind_of (said answer))
+        → step_left stop (run after reports (r.count + 1) found.next) ≡ step_in pause room burst r
+    at_record answer stop after reports n p e =
+        let x = read_in r packet in
+        let kind : kind_of (said answer) ≡ (report_of x.says x.dropped x.replied).kind = ap kind_of p.reported ∙ sym (kind_said x.says x.dropped x.replied) in
+        ap₂ (λ (k : ℕ) (y : Run). step_left k (run y.desk y.reports y.count found.next)) (e ∙ ap (pause_of pause) kind) p.leaves
+        ∙ (ap (λ (bytes : List ℕ). step_over pause r bytes found.next) packet_is
         ∙ over-packet n)
 
 -- ---- the run
@@ -74,10 +85,10 @@ went pause left burst r t e = rw e (by_next (next_record burst r.next))
     by_room packet next true e z = absurd (omega (arith, z))
     by_room packet next false e z = record { room = eqb-false left 0 e; count = refl }
 
-    by_next : (x : Next) → (step_by pause left burst r x).stop ≡ 0 → Went left r (step_by pause left burst r x)
-    by_next End z = absurd (omega (arith, z))
-    by_next Bad z = absurd (omega (arith, z))
-    by_next (Record from size next) z = by_room _ next (eqb left 0) refl z
+    by_next : (x : Found) → (step_by pause left burst r x).stop ≡ 0 → Went left r (step_by pause left burst r x)
+    by_next (Ok None) z = absurd (omega (arith, z))
+    by_next (Err _) z = absurd (omega (arith, z))
+    by_next (Ok (Some found)) z = by_room _ found.next (eqb left 0) refl z
 
 pub had_room : (pause left : ℕ) (burst : List ℕ) (r : Run) (t : StepLeft) → t ≡ step_in pause left burst r → t.stop ≡ 0 → left ≡ 0 → ⊥
 had_room pause left burst r t e z = (went pause left burst r t e z).room

@@ -1,13 +1,11 @@
 -- A burst: packets in the log's record form, read one after another, each at the desk that the one before left.
-use Rattle.std.specs.Prelude.{ℕ, zero, suc, min, ◌+◌, ◌*◌, ◌/◌, ◌≡◌, List, cond, length, take, drop, eqb}
+use Rattle.std.specs.Prelude.{ℕ, zero, suc, min, ◌+◌, ◌*◌, ◌/◌, ◌≡◌, List, cond, length, take, drop, eqb, Ok, Err, Some, None}
 use Rattle.lists.specs.Bytes.{written}
 use Rattle.tables.specs.Refusals.{Verdict, refuse, accept, verdict}
 use Rattle.reading.specs.Desk.{Desk, with_response}
 use Rattle.reading.specs.Table.{Lent, lent, lent_rows}
 use Rattle.reading.specs.Read.{Settled, reading}
-use Rattle.log_records.specs.declared.Next.{Next}
-use Rattle.log_records.specs.declared.Next.TheVariants.{Record, End, Bad}
-use Rattle.log_records.specs.Records.{next_record}
+use Rattle.log_records.specs.Records.{Found, next_record}
 use Rattle.answers.specs.Kinds.{delivered_kind, message_kind}
 use Rattle.c_reports.specs.declared.Report.{Report}
 use Rattle.c_reports.specs.Reports.{report_of, report_words, words_of_report}
@@ -96,10 +94,10 @@ abbrev pub step_over : ℕ → Run → List ℕ → ℕ → StepLeft
 step_over pause r packet next = step_left (pause_of pause (kind_in r packet)) (behind r packet next)
 
 -- by what stands at its place, where `room` packets more have room for their reports and responses
-abbrev pub step_by : ℕ → ℕ → List ℕ → Run → Next → StepLeft
-step_by pause room burst r End = step_left at_end r
-step_by pause room burst r Bad = step_left at_bad r
-step_by pause room burst r (Record from size next) = cond (eqb room 0) (step_left is_full r) (step_over pause r (take size (drop from burst)) next)
+abbrev pub step_by : ℕ → ℕ → List ℕ → Run → Found → StepLeft
+step_by pause room burst r (Ok None) = step_left at_end r
+step_by pause room burst r (Err _) = step_left at_bad r
+step_by pause room burst r (Ok (Some found)) = cond (eqb room 0) (step_left is_full r) (step_over pause r (take found.size (drop found.from burst)) found.next)
 
 unfoldable pub step_in : ℕ → ℕ → List ℕ → Run → StepLeft
 step_in pause room burst r = step_by pause room burst r (next_record burst r.next)

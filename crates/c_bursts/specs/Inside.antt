@@ -34,6 +34,10 @@ abbrev pub goes_or_stops : Option Stop → ℕ
 goes_or_stops None = 0
 goes_or_stops (Some stop) = stop_number stop
 
+-- no step stops with 0, as a burst that is refused as a whole does: with 0 it goes on
+abbrev pub GoesOnAt0 : Option Stop → Type 0
+GoesOnAt0 stop = goes_or_stops stop ≡ 0 → stop ≡ None
+
 -- the promise of reading one packet of a burst
 pub record PacketPromise (r : Run) (packet : List ℕ) (answer : Result Answer Refusal) (after : Desk) (reports : List ℕ) : Type 0 where
   pub leaves : run after reports (r.count + 1) r.next ≡ behind r packet r.next
@@ -43,6 +47,7 @@ pub record PacketPromise (r : Run) (packet : List ℕ) (answer : Result Answer R
 -- the promise of a step
 pub record StepPromise (pause room : ℕ) (burst : List ℕ) (r : Run) (t : Step) (after : Desk) (reports : List ℕ) : Type 0 where
   pub leaves : step_left (goes_or_stops t.stop) (run after reports t.count t.next) ≡ step_in pause room burst r
+  pub goes : GoesOnAt0 t.stop
   pub fit : Fit after
 
 -- the promise of the run behind the tests

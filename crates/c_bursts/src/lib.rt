@@ -6,11 +6,11 @@ ghost use Rattle.reading.specs.Desk.{desk};
 ghost use Rattle.answers.specs.Answers.{said};
 ghost use Rattle.c_reports.specs.Reports.{kind_of};
 ghost use Rattle.c_bursts.specs.Bursts.{run, pause_of};
-ghost use Rattle.c_bursts.specs.Inside.{ReadyToRun, PacketPromise, StepPromise, goes_or_stops};
+ghost use Rattle.c_bursts.specs.Inside.{ReadyToRun, PacketPromise, StepPromise, goes_or_stops, GoesOnAt0};
 
 use answers::Answer;
 use c_reports::Report;
-use log_records::Next;
+use log_records::Record;
 use refusals::Refusal;
 
 // The bytes of `responses` that each packet has for its own.
@@ -73,8 +73,10 @@ fn read_packet(
 }
 
 // Whether the burst stops behind a packet: where the caller asked for it, and the packet delivered a PDU or a message.
+#[tactic(auto, unfolding(crate::specs::Bursts::pause_of))]
 fn pausing(pause: usize, answer: Result<Answer, Refusal>) -> Option<Stop>
-    ensures { goes_or_stops result ≡ pause_of pause (kind_of (said answer)) }
+    ensures number { goes_or_stops result ≡ pause_of pause (kind_of (said answer)) }
+    ensures goes { GoesOnAt0 result }
 {
     match answer {
         Ok(Answer::Delivered { .. } | Answer::Message { .. }) if pause != 0 => Some(Stop::Delivery),
@@ -101,17 +103,17 @@ pub fn step_at(
         result (desk state.new stream_memory.new message_memory.new responses.new) reports.new }
 {
     match log_records::next_record(burst, at) {
-        Next::End => Step {
+        Ok(None) => Step {
             stop: Some(Stop::End),
             count,
             next: at,
         },
-        Next::Bad => Step {
+        Err(_) => Step {
             stop: Some(Stop::Bad),
             count,
             next: at,
         },
-        Next::Record { from, size, next } => {
+        Ok(Some(Record { from, size, next })) => {
             if room == 0 {
                 return Step {
                     stop: Some(Stop::Full),

@@ -20,9 +20,10 @@ use Rattle.writing.specs.Writer.{wrote_of, writing}
 use Rattle.flows.specs.OneFlow.{pdu}
 use Rattle.flows.specs.Deliveries.{Delivery, delivery}
 use Rattle.sending.specs.Sending.{Sent, heading_for}
-use Rattle.c_reports.specs.declared.Numbers.{Numbers}
 use Rattle.c_reports.specs.declared.Report.{Report}
-use Rattle.c_reports.specs.Reports.{numbers_of_setup, numbers_of_writer, report_of}
+use Rattle.c_reports.specs.Reports.{report_of}
+use Rattle.c_answers.specs.declared.Numbers.{Numbers}
+use Rattle.c_answers.specs.Numbers.{numbers_of_setup, numbers_of_writer}
 use Rattle.c_places.specs.declared.Place.{Place}
 use Rattle.c_places.specs.Places.{StreamPlacePromise}
 use Rattle.calls.specs.Calls.{Fetches, room, none-held, none_message, none_refused, Reads, stop, call}

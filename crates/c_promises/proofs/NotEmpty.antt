@@ -21,7 +21,7 @@ use Rattle.writing.specs.Writer.{Wrote}
 use Rattle.flows.specs.Deliveries.{Delivery}
 use Rattle.flows.specs.Fresh.{Allowed, zero_desk}
 use Rattle.c_reports.specs.declared.Report.{Report}
-use Rattle.c_reports.specs.Reports.{numbers, numbers_of_setup, numbers_of_writer}
+use Rattle.c_answers.specs.Numbers.{numbers, numbers_of_setup, numbers_of_writer}
 use Rattle.log_records.specs.Written.{AllShort}
 use Rattle.log_records.proofs.Back.{log_reads_back}
 use Rattle.sending.specs.Sending.{Sent, packet_count, packets, FairPDU}

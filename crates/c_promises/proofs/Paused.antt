@@ -13,8 +13,9 @@ use borrow.Author.Tests.{ne_eqb}
 use Rattle.answers.specs.Answers.{Said, held, delivered, message, refused}
 use Rattle.tables.specs.Refusals.{Verdict, refuse, accept}
 use Rattle.reading.specs.Desk.{Desk, with_response}
-use Rattle.log_records.specs.declared.Next.TheVariants.{Record, End}
-use Rattle.log_records.specs.Records.{next_record}
+use Rattle.std.specs.Prelude.{Ok, Some, None}
+use Rattle.log_records.specs.declared.Record.{Record}
+use Rattle.log_records.specs.Records.{record_of, next_record}
 use Rattle.log_records.specs.Written.{length_bytes, written_log, AllShort}
 use Rattle.log_records.proofs.Back.{stands, packet_of_lem, ended}
 use Rattle.c_reports.specs.declared.Report.{Report}
@@ -78,7 +79,7 @@ module _ (pause : ℕ) (asked : pause ≡ 0 → ⊥) where
     part_end : (room : ℕ) (front : List ℕ) (r : Run) → burst ≡ front ++ [] → r.next ≡ length front → Part burst r.desk [] (ran pause room burst r)
     part_end room front r e at =
         let all : burst ≡ front = e ∙ append-nil front in
-        let there : next_record burst r.next ≡ End = ap (next_record burst) (at ∙ ap length (sym all)) ∙ ended burst in
+        let there : next_record burst r.next ≡ Ok None = ap (next_record burst) (at ∙ ap length (sym all)) ∙ ended burst in
         subst (Part burst r.desk []) (stops pause room burst r (step_left at_end r) (at-end burst pause room r there) (λ z. omega (arith, z)))
         (record {
           rest = [];
@@ -111,7 +112,11 @@ module _ (pause : ℕ) (asked : pause ≡ 0 → ⊥) where
       place : next ≡ length further
       place = simp length-append (omega arith)
 
-      found : next_record burst r.next ≡ Record from (length p) next
+      -- its record
+      abbrev own : Record
+      own = record_of from (length p) next
+
+      found : next_record burst r.next ≡ Ok (Some own)
       found = ap₂ next_record apart at ∙ stands front p (written_log qs) short.0
 
       packet-there : take (length p) (drop from burst) ≡ p
@@ -120,7 +125,7 @@ module _ (pause : ℕ) (asked : pause ≡ 0 → ⊥) where
       -- no room for it
       part_full : Part burst r.desk (p ∷ qs) (ran pause 0 burst r)
       part_full =
-          subst (Part burst r.desk (p ∷ qs)) (stops pause 0 burst r (step_left is_full r) (at_full burst pause 0 r from (length p) next found refl) (λ z. omega (arith, z)))
+          subst (Part burst r.desk (p ∷ qs)) (stops pause 0 burst r (step_left is_full r) (at_full burst pause 0 r own found refl) (λ z. omega (arith, z)))
           (record {
             rest = p ∷ qs;
             short = short;
@@ -131,7 +136,7 @@ module _ (pause : ℕ) (asked : pause ≡ 0 → ⊥) where
 
       module _ (room : ℕ) (space : Room r (suc room)) where
         step_is : step_over pause r p next ≡ step_in pause (suc room) burst r
-        step_is = ap (λ (q : List ℕ). step_over pause r q next) (sym packet-there) ∙ over-packet burst pause (suc room) r from (length p) next found (λ z. omega arith)
+        step_is = ap (λ (q : List ℕ). step_over pause r q next) (sym packet-there) ∙ over-packet burst pause (suc room) r own found (λ z. omega arith)
 
         -- it delivers: the burst stops
         part-stops : pause_of pause (kind_in r p) ≡ at_delivery → Part burst r.desk (p ∷ qs) (ran pause (suc room) burst r)

@@ -6,7 +6,7 @@ use native.Mathlib.Omega.{arith}
 use lib.ListN.{length, drop}
 use Rattle.reading.specs.Desk.{Desk, with_response}
 use Rattle.paper_examples.proofs.Computing.{computing}
-use Rattle.log_records.specs.Records.{record_from, long_record, next_record}
+use Rattle.log_records.specs.Records.{record_from, long_record, record_within, next_record}
 use Rattle.log_records.specs.Written.{length_bytes, written_log}
 use Rattle.lent_state.specs.Lent.{state_refusal, has_room}
 use Rattle.room_parts.specs.Parts.{room_part, stream_room}
@@ -23,7 +23,7 @@ use Rattle.c_promises.specs.OfCalls.{desk_for_nine, nine_reports, bytes_at, flow
 
 -- what a proof by computation looks through, bursts too
 unfoldable in_bursts : Unit {0}
-unfolding computing put_of record_from long_record next_record length_bytes report_of pause_of step_in ran room_for read_burst state_refusal has_room room_part stream_room
+unfolding computing put_of record_from long_record record_within next_record length_bytes report_of pause_of step_in ran room_for read_burst state_refusal has_room room_part stream_room
 in_bursts = tt
 
 module _ (narrow : ℕ) where

@@ -4,13 +4,13 @@ use mathlib.Core.Path.{◌≡◌, refl, ap, sym, ◌∙◌}
 use mathlib.Core.List.{List, [], ◌∷◌}
 use mathlib.Core.Bool.{Bool, true, false, cond, false≢true}
 use native.Mathlib.Omega.{arith}
-use lib.Dec.{ltb, eqb}
+use lib.Dec.{ltb}
 use lib.ListN.{length, take, drop}
 use borrow.Author.Tests.{ltb-false}
-use Rattle.lists.specs.Bytes.{byte}
-use Rattle.log_records.specs.declared.Next.{Next}
-use Rattle.log_records.specs.declared.Next.TheVariants.{Record, End, Bad}
-use Rattle.log_records.specs.Records.{Records, records, by_next, next_record, records_from, records_of, record_from, long_record}
+use Rattle.std.specs.Prelude.{Result, Ok, Err, Some, None}
+use Rattle.log_records.specs.declared.Record.{Record}
+use Rattle.log_records.specs.declared.BadLog.{BadLog}
+use Rattle.log_records.specs.Records.{Found, found, Records, records, by_next, next_record, record_within, records_from, records_of}
 use Rattle.log_records.proofs.Found.{inside}
 use Rattle.c_bursts.specs.Bursts.{Run, run, behind, step_left, step_over, pause_of, at_end, Finished, stopped, ran, room_for, read_burst, burst_by}
 use Rattle.c_bursts.proofs.Steps.{at-end, over-packet, stops, goes_on}
@@ -23,45 +23,17 @@ same_next end a b r packet (p ∷ ps) = refl
 
 -- ---- the end is at the log's length
 
-abbrev is_end : Next → Bool
-is_end End = true
-is_end Bad = false
-is_end (Record from size next) = false
+-- a record before the end is none
+never_none : (x : Result Record BadLog) → found x ≡ Ok None → ⊥
+never_none (Ok r) e = cc
+never_none (Err b) e = cc
 
-or_bad : (b : Bool) (x : Next) → is_end x ≡ false → is_end (cond b Bad x) ≡ false
-or_bad true x e = refl
-or_bad false x e = e
-
-either : (b : Bool) (x y : Next) → is_end x ≡ false → is_end y ≡ false → is_end (cond b x y) ≡ false
-either true x y e f = e
-either false x y e f = f
-
-record_there : (n from size : ℕ) → is_end (record_from n from size) ≡ false
-unfolding record_from
-record_there n from size = or_bad (ltb (n - from) size) _ refl
-
-long-there : (log : List ℕ) (at : ℕ) → is_end (long_record log at) ≡ false
-unfolding long_record
-long-there log at =
-    let size : ℕ = byte log at - 128 + 128 * byte log (at + 1) in
-    let there : Next = record_from (length log) (at + 2) size in
-    let third : Next = cond (ltb 127 (byte log (at + 1))) Bad there in
-    or_bad (ltb (length log) (at + 2)) (cond (eqb (byte log (at + 1)) 0) Bad third)
-    (or_bad (eqb (byte log (at + 1)) 0) third
-    (or_bad (ltb 127 (byte log (at + 1))) there (record_there (length log) (at + 2) size)))
-
--- a record with a length of one byte
-abbrev short : List ℕ → ℕ → Next
-short log at = record_from (length log) (at + 1) (byte log at)
-
-ends_there : (log : List ℕ) (at : ℕ) → next_record log at ≡ End → length log ≤ at
+ends_there : (log : List ℕ) (at : ℕ) → next_record log at ≡ Ok None → length log ≤ at
 unfolding next_record
 ends_there log at e = go (ltb at (length log)) refl e
   where
-    go : (b : Bool) → ltb at (length log) ≡ b → cond b (cond (ltb (byte log at) 128) (short log at) (long_record log at)) End ≡ End → length log ≤ at
-    go true t h =
-        let none = either (ltb (byte log at) 128) (short log at) (long_record log at) (record_there (length log) (at + 1) (byte log at)) (long-there log at) in
-        absurd (false≢true (sym none ∙ ap is_end h))
+    go : (b : Bool) → ltb at (length log) ≡ b → cond b (found (record_within log at)) (Ok None) ≡ Ok None → length log ≤ at
+    go true t h = absurd (never_none (record_within log at) h)
     go false t h = ltb-false at (length log) t
 
 -- ---- a step for each record
@@ -82,27 +54,28 @@ reads_all zero room burst r packets e fits inside_it = absurd (false≢true (ap 
 reads_all (suc most) room burst r packets e fits inside_it =
     go (next_record burst r.next) refl e (λ packet next ps g fit within. reads_all most (room - 1) burst (behind r packet next) ps g fit within)
   where
-    go : (x : Next) → next_record burst r.next ≡ x → by_next burst (records_from most burst) x ≡ records packets true
+    go : (x : Found) → next_record burst r.next ≡ x → by_next burst (records_from most burst) x ≡ records packets true
         → ((packet : List ℕ) (next : ℕ) (ps : List (List ℕ)) → records_from most burst next ≡ records ps true → length ps ≤ room - 1 → next ≤ length burst
         → ran 0 (room - 1) burst (behind r packet next) ≡ read_all burst (behind r packet next) ps)
         → ran 0 room burst r ≡ read_all burst r packets
-    go End at f later =
+    go (Ok None) at f later =
         let there : r.next ≡ length burst = omega (arith, ends_there burst r.next at) in
         let none : [] ≡ packets = ap (λ (x : Records). x.packets) f in
         sym (stops 0 room burst r (step_left at_end r) (at-end burst 0 room r at) (λ z. omega (arith, z)))
         ∙ (ap (λ (n : ℕ). stopped (step_left at_end (run r.desk r.reports r.count n))) there
         ∙ ap (read_all burst r) none)
-    go Bad at f later = absurd (false≢true (ap (λ (x : Records). x.clean) f))
-    go (Record from size next) at f later =
-        let packet : List ℕ = take size (drop from burst) in
+    go (Err _) at f later = absurd (false≢true (ap (λ (x : Records). x.clean) f))
+    go (Ok (Some r')) at f later =
+        let packet : List ℕ = take r'.size (drop r'.from burst) in
+        let next = r'.next in
         let rest : Records = records_from most burst next in
         let whole : packet ∷ rest.packets ≡ packets = ap (λ (x : Records). x.packets) f in
         let clean : rest.clean ≡ true = ap (λ (x : Records). x.clean) f in
         let counted : length (packet ∷ rest.packets) ≡ length packets = ap length whole in
         let some : room ≡ 0 → ⊥ = λ z. omega (arith, counted, fits, z) in
         let fit : length rest.packets ≤ room - 1 = omega (arith, counted, fits) in
-        let place = inside burst r.next from size next at in
-        sym (goes_on 0 room burst r (step_over 0 r packet next) (over-packet burst 0 room r from size next at some) (no_pause r packet next))
+        let place = inside burst r.next r' at in
+        sym (goes_on 0 room burst r (step_over 0 r packet next) (over-packet burst 0 room r r' at some) (no_pause r packet next))
         ∙ (later packet next rest.packets (ap (records rest.packets) clean) fit place.within
         ∙ (ap (λ (x : Run). stopped (step_left at_end x)) (same_next (length burst) next (length burst) r packet rest.packets)
         ∙ ap (read_all burst r) whole))

@@ -27,9 +27,9 @@ use Rattle.calls.specs.Calls.{Reads}
 use Rattle.demands.specs.Writes.{Writes}
 use Rattle.log_records.specs.Records.{records, records_of}
 use Rattle.log_records.specs.Written.{written_log, AllShort}
-use Rattle.c_reports.specs.declared.Numbers.{Numbers}
 use Rattle.c_reports.specs.declared.Report.{Report}
 use Rattle.c_reports.specs.Reports.{report_words, report_in}
+use Rattle.c_answers.specs.declared.Numbers.{Numbers}
 use Rattle.c_places.specs.declared.Place.{Place}
 use Rattle.c_places.specs.Places.{place_of, StreamPlacePromise, MessagePlacePromise}
 use Rattle.c_bursts.specs.declared.Burst.{Burst}

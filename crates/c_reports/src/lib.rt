@@ -64,6 +64,7 @@ fn plain(kind: Kind, number: usize, dropped: bool, response: usize) -> Report
 impl From<Reading> for Report {
     ghost from_gives = { λ reading report. report ≡ report_of (said reading.answer) reading.dropped reading.response };
 
+    #[tactic(auto, unfolding(crate::specs::Reports::report_of))]
     fn from(reading: Reading) -> Report {
         let dropped = reading.dropped;
         let response = reading.response;

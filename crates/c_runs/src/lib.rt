@@ -11,6 +11,7 @@ use c_bursts::{Burst, Stop};
 use refusals::Refusal;
 
 // The packets that have room for a report and a response.
+#[tactic(auto, unfolding(c_bursts::specs::Bursts::room_for))]
 fn room_for(report_words: usize, response_bytes: usize) -> usize
     ensures { result ≡ room_for report_words response_bytes }
 {

@@ -11,7 +11,7 @@ use Rattle.log_lines.specs.Puts.{Puts}
 use Rattle.log_lines.proofs.Decimal.{one-digit, more_digits, few}
 use Rattle.log_lines.specs.Text.{text}
 use Rattle.log_lines.proofs.Puts.{both, none}
-use mathlib.Core.Bool.{Bool, true, false, cond}
+use mathlib.Core.Bool.{Bool, false, cond}
 
 -- a number has a digit
 pub some : (n : ℕ) → n < 10 → length (decimal n) ≡ 1
@@ -43,11 +43,7 @@ last_digit {out} {after} {at} {s} n h fits p q =
 pub few_digits : (n : ℕ) → n < 18446744073709551616 → length (decimal n) ≤ 20
 few_digits n h = few 19 n (omega arith)
 
--- ` dropped`, and its absence
-pub is_dropped : {out after : List ℕ} {at r : ℕ} {dropped : Bool} → dropped ≡ true → Puts out at (text " dropped") after r
-    → Puts out at (cond dropped (text " dropped") []) after r × (r ≤ at + 8)
-is_dropped {out} {after} {at} {r} t p = (subst (λ (b : Bool). Puts out at (cond b (text " dropped") []) after r) (sym t) p, omega (arith, p.behind))
-
+-- no ` dropped`
 pub not_dropped : {out : List ℕ} {at : ℕ} {dropped : Bool} → dropped ≡ false → Puts out at (cond dropped (text " dropped") []) out at × (at ≤ at + 8)
 not_dropped {out} {at} t = (subst (λ (b : Bool). Puts out at (cond b (text " dropped") []) out at) (sym t) (none out at), omega arith)
 

@@ -1,12 +1,14 @@
 -- Lines from their parts.
 use Prim.Native.Nat.{ℕ, ◌+◌, ◌≤◌, ◌<◌}
-use mathlib.Core.Path.{◌≡◌, refl, ap, sym, subst, ◌∙◌}
+use mathlib.Core.Path.{◌≡◌, ap, sym, subst, ◌∙◌}
 use mathlib.Core.Bool.{Bool, cond}
 use mathlib.Core.List.{List, [], ◌++◌}
 use native.Mathlib.Omega.{arith}
 use lib.ListN.{length}
 use Rattle.answers.specs.declared.Answer.{Answer}
-use Rattle.answers.specs.declared.Answer.TheVariants.{Held, Refused}
+use Rattle.std.specs.Prelude.{Result, Err}
+use Rattle.refusals.specs.declared.Refusal.{Refusal}
+use Rattle.refusals.specs.Numbers.{number_of}
 use Rattle.answers.specs.Answers.{Said, said}
 use Rattle.log_lines.specs.Text.{text}
 use Rattle.log_lines.specs.Lines.{spaced, answer_text, line_of, end_line}
@@ -33,19 +35,14 @@ four a b c d {r₁} letters fits w pa pb pc pd =
     let three = joined (omega (arith, pa.1, pb.1, pc.1)) two pc.0 in
     (joined (omega (arith, pa.1, pb.1, pc.1, pd.1)) three pd.0, omega (arith, pa.1, pb.1, pc.1, pd.1))
 
--- what an answer says, by its case
-module _ {out after : List ℕ} {r : ℕ} {answer : Answer} where
-  pub says_is : {x : Answer} {bytes : List ℕ} → answer ≡ x → answer_text (said x) ≡ bytes → Within out 0 bytes after r 87 → Within out 0 (answer_text (said answer)) after r 87
-  says_is e t p = (subst (λ (l : List ℕ). Puts out 0 l after r) (sym (ap (λ (y : Answer). answer_text (said y)) e ∙ t)) p.0, p.1)
-
-  pub held_is : answer ≡ Held → Puts out 0 (text "held") after r → Within out 0 (answer_text (said answer)) after r 87
-  held_is e p = says_is e refl (p, omega (arith, p.behind))
-
-  pub refused_is : {mid : List ℕ} {number r₁ : ℕ} → answer ≡ Refused number → 87 ≤ length out → Puts out 0 (text "refused") mid r₁
-      → Within mid r₁ (spaced number) after r (r₁ + 21) → Within out 0 (answer_text (said answer)) after r 87
-  refused_is {r₁} e fits p q =
-      let seven : r₁ ≡ 7 = p.behind in
-      says_is e refl (joined (omega (arith, q.1)) p q.0, omega (arith, q.1))
+-- a refusal and its number
+pub refused_is : {out mid after : List ℕ} {r r₁ number : ℕ} {answer : Result Answer Refusal} {refusal : Refusal} → answer ≡ Err refusal → number ≡ number_of refusal
+    → 87 ≤ length out → Puts out 0 (text "refused") mid r₁ → Within mid r₁ (spaced number) after r (r₁ + 21)
+    → Within out 0 (answer_text (said answer)) after r 87
+refused_is {out} {after = after} {r} {r₁} e n fits p q =
+    let seven : r₁ ≡ 7 = p.behind in
+    let says = ap (λ (k : ℕ). text "refused" ++ spaced k) n ∙ sym (ap (λ (y : Result Answer Refusal). answer_text (said y)) e) in
+    (subst (λ (l : List ℕ). Puts out 0 l after r) says (joined (omega (arith, q.1)) p q.0), omega (arith, q.1))
 
 -- text and the end of the line
 ends : {out bytes mid after : List ℕ} {r s : ℕ} → 128 ≤ length out → r < 128 → Puts out 0 bytes mid r → Puts mid r (text "\n") after s

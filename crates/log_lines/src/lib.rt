@@ -9,6 +9,7 @@ ghost use Rattle.log_lines.specs.Lines.{spaced, answer_text};
 ghost use Rattle.log_lines.specs.Puts.{Puts, WriteLinePromise, WriteEndPromise, WriteBadPromise};
 
 use answers::{Answer, Reading};
+use refusals::Refusal;
 
 // Room for every line: a word of seven letters, four numbers of twenty digits, ` dropped`.
 pub const LINE: usize = 128;
@@ -65,28 +66,32 @@ fn put_four(out: &mut [u8], word: &[u8], a: usize, b: usize, c: usize, d: usize)
 }
 
 // What the answer says.
-fn put_answer(out: &mut [u8], answer: Answer) -> usize
+fn put_answer(out: &mut [u8], answer: Result<Answer, Refusal>) -> usize
     requires { 87 ≤ length out.old }
     ensures { Puts out.old 0 (answer_text (said answer)) out.new result × (result ≤ 87) }
 {
     match answer {
-        Answer::Held => put_text(out, 0, b"held"),
-        Answer::Delivered {
-            context: _,
-            flow,
-            stream,
-            length,
-        } => put_four(out, b"pdu", flow.source, flow.cos, stream, length),
-        Answer::Message {
-            context: _,
-            source,
-            letter,
-            mailbox,
-            length,
-        } => put_four(out, b"msg", source, letter, mailbox, length),
-        Answer::Refused(number) => {
+        Ok(Answer::Held) => put_text(out, 0, b"held"),
+        Ok(
+            Answer::Delivered {
+                flow,
+                stream,
+                length,
+                ..
+            },
+        ) => put_four(out, b"pdu", flow.source, flow.cos, stream, length),
+        Ok(
+            Answer::Message {
+                source,
+                letter,
+                mailbox,
+                length,
+                ..
+            },
+        ) => put_four(out, b"msg", source, letter, mailbox, length),
+        Err(refusal) => {
             let behind = put_text(out, 0, b"refused");
-            put_spaced(out, behind, number)
+            put_spaced(out, behind, refusal.number())
         }
     }
 }
@@ -109,8 +114,7 @@ pub fn write_line(out: &mut [u8], reading: Reading) -> usize
     if out.len() < LINE {
         return 0;
     }
-    let answer = reading.answer;
-    let behind = put_answer(out, answer);
+    let behind = put_answer(out, reading.answer);
     let last = put_dropped(out, behind, reading.dropped);
     put_text(out, last, b"\n")
 }

@@ -13,9 +13,8 @@ use Rattle.lists.proofs.Written.{written_front}
 use Rattle.reading.specs.Desk.{Desk}
 use Rattle.flows.specs.Fresh.{paper_desk}
 use Rattle.flows.specs.Deliveries.{read, after}
-use Rattle.log_records.specs.declared.Next.{Next}
-use Rattle.log_records.specs.declared.Next.TheVariants.{Record, End, Bad}
-use Rattle.log_records.specs.Records.{Records, before, by_next, next_record, records_from, records_of}
+use Rattle.std.specs.Prelude.{Ok, Err, Some, None}
+use Rattle.log_records.specs.Records.{Found, Records, before, by_next, next_record, records_from, records_of}
 use Rattle.log_records.proofs.Found.{inside}
 use Rattle.log_lines.specs.Lines.{line_of, end_line, bad_log}
 use Rattle.log_lines.specs.Puts.{LinePut, line_put, put_line}
@@ -54,21 +53,21 @@ unfolding pieces records_from printed output_of
 from_place zero b log at count out h room = absurd (omega arith)
 from_place (suc most) b log at count out h room = go (next_record log at) refl (λ b' next out' h' room'. from_place most b' log next (count + 1) out' h' room')
   where
-    go : (x : Next) → next_record log at ≡ x
+    go : (x : Found) → next_record log at ≡ x
         → ((b' : Desk) (next : ℕ) (out' : List ℕ) → length log - next < most → 128 ≤ length out'
         → pieces most b' log next (count + 1) out' ≡ output_of b' (count + 1) (records_from most log next))
         → on_piece (λ next. pieces most (printed_by b log count out x).desk log next (count + 1) (printed_by b log count out x).out)
         (printed_by b log count out x).out (printed_by b log count out x).piece
         ≡ output_of b count (by_next log (records_from most log) x)
-    go End e ih = written_line out (end_line count) room ∙ ap end_line (sym (add-zero count))
-    go Bad e ih = written_line out bad_log room
-    go (Record from size next) e ih =
-        let i = inside log at from size next e in
-        let packet : List ℕ = take size (drop from log) in
+    go (Ok None) e ih = written_line out (end_line count) room ∙ ap end_line (sym (add-zero count))
+    go (Err _) e ih = written_line out bad_log room
+    go (Ok (Some r)) e ih =
+        let i = inside log at r e in
+        let packet : List ℕ = take r.size (drop r.from log) in
         let line : List ℕ = line_of (read b packet).says (read b packet).dropped in
         ap₂ (λ (x y : List ℕ). x ++ y) (written_line out line room)
-        (ih (after b packet) next (put_line out line).out (omega (arith, i.within, i.onward)) (rw (put-there out line room) (still-room out line room)))
-        ∙ one_more b count packet (records_from most log next)
+        (ih (after b packet) r.next (put_line out line).out (omega (arith, i.within, i.onward)) (rw (put-there out line room) (still-room out line room)))
+        ∙ one_more b count packet (records_from most log r.next)
 
 -- the whole output of a log that is not too long
 pub short_log : (log : List ℕ) → length log ≤ 65536 → output_of paper_desk 0 (records_from (suc (length log)) log 0) ≡ output log

@@ -1,11 +1,9 @@
 -- The output piece by piece: the line of the record at a place, or the last line.
-use Rattle.std.specs.Prelude.{ℕ, zero, suc, ◌+◌, ◌≤◌, ◌<◌, ◌≡◌, List, [], ◌++◌, length, take, drop}
+use Rattle.std.specs.Prelude.{ℕ, zero, suc, ◌+◌, ◌≤◌, ◌<◌, ◌≡◌, List, [], ◌++◌, length, take, drop, Ok, Err, Some, None}
 use Rattle.reading.specs.Desk.{Desk}
 use Rattle.flows.specs.Fresh.{paper_desk}
 use Rattle.flows.specs.Deliveries.{read, after}
-use Rattle.log_records.specs.declared.Next.{Next}
-use Rattle.log_records.specs.declared.Next.TheVariants.{Record, End, Bad}
-use Rattle.log_records.specs.Records.{next_record}
+use Rattle.log_records.specs.Records.{Found, next_record}
 use Rattle.log_lines.specs.Lines.{line_of, end_line, bad_log}
 use Rattle.log_lines.specs.Puts.{line_room, put_line}
 use Rattle.log_pieces.specs.declared.Piece.{Piece}
@@ -32,10 +30,10 @@ abbrev pub last_printed : Desk → List ℕ → List ℕ → Printing
 last_printed b out line = printing (Last (put_line out line).size) b (put_line out line).out
 
 -- a clean end prints `end` and the number of records, a bad length or a cut record `bad log`
-abbrev pub printed_by : Desk → List ℕ → ℕ → List ℕ → Next → Printing
-printed_by b log count out (Record from size next) = record_printed b (take size (drop from log)) out next
-printed_by b log count out End = last_printed b out (end_line count)
-printed_by b log count out Bad = last_printed b out bad_log
+abbrev pub printed_by : Desk → List ℕ → ℕ → List ℕ → Found → Printing
+printed_by b log count out (Ok (Some r)) = record_printed b (take r.size (drop r.from log)) out r.next
+printed_by b log count out (Ok None) = last_printed b out (end_line count)
+printed_by b log count out (Err _) = last_printed b out bad_log
 
 unfoldable pub printed : Desk → List ℕ → ℕ → ℕ → List ℕ → Printing
 printed b log at count out = printed_by b log count out (next_record log at)

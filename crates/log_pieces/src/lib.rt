@@ -5,8 +5,6 @@ ghost use Rattle.std.specs.Prelude.{length};
 ghost use Rattle.reading.specs.Desk.{desk};
 ghost use Rattle.log_pieces.specs.Printing.{LinePromise, Onward};
 
-use log_records::Next;
-
 // A record's line, with the place behind the record; or the last line.
 #[derive(Clone, Copy)]
 pub enum Piece {
@@ -30,31 +28,28 @@ pub fn next_line(
         log.now at count line.old result (desk state.new stream_memory.new message_memory.new response.new) line.new }
     ensures onward { Onward (length log.now) at result }
 {
-    let found = log_records::next_record(log, at);
-    if let Next::End = found {
-        return Piece::Last {
-            size: log_lines::write_end(line, count),
-        };
-    }
-    let Next::Record {
-        from,
-        size: _,
-        next,
-    } = found
-    else {
-        return Piece::Last {
-            size: log_lines::write_bad(line),
-        };
+    let record = match log_records::next_record(log, at) {
+        Ok(Some(record)) => record,
+        Ok(None) => {
+            return Piece::Last {
+                size: log_lines::write_end(line, count),
+            };
+        }
+        Err(_) => {
+            return Piece::Last {
+                size: log_lines::write_bad(line),
+            };
+        }
     };
     let reading = endpoint::read(
         state,
         stream_memory,
         message_memory,
         response,
-        &log[from..next],
+        &log[record.from..record.next],
     );
     Piece::Line {
         size: log_lines::write_line(line, reading),
-        next,
+        next: record.next,
     }
 }

@@ -29,7 +29,7 @@ fn print_runs(rt: &(impl Print + Eprint), log: &[u8]) -> usize
     let mut messages = [0u8; 32768];
     let mut response = [0u8; responses::LONGEST];
     let mut out = [0u8; 65536];
-    endpoint::setup(
+    let _ = endpoint::setup(
         &mut state,
         Setup {
             device: 1,

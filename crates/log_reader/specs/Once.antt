@@ -1,7 +1,7 @@
 -- Any two outcomes that a promise of the log reader allows are one: the answer, and the reader that is left.
 use Rattle.std.specs.Prelude.{ℕ, ◌≡◌, List}
 use Rattle.std.specs.Borrow.{Bor}
-use Rattle.log_records.specs.declared.Next.{Next}
+use Rattle.log_records.specs.Records.{Found}
 use Rattle.log_reader.specs.declared.LogReader.{LogReader}
 use Rattle.log_reader.specs.Reader.{NewReaderPromise, PlacePromise, MovedPromise, FoundPromise, PlaceBehindPromise, NextPromise, RecordAtPromise, PlaceAfterPromise, CountRecordsPromise}
 
@@ -15,16 +15,16 @@ abbrev pub MovedOnce : Type 0
 MovedOnce = (reader : LogReader) (at : ℕ) (r r' : LogReader) → MovedPromise reader at r → MovedPromise reader at r' → r ≡ r'
 
 abbrev pub FoundOnce : Type 0
-FoundOnce = (reader : LogReader) (r r' : Next) → FoundPromise reader r → FoundPromise reader r' → r ≡ r'
+FoundOnce = (reader : LogReader) (r r' : Found) → FoundPromise reader r → FoundPromise reader r' → r ≡ r'
 
 abbrev pub PlaceBehindOnce : Type 0
-PlaceBehindOnce = (next : Next) (at r r' : ℕ) → PlaceBehindPromise next at r → PlaceBehindPromise next at r' → r ≡ r'
+PlaceBehindOnce = (found : Found) (at r r' : ℕ) → PlaceBehindPromise found at r → PlaceBehindPromise found at r' → r ≡ r'
 
 abbrev pub NextOnce : Type 0
-NextOnce = (reader : LogReader) (r r' : Next) (after after' : LogReader) → NextPromise reader r after → NextPromise reader r' after' → (r ≡ r') × (after ≡ after')
+NextOnce = (reader : LogReader) (r r' : Found) (after after' : LogReader) → NextPromise reader r after → NextPromise reader r' after' → (r ≡ r') × (after ≡ after')
 
 abbrev pub RecordAtOnce : Type 0
-RecordAtOnce = (log : List ℕ) (at : ℕ) (r r' : Next) → RecordAtPromise log at r → RecordAtPromise log at r' → r ≡ r'
+RecordAtOnce = (log : List ℕ) (at : ℕ) (r r' : Found) → RecordAtPromise log at r → RecordAtPromise log at r' → r ≡ r'
 
 abbrev pub PlaceAfterOnce : Type 0
 PlaceAfterOnce = (log : List ℕ) (at r r' : ℕ) → PlaceAfterPromise log at r → PlaceAfterPromise log at r' → r ≡ r'

@@ -1,5 +1,5 @@
 -- A written log reads back as its records.
-use Prim.Native.Nat.{ℕ, zero, suc, ◌+◌, ◌-◌, ◌*◌, ◌/◌, ◌%◌, ◌≤◌, ◌<◌}
+use Prim.Native.Nat.{ℕ, zero, suc, ◌+◌, ◌*◌, ◌/◌, ◌%◌, ◌≤◌, ◌<◌}
 use mathlib.Core.Path.{◌≡◌, refl, ap, sym, ◌∙◌}
 use mathlib.Core.List.{List, [], ◌∷◌, ◌++◌, append_assoc, append-nil}
 use mathlib.Core.Bool.{Bool, true, false, cond}
@@ -10,8 +10,8 @@ use lib.Seq.{get_or-append-add, drop-append-add, drop_at, take_at}
 use lib.Dec.{ltb}
 use borrow.Author.Tests.{le-ltb, ltb-true, ltb-false}
 use Rattle.lists.specs.Bytes.{byte}
-use Rattle.log_records.specs.declared.Next.TheVariants.{Record, End}
-use Rattle.log_records.specs.Records.{records, before, by_next, next_record, records_from, records_of}
+use Rattle.std.specs.Prelude.{Ok, Some, None}
+use Rattle.log_records.specs.Records.{record_of, records, before, by_next, next_record, records_from, records_of}
 use Rattle.log_records.specs.Written.{length_bytes, written_log, AllShort, LogReadsBack}
 use Rattle.log_records.proofs.Found.{small, large}
 
@@ -25,7 +25,7 @@ here front back = ap (byte (front ++ back)) (sym (add-zero (length front))) ∙ 
 abbrev pub Stands : List ℕ → List ℕ → List ℕ → List ℕ → Type 0
 Stands front bytes packet rest =
     next_record (front ++ (bytes ++ (packet ++ rest))) (length front)
-    ≡ Record (length front + length bytes) (length packet) (length front + length bytes + length packet)
+    ≡ Ok (Some (record_of (length front + length bytes) (length packet) (length front + length bytes + length packet)))
 
 -- the record that stands behind the front
 pub stands : (front packet rest : List ℕ) → length packet < 16384 → Stands front (length_bytes (length packet)) packet rest
@@ -49,7 +49,7 @@ stands front packet rest short = go (ltb (length packet) 128) refl
         let back : List ℕ = (length packet % 128 + 128) ∷ length packet / 128 ∷ (packet ++ rest) in
         let room : length front + 2 + (length packet % 128 + 128 * (length packet / 128)) ≤ length (front ++ back) = simp length-append (omega arith) in
         large (front ++ back) (length front) (length packet % 128) (length packet / 128) (here front back) (behind front back 1) (omega arith) (omega arith) room
-        ∙ ap (λ (k : ℕ). Record (length front + 2) k (length front + 2 + k)) whole
+        ∙ ap (λ (k : ℕ). Ok (Some (record_of (length front + 2) k (length front + 2 + k)))) whole
 
 -- the packet of that record, and what follows it
 pub packet_of_lem : (front bytes packet rest : List ℕ) → take (length packet) (drop (length front + length bytes) (front ++ (bytes ++ (packet ++ rest)))) ≡ packet
@@ -58,7 +58,7 @@ packet_of_lem front bytes packet rest =
     ∙ take_at packet rest (length packet) refl
 
 -- the end
-pub ended : (log : List ℕ) → next_record log (length log) ≡ End
+pub ended : (log : List ℕ) → next_record log (length log) ≡ Ok None
 unfolding next_record
 ended log = simp (le-ltb (length log) (length log) (omega arith))
 

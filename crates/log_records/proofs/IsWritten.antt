@@ -2,18 +2,18 @@
 use Prim.Native.Nat.{ℕ, zero, suc, ◌+◌, ◌-◌, ◌*◌, ◌/◌, ◌%◌, ◌≤◌, ◌<◌}
 use mathlib.Core.Path.{◌≡◌, refl, ap, sym, ◌∙◌}
 use mathlib.Core.List.{List, [], ◌∷◌, ◌++◌, append_assoc}
-use mathlib.Core.Bool.{Bool, true, false, cond, false≢true}
+use mathlib.Core.Bool.{true, false≢true}
 use native.Mathlib.Omega.{arith}
 use native.Mathlib.Numerals.{add-one}
 use native.Mathlib.Nat.{div-add-mod', mod-lt}
 use lib.ListN.{length, take, drop, length-drop, take-append-drop, drop_of_length-le}
 use lib.Seq.{drop-cons, drop-drop, length-take-le}
-use lib.Dec.{ltb}
-use borrow.Author.Tests.{lt-ltb, le-ltb, ltb-false}
+use borrow.Author.Tests.{lt-ltb, le-ltb}
 use Rattle.lists.specs.Bytes.{byte}
-use Rattle.log_records.specs.declared.Next.{Next}
-use Rattle.log_records.specs.declared.Next.TheVariants.{Record, End, Bad}
-use Rattle.log_records.specs.Records.{Records, by_next, record_from, next_record, records_from, records_of}
+use Rattle.std.specs.Prelude.{Result, Ok, Err, Some, None}
+use Rattle.log_records.specs.declared.Record.{Record}
+use Rattle.log_records.specs.declared.BadLog.{BadLog}
+use Rattle.log_records.specs.Records.{Found, found, Records, by_next, next_record, records_from, records_of}
 use Rattle.log_records.specs.Written.{length_bytes, written_log, AllShort, LogIsWritten}
 use Rattle.log_records.proofs.Found.{Stood, past, bad, one, two, stood, fits}
 
@@ -39,32 +39,32 @@ length_of_two first second size top byte not_0 is =
     simp (le-ltb size 128 large, quotient, rest)
 
 -- a record that is read at a place is short, and stands there as it is written
-record AsWritten (log : List ℕ) (at from size next : ℕ) : Type 0 where
-  short : size < 16384
-  before : length_bytes size ++ drop from log ≡ drop at log
-  behind : from + size ≡ next
-  within : next ≤ length log
+record AsWritten (log : List ℕ) (at : ℕ) (r : Record) : Type 0 where
+  short : r.size < 16384
+  before : length_bytes r.size ++ drop r.from log ≡ drop at log
+  behind : r.from + r.size ≡ r.next
+  within : r.next ≤ length log
 
-as_written : (log : List ℕ) (at from size next : ℕ) → ((i : ℕ) → byte log i < 256) → Stood log at (Record from size next) → AsWritten log at from size next
-as_written log at from size next bytes (past there e) = absurd (false≢true cc)
-as_written log at from size next bytes (bad e) = absurd (false≢true cc)
-as_written log at from size next bytes (one there small e) =
-    let f = fits (length log) (at + 1) (byte log at) from size next (omega arith) e in
+as_written : (log : List ℕ) (at : ℕ) (r : Record) → ((i : ℕ) → byte log i < 256) → Stood log at (Ok (Some r)) → AsWritten log at r
+as_written log at r bytes (past there e) = absurd (false≢true cc)
+as_written log at r bytes (bad e) = absurd (false≢true cc)
+as_written log at r bytes (one there small e) =
+    let f = fits (length log) (at + 1) (byte log at) r (omega arith) e in
     record {
       short = omega arith;
-      before = rw (length-of_one size (omega arith), ← f.starts, ← f.sized) (next_byte log at there);
+      before = rw (length-of_one r.size (omega arith), ← f.starts, ← f.sized) (next_byte log at there);
       behind = f.behind;
       within = f.within;
     }
-as_written log at from size next bytes (two there top not_0 last e) =
-    let f = fits (length log) (at + 2) (byte log at - 128 + 128 * byte log (at + 1)) from size next there e in
+as_written log at r bytes (two there top not_0 last e) =
+    let f = fits (length log) (at + 2) (byte log at - 128 + 128 * byte log (at + 1)) r there e in
     let is_byte : byte log at < 256 = bytes at in
     let place : at + 1 + 1 ≡ at + 2 = omega arith in
     let second : byte log (at + 1) ∷ drop (at + 2) log ≡ drop (at + 1) log = rw (← place) (next_byte log (at + 1) (omega arith)) in
     record {
       short = omega arith;
       before =
-          rw (length_of_two (byte log at) (byte log (at + 1)) size top is_byte not_0 f.sized, ← f.starts)
+          rw (length_of_two (byte log at) (byte log (at + 1)) r.size top is_byte not_0 f.sized, ← f.starts)
           (ap (λ (l : List ℕ). byte log at ∷ l) second ∙ next_byte log at (omega arith));
       behind = f.behind;
       within = f.within;
@@ -74,28 +74,24 @@ as_written log at from size next bytes (two there top not_0 last e) =
 packet-length : (log : List ℕ) (from size : ℕ) → from + size ≤ length log → length (take size (drop from log)) ≡ size
 packet-length log from size h = length-take-le size (drop from log) (simp length-drop (omega arith))
 
-whole_record : (log : List ℕ) (at from size next : ℕ) → AsWritten log at from size next
-    → (length_bytes (length (take size (drop from log))) ++ take size (drop from log)) ++ drop next log ≡ drop at log
-whole_record log at from size next w =
-    rw (packet-length log from size (omega arith), append_assoc, ← w.behind, ← drop-drop size from log, take-append-drop size (drop from log)) w.before
+whole_record : (log : List ℕ) (at : ℕ) (r : Record) → AsWritten log at r
+    → (length_bytes (length (take r.size (drop r.from log))) ++ take r.size (drop r.from log)) ++ drop r.next log ≡ drop at log
+whole_record log at r w =
+    rw (packet-length log r.from r.size (omega arith), append_assoc, ← w.behind, ← drop-drop r.size r.from log, take-append-drop r.size (drop r.from log)) w.before
 
-no_end : (n from size : ℕ) → record_from n from size ≡ End → ⊥
-unfolding record_from
-no_end n from size e = go (ltb (n - from) size) e
-  where
-    go : (b : Bool) → cond b Bad (Record from size (from + size)) ≡ End → ⊥
-    go true e = false≢true cc
-    go false e = false≢true cc
+no_end : (x : Result Record BadLog) → found x ≡ Ok None → ⊥
+no_end (Ok r) e = false≢true cc
+no_end (Err _) e = false≢true cc
 
 -- where no record and nothing bad stands, the log has ended
-at-end : (log : List ℕ) (at : ℕ) → next_record log at ≡ End → length log ≤ at
+at-end : (log : List ℕ) (at : ℕ) → next_record log at ≡ Ok None → length log ≤ at
 at-end log at e = go (stood log at e)
   where
-    go : Stood log at End → length log ≤ at
+    go : Stood log at (Ok None) → length log ≤ at
     go (past there e) = there
     go (bad e) = absurd (false≢true cc)
-    go (one there small e) = absurd (no_end _ _ _ e)
-    go (two there top not_0 last e) = absurd (no_end _ _ _ e)
+    go (one there small e) = absurd (no_end _ e)
+    go (two there top not_0 last e) = absurd (no_end _ e)
 
 -- records, read cleanly, are what is written from a place on
 abbrev Written : List ℕ → ℕ → Records → Type 0
@@ -106,15 +102,15 @@ unfolding records_from
 from_place log bytes zero at = λ clean. absurd (false≢true clean)
 from_place log bytes (suc most) at = go (next_record log at) refl (from_place log bytes most)
   where
-    go : (n : Next) → next_record log at ≡ n → ((next : ℕ) → Written log next (records_from most log next)) → Written log at (by_next log (records_from most log) n)
-    go End e rest clean = (sym (drop_of_length-le log (at-end log at e)), record {})
-    go Bad e rest clean = absurd (false≢true clean)
-    go (Record from size next) e rest clean =
-        let packet : List ℕ = take size (drop from log) in
-        let w = as_written log at from size next bytes (stood log at e) in
-        let (behind, short) = rest next clean in (
-          ap (λ (l : List ℕ). (length_bytes (length packet) ++ packet) ++ l) behind ∙ whole_record log at from size next w,
-          (rw (packet-length log from size (omega arith)) w.short, short),
+    go : (x : Found) → next_record log at ≡ x → ((next : ℕ) → Written log next (records_from most log next)) → Written log at (by_next log (records_from most log) x)
+    go (Ok None) e rest clean = (sym (drop_of_length-le log (at-end log at e)), record {})
+    go (Err _) e rest clean = absurd (false≢true clean)
+    go (Ok (Some r)) e rest clean =
+        let packet : List ℕ = take r.size (drop r.from log) in
+        let w = as_written log at r bytes (stood log at e) in
+        let (behind, short) = rest r.next clean in (
+          ap (λ (l : List ℕ). (length_bytes (length packet) ++ packet) ++ l) behind ∙ whole_record log at r w,
+          (rw (packet-length log r.from r.size (omega arith)) w.short, short),
         )
 
 pub log_is_written : LogIsWritten

@@ -12,9 +12,10 @@ use Rattle.lists.specs.Bytes.{written}
 use Rattle.lists.proofs.Written.{written_front, written-part, written_behind, length-written}
 use Rattle.reading.specs.Desk.{Desk}
 use Rattle.flows.specs.Deliveries.{read, after}
-use Rattle.log_records.specs.declared.Next.{Next}
-use Rattle.log_records.specs.declared.Next.TheVariants.{Record, End, Bad}
-use Rattle.log_records.specs.Records.{next_record}
+use Rattle.std.specs.Prelude.{Ok, Err, Some, None}
+use Rattle.log_records.specs.declared.Record.{Record}
+use Rattle.log_records.specs.declared.BadLog.{BadLog}
+use Rattle.log_records.specs.Records.{Found, next_record}
 use Rattle.log_records.proofs.Found.{inside}
 use Rattle.log_lines.specs.Lines.{line_of, end_line, bad_log}
 use Rattle.log_lines.specs.Puts.{LinePut, line_put, put_line}
@@ -35,16 +36,16 @@ ran-enough (suc m) zero b log at count room h g = absurd (omega arith)
 ran-enough (suc m) (suc k) b log at count room h g =
     ap (cond (ltb room 128) (running [] b at count false)) (go (next_record log at) refl (λ b' next room' h' g'. ran-enough m k b' log next (count + 1) room' h' g'))
   where
-    go : (x : Next) → next_record log at ≡ x
+    go : (x : Found) → next_record log at ≡ x
         → ((b' : Desk) (next room' : ℕ) → length log - next < m → length log - next < k → ran_from m b' log next (count + 1) room' ≡ ran_from k b' log next (count + 1) room')
         → ran_by (λ b' next room'. ran_from m b' log next (count + 1) room') b log at count room x ≡ ran_by (λ b' next room'. ran_from k b' log next (count + 1) room') b log at count room x
-    go End e ih = refl
-    go Bad e ih = refl
-    go (Record from size next) e ih =
-        let i = inside log at from size next e in
-        let packet : List ℕ = take size (drop from log) in
+    go (Ok None) e ih = refl
+    go (Err _) e ih = refl
+    go (Ok (Some r)) e ih =
+        let i = inside log at r e in
+        let packet : List ℕ = take r.size (drop r.from log) in
         let line : List ℕ = line_of (read b packet).says (read b packet).dropped in
-        ap (lines_before line) (ih (after b packet) next (room - length line) (omega (arith, i.within, i.onward)) (omega (arith, i.within, i.onward)))
+        ap (lines_before line) (ih (after b packet) r.next (room - length line) (omega (arith, i.within, i.onward)) (omega (arith, i.within, i.onward)))
 
 -- a run from a place on, with steps for the whole log
 abbrev pub rest : Desk → List ℕ → ℕ → ℕ → ℕ → Running
@@ -57,24 +58,24 @@ module _ (b : Desk) (log : List ℕ) (at count room : ℕ) where
   no_room h = rw (lt-ltb room 128 h)
 
   -- room for one
-  pub at_record : (from size next : ℕ) (line : List ℕ) → 128 ≤ room → next_record log at ≡ Record from size next
-      → line_of (read b (take size (drop from log))).says (read b (take size (drop from log))).dropped ≡ line
-      → rest b log at count room ≡ lines_before line (rest (after b (take size (drop from log))) log next (count + 1) (room - length line))
+  pub at_record : (r : Record) (line : List ℕ) → 128 ≤ room → next_record log at ≡ Ok (Some r)
+      → line_of (read b (take r.size (drop r.from log))).says (read b (take r.size (drop r.from log))).dropped ≡ line
+      → rest b log at count room ≡ lines_before line (rest (after b (take r.size (drop r.from log))) log r.next (count + 1) (room - length line))
   unfolding ran_from
-  at_record from size next line h e l =
-      let i = inside log at from size next e in
+  at_record r line h e l =
+      let i = inside log at r e in
       ap (λ (t : Bool). cond t (running [] b at count false) (ran_by (λ b' next room'. ran_from (length log) b' log next (count + 1) room') b log at count room (next_record log at))) (le-ltb room 128 h)
       ∙ (ap (ran_by (λ b' next room'. ran_from (length log) b' log next (count + 1) room') b log at count room) e
-      ∙ (ap (λ (l : List ℕ). record_ran (λ b' next room'. ran_from (length log) b' log next (count + 1) room') b (take size (drop from log)) l next room) l
-      ∙ ap (lines_before line) (ran-enough (length log) (suc (length log)) _ log next (count + 1) (room - length line) (omega (arith, i.within, i.onward)) (omega arith))))
+      ∙ (ap (λ (l : List ℕ). record_ran (λ b' next room'. ran_from (length log) b' log next (count + 1) room') b (take r.size (drop r.from log)) l r.next room) l
+      ∙ ap (lines_before line) (ran-enough (length log) (suc (length log)) _ log r.next (count + 1) (room - length line) (omega (arith, i.within, i.onward)) (omega arith))))
 
-  pub at-end : 128 ≤ room → next_record log at ≡ End → rest b log at count room ≡ running (end_line count) b at count true
+  pub at-end : 128 ≤ room → next_record log at ≡ Ok None → rest b log at count room ≡ running (end_line count) b at count true
   unfolding ran_from
   at-end h e = rw (le-ltb room 128 h, e)
 
-  pub at_bad_lem : 128 ≤ room → next_record log at ≡ Bad → rest b log at count room ≡ running bad_log b at count true
+  pub at_bad_lem : (x : BadLog) → 128 ≤ room → next_record log at ≡ Err x → rest b log at count room ≡ running bad_log b at count true
   unfolding ran_from
-  at_bad_lem h e = rw (le-ltb room 128 h, e)
+  at_bad_lem x h e = rw (le-ltb room 128 h, e)
 
 -- what a run leaves, with no more records than bytes before its place
 pub run_is : (b : Desk) (log : List ℕ) (at count : ℕ) (out : List ℕ) → count ≤ at → log_run b log at count out ≡ run_settled_by out (rest b log at count (length out))
@@ -138,16 +139,16 @@ module _ (b₀ : Desk) (log : List ℕ) (at₀ count₀ : ℕ) (out₀ : List �
       let h = of_line (length log) at piece size next o is in
       go h.0 h.1 (next_record log at) refl (subst (λ (x : Piece). LinePromise b log at count (mid_of used (length out - used) out) x b' part) is p)
     where
-      go : size ≤ 128 → at < next → (x : Next) → next_record log at ≡ x → printing (Line size next) b' part ≡ printed_by b log count (mid_of used (length out - used) out) x
+      go : size ≤ 128 → at < next → (x : Found) → next_record log at ≡ x → printing (Line size next) b' part ≡ printed_by b log count (mid_of used (length out - used) out) x
           → Going b₀ log at₀ count₀ out₀ b' next (count + 1) (put_mid used (length out - used) out part) (used + size)
-      go few onward End e p = let q = ap (λ (x : Printing). x.piece) p in absurd (false≢true cc)
-      go few onward Bad e p = let q = ap (λ (x : Printing). x.piece) p in absurd (false≢true cc)
-      go few onward (Record from n next') e p =
-          let packet : List ℕ = take n (drop from log) in
+      go few onward (Ok None) e p = let q = ap (λ (x : Printing). x.piece) p in absurd (false≢true cc)
+      go few onward (Err _) e p = let q = ap (λ (x : Printing). x.piece) p in absurd (false≢true cc)
+      go few onward (Ok (Some r)) e p =
+          let packet : List ℕ = take r.size (drop r.from log) in
           let line : List ℕ = line_of (read b packet).says (read b packet).dropped in
           let q = ap (λ (x : Printing). x.piece) p in
           let size_is : size ≡ (put_line (mid_of used (length out - used) out) line).size = cc in
-          let next-is : next ≡ next' = cc in
+          let next-is : next ≡ r.next = cc in
           let a = add_line line part size room few (ap₂ line_put size_is (ap (λ (x : Printing). x.out) p)) in
           let long : length (g.lines ++ line) ≡ used + size = simp length-append (omega (arith, g.size, a.sized)) in
           let fits : used + size ≤ length out₀ = omega (arith, g.same, g.fits) in
@@ -162,9 +163,9 @@ module _ (b₀ : Desk) (log : List ℕ) (at₀ count₀ : ℕ) (out₀ : List �
             stored = a.stored;
             whole =
                 g.whole
-                ∙ (ap (lines_before g.lines) (at_record b log at count (length out₀ - used) from n next' line (omega (arith, g.same)) e refl)
-                ∙ (behind-both g.lines line (rest (after b packet) log next' (count + 1) (length out₀ - used - length line))
-                ∙ (ap (λ (x : Desk). lines_before (g.lines ++ line) (rest x log next' (count + 1) (length out₀ - used - length line))) (sym (ap (λ (x : Printing). x.desk) p))
+                ∙ (ap (lines_before g.lines) (at_record b log at count (length out₀ - used) r line (omega (arith, g.same)) e refl)
+                ∙ (behind-both g.lines line (rest (after b packet) log r.next (count + 1) (length out₀ - used - length line))
+                ∙ (ap (λ (x : Desk). lines_before (g.lines ++ line) (rest x log r.next (count + 1) (length out₀ - used - length line))) (sym (ap (λ (x : Printing). x.desk) p))
                 ∙ ap₂ (λ (x y : ℕ). lines_before (g.lines ++ line) (rest b' log x (count + 1) y)) (sym next-is) less)));
           }
 
@@ -194,11 +195,11 @@ module _ (b₀ : Desk) (log : List ℕ) (at₀ count₀ : ℕ) (out₀ : List �
   ends piece size b' part is room o p =
       go (of_last (length log) at piece size o is) (next_record log at) refl (subst (λ (x : Piece). LinePromise b log at count (mid_of used (length out - used) out) x b' part) is p)
     where
-      go : size ≤ 128 → (x : Next) → next_record log at ≡ x → printing (Last size) b' part ≡ printed_by b log count (mid_of used (length out - used) out) x
+      go : size ≤ 128 → (x : Found) → next_record log at ≡ x → printing (Last size) b' part ≡ printed_by b log count (mid_of used (length out - used) out) x
           → LogRunPromise b₀ log at₀ count₀ out₀ (record { used = used + size; at = at; count = count; over = true }) b' (put_mid used (length out - used) out part)
-      go few End e p = ends_by size b' (end_line count) part room few (at-end b log at count (length out₀ - used) (omega (arith, g.same)) e) p
-      go few Bad e p = ends_by size b' bad_log part room few (at_bad_lem b log at count (length out₀ - used) (omega (arith, g.same)) e) p
-      go few (Record from n next) e p = let q = ap (λ (x : Printing). x.piece) p in absurd (false≢true cc)
+      go few (Ok None) e p = ends_by size b' (end_line count) part room few (at-end b log at count (length out₀ - used) (omega (arith, g.same)) e) p
+      go few (Err bad) e p = ends_by size b' bad_log part room few (at_bad_lem b log at count (length out₀ - used) bad (omega (arith, g.same)) e) p
+      go few (Ok (Some r)) e p = let q = ap (λ (x : Printing). x.piece) p in absurd (false≢true cc)
 
   -- no room for one more
   pub stops : length out - used < 128 → LogRunPromise b₀ log at₀ count₀ out₀ (record { used = used; at = at; count = count; over = false }) b out
@@ -216,55 +217,55 @@ refuses b log at count out h = rw (lt-ltb at count h) (ap (run_settled (record {
 -- ---- what holds of every run: of one that puts nothing, or the last line alone; and of a record's line and a run behind it, if of that run
 module _ (log : List ℕ) (P : Desk → ℕ → ℕ → Running → Type 0)
     (nothing : (b : Desk) (at count : ℕ) → P b at count (running [] b at count false))
-    (end : (b : Desk) (at count : ℕ) → next_record log at ≡ End → P b at count (running (end_line count) b at count true))
-    (bad : (b : Desk) (at count : ℕ) → next_record log at ≡ Bad → P b at count (running bad_log b at count true))
-    (line : (b : Desk) (at count from size next : ℕ) → next_record log at ≡ Record from size next → (x : Running)
-    → P (after b (take size (drop from log))) next (count + 1) x
-    → P b at count (lines_before (line_of (read b (take size (drop from log))).says (read b (take size (drop from log))).dropped) x)) where
+    (end : (b : Desk) (at count : ℕ) → next_record log at ≡ Ok None → P b at count (running (end_line count) b at count true))
+    (bad : (b : Desk) (at count : ℕ) (x : BadLog) → next_record log at ≡ Err x → P b at count (running bad_log b at count true))
+    (line : (b : Desk) (at count : ℕ) (r : Record) → next_record log at ≡ Ok (Some r) → (x : Running)
+    → P (after b (take r.size (drop r.from log))) r.next (count + 1) x
+    → P b at count (lines_before (line_of (read b (take r.size (drop r.from log))).says (read b (take r.size (drop r.from log))).dropped) x)) where
   pub by_lines : (most : ℕ) (b : Desk) (at count room : ℕ) → P b at count (ran_from most b log at count room)
   unfolding ran_from
   by_lines zero b at count room = nothing b at count
   by_lines (suc most) b at count room = go (ltb room 128) (next_record log at) refl (λ b' next room'. by_lines most b' next (count + 1) room')
     where
-      go : (t : Bool) (x : Next) → next_record log at ≡ x → ((b' : Desk) (next room' : ℕ) → P b' next (count + 1) (ran_from most b' log next (count + 1) room'))
+      go : (t : Bool) (x : Found) → next_record log at ≡ x → ((b' : Desk) (next room' : ℕ) → P b' next (count + 1) (ran_from most b' log next (count + 1) room'))
           → P b at count (cond t (running [] b at count false) (ran_by (λ b' next room'. ran_from most b' log next (count + 1) room') b log at count room x))
       go true x e ih = nothing b at count
-      go false End e ih = end b at count e
-      go false Bad e ih = bad b at count e
-      go false (Record from size next) e ih = line b at count from size next e _ (ih _ next _)
+      go false (Ok None) e ih = end b at count e
+      go false (Err x) e ih = bad b at count x e
+      go false (Ok (Some r)) e ih = line b at count r e _ (ih _ r.next _)
 
 -- ---- how far a run comes
 abbrev Inside : List ℕ → Desk → ℕ → ℕ → Running → Type 0
 Inside log b at count x = at ≤ length log → (at ≤ x.at) × (x.at ≤ length log)
 
 inside_log : (most : ℕ) (b : Desk) (log : List ℕ) (at count room : ℕ) → Inside log b at count (ran_from most b log at count room)
-inside_log most b log = by_lines log (Inside log) stays (λ b at count e. stays b at count) (λ b at count e. stays b at count) onward most b
+inside_log most b log = by_lines log (Inside log) stays (λ b at count e. stays b at count) (λ b at count x e. stays b at count) onward most b
   where
     stays : (b : Desk) (at count : ℕ) → at ≤ length log → (at ≤ at) × (at ≤ length log)
     stays b at count h = (omega arith, h)
 
-    onward : (b : Desk) (at count from size next : ℕ) → next_record log at ≡ Record from size next → (x : Running)
-        → Inside log (after b (take size (drop from log))) next (count + 1) x → Inside log b at count x
-    onward b at count from size next e x ih h =
-        let i = inside log at from size next e in
-        let r = ih i.within in
-        (omega (arith, r.0, i.onward), r.1)
+    onward : (b : Desk) (at count : ℕ) (r : Record) → next_record log at ≡ Ok (Some r) → (x : Running)
+        → Inside log (after b (take r.size (drop r.from log))) r.next (count + 1) x → Inside log b at count x
+    onward b at count r e x ih h =
+        let i = inside log at r e in
+        let j = ih i.within in
+        (omega (arith, j.0, i.onward), j.1)
 
 -- with room for a line, and not over: past the place
 pub comes_on : (b : Desk) (log : List ℕ) (at count room : ℕ) → 128 ≤ room → (rest b log at count room).over ≡ false
     → (at < (rest b log at count room).at) × ((rest b log at count room).at ≤ length log)
 comes_on b log at count room h o = go (next_record log at) refl
   where
-    go : (x : Next) → next_record log at ≡ x → (at < (rest b log at count room).at) × ((rest b log at count room).at ≤ length log)
-    go End e = let q = ap (λ (x : Running). x.over) (at-end b log at count room h e) in absurd (false≢true (sym o ∙ q))
-    go Bad e = let q = ap (λ (x : Running). x.over) (at_bad_lem b log at count room h e) in absurd (false≢true (sym o ∙ q))
-    go (Record from size next) e =
-        let i = inside log at from size next e in
-        let packet : List ℕ = take size (drop from log) in
+    go : (x : Found) → next_record log at ≡ x → (at < (rest b log at count room).at) × ((rest b log at count room).at ≤ length log)
+    go (Ok None) e = let q = ap (λ (x : Running). x.over) (at-end b log at count room h e) in absurd (false≢true (sym o ∙ q))
+    go (Err x) e = let q = ap (λ (x : Running). x.over) (at_bad_lem b log at count room x h e) in absurd (false≢true (sym o ∙ q))
+    go (Ok (Some f)) e =
+        let i = inside log at f e in
+        let packet : List ℕ = take f.size (drop f.from log) in
         let line : List ℕ = line_of (read b packet).says (read b packet).dropped in
-        let q : (rest b log at count room).at ≡ (rest (after b packet) log next (count + 1) (room - length line)).at =
-        ap (λ (x : Running). x.at) (at_record b log at count room from size next line h e refl) in
-        let r = inside_log (suc (length log)) (after b packet) log next (count + 1) (room - length line) i.within in
+        let q : (rest b log at count room).at ≡ (rest (after b packet) log f.next (count + 1) (room - length line)).at =
+        ap (λ (x : Running). x.at) (at_record b log at count room f line h e refl) in
+        let r = inside_log (suc (length log)) (after b packet) log f.next (count + 1) (room - length line) i.within in
         (omega (arith, q, r.0, i.onward), omega (arith, q, r.1))
 
 -- what a caller's loop needs

@@ -10,9 +10,9 @@ use Rattle.lists.specs.Bytes.{written}
 use Rattle.reading.specs.Desk.{Desk}
 use Rattle.flows.specs.Fresh.{paper_desk}
 use Rattle.flows.specs.Deliveries.{read, after}
-use Rattle.log_records.specs.declared.Next.{Next}
-use Rattle.log_records.specs.declared.Next.TheVariants.{Record, End, Bad}
-use Rattle.log_records.specs.Records.{Records, before, by_next, next_record, records_from}
+use Rattle.std.specs.Prelude.{Ok, Err, Some, None}
+use Rattle.log_records.specs.declared.Record.{Record}
+use Rattle.log_records.specs.Records.{Found, Records, before, by_next, next_record, records_from}
 use Rattle.log_records.proofs.Found.{inside}
 use Rattle.log_lines.specs.Lines.{line_of, end_line, bad_log}
 use Rattle.log_pieces.specs.Output.{output_of}
@@ -28,13 +28,13 @@ records-enough zero k log at h g = absurd (omega arith)
 records-enough (suc m) zero log at h g = absurd (omega arith)
 records-enough (suc m) (suc k) log at h g = go (next_record log at) refl (λ next h' g'. records-enough m k log next h' g')
   where
-    go : (x : Next) → next_record log at ≡ x → ((next : ℕ) → length log - next < m → length log - next < k → records_from m log next ≡ records_from k log next)
+    go : (x : Found) → next_record log at ≡ x → ((next : ℕ) → length log - next < m → length log - next < k → records_from m log next ≡ records_from k log next)
         → by_next log (records_from m log) x ≡ by_next log (records_from k log) x
-    go End e ih = refl
-    go Bad e ih = refl
-    go (Record from size next) e ih =
-        let i = inside log at from size next e in
-        ap (before (take size (drop from log))) (ih next (omega (arith, i.within, i.onward)) (omega (arith, i.within, i.onward)))
+    go (Ok None) e ih = refl
+    go (Err _) e ih = refl
+    go (Ok (Some r)) e ih =
+        let i = inside log at r e in
+        ap (before (take r.size (drop r.from log))) (ih r.next (omega (arith, i.within, i.onward)) (omega (arith, i.within, i.onward)))
 
 -- ---- what a run puts is the front of what is still to come
 -- the output from a place on
@@ -42,24 +42,24 @@ abbrev pub still : Desk → List ℕ → ℕ → ℕ → List ℕ
 still b log at count = output_of b count (records_from (suc (length log)) log at)
 
 -- by what stands at the place
-still_by : Desk → List ℕ → ℕ → Next → List ℕ
-still_by b log count End = end_line count
-still_by b log count Bad = bad_log
-still_by b log count (Record from size next) =
-    line_of (read b (take size (drop from log))).says (read b (take size (drop from log))).dropped ++ still (after b (take size (drop from log))) log next (count + 1)
+still_by : Desk → List ℕ → ℕ → Found → List ℕ
+still_by b log count (Ok None) = end_line count
+still_by b log count (Err _) = bad_log
+still_by b log count (Ok (Some r)) =
+    line_of (read b (take r.size (drop r.from log))).says (read b (take r.size (drop r.from log))).dropped ++ still (after b (take r.size (drop r.from log))) log r.next (count + 1)
 
-still_is : (b : Desk) (log : List ℕ) (at count : ℕ) (x : Next) → next_record log at ≡ x → still b log at count ≡ still_by b log count x
+still_is : (b : Desk) (log : List ℕ) (at count : ℕ) (x : Found) → next_record log at ≡ x → still b log at count ≡ still_by b log count x
 unfolding records_from still_by output_of
-still_is b log at count x e = ap (λ (y : Next). output_of b count (by_next log (records_from (length log) log) y)) e ∙ go x e
+still_is b log at count x e = ap (λ (y : Found). output_of b count (by_next log (records_from (length log) log) y)) e ∙ go x e
   where
-    go : (x : Next) → next_record log at ≡ x → output_of b count (by_next log (records_from (length log) log) x) ≡ still_by b log count x
-    go End e = ap end_line (add-zero count)
-    go Bad e = refl
-    go (Record from size next) e =
-        let i = inside log at from size next e in
-        let packet : List ℕ = take size (drop from log) in
-        ap (λ (r : Records). output_of b count (before packet r)) (records-enough (length log) (suc (length log)) log next (omega (arith, i.within, i.onward)) (omega arith))
-        ∙ sym (one_more b count packet (records_from (suc (length log)) log next))
+    go : (x : Found) → next_record log at ≡ x → output_of b count (by_next log (records_from (length log) log) x) ≡ still_by b log count x
+    go (Ok None) e = ap end_line (add-zero count)
+    go (Err _) e = refl
+    go (Ok (Some f)) e =
+        let i = inside log at f e in
+        let packet : List ℕ = take f.size (drop f.from log) in
+        ap (λ (r : Records). output_of b count (before packet r)) (records-enough (length log) (suc (length log)) log f.next (omega (arith, i.within, i.onward)) (omega arith))
+        ∙ sym (one_more b count packet (records_from (suc (length log)) log f.next))
 
 -- what a run puts, and what the next ones put
 abbrev onward : List ℕ → Running → List ℕ
@@ -69,12 +69,12 @@ front_of : (most : ℕ) (b : Desk) (log : List ℕ) (at count room : ℕ) → on
 unfolding still_by
 front_of most b log = by_lines log (λ b at count x. onward log x ≡ still b log at count)
     (λ b at count. refl)
-    (λ b at count e. append-nil (end_line count) ∙ sym (still_is b log at count End e))
-    (λ b at count e. append-nil bad_log ∙ sym (still_is b log at count Bad e))
-    (λ b at count from size next e x ih.
-    let line : List ℕ = line_of (read b (take size (drop from log))).says (read b (take size (drop from log))).dropped in
+    (λ b at count e. append-nil (end_line count) ∙ sym (still_is b log at count (Ok None) e))
+    (λ b at count x e. append-nil bad_log ∙ sym (still_is b log at count (Err x) e))
+    (λ b at count r e x ih.
+    let line : List ℕ = line_of (read b (take r.size (drop r.from log))).says (read b (take r.size (drop r.from log))).dropped in
     append_assoc line x.lines (cond x.over [] (still x.desk log x.at x.count))
-    ∙ (ap (λ (l : List ℕ). line ++ l) ih ∙ sym (still_is b log at count (Record from size next) e)))
+    ∙ (ap (λ (l : List ℕ). line ++ l) ih ∙ sym (still_is b log at count (Ok (Some r)) e)))
     most b
 
 -- a run hands on no more records than bytes
@@ -82,8 +82,8 @@ few-still : (most : ℕ) (b : Desk) (log : List ℕ) (at count room : ℕ) → c
 few-still most b log = by_lines log (λ b at count x. count ≤ at → x.count ≤ x.at)
     (λ b at count h. h)
     (λ b at count e h. h)
-    (λ b at count e h. h)
-    (λ b at count from size next e x ih h. let i = inside log at from size next e in ih (omega (arith, i.onward)))
+    (λ b at count x e h. h)
+    (λ b at count r e x ih h. let i = inside log at r e in ih (omega (arith, i.onward)))
     most b
 
 -- ---- the runs from a place on

@@ -3,8 +3,7 @@
 use Rattle.std.specs.Prelude.{ℕ, ◌≡◌, List}
 use Rattle.answers.specs.declared.Reading.{Reading}
 use Rattle.reading.specs.Desk.{Desk}
-use Rattle.log_records.specs.declared.Next.{Next}
-use Rattle.log_records.specs.Records.{NextRecordPromise}
+use Rattle.log_records.specs.Records.{Found, NextRecordPromise}
 use Rattle.log_lines.specs.Puts.{WriteLinePromise, WriteEndPromise, WriteBadPromise}
 use Rattle.log_pieces.specs.declared.Piece.{Piece}
 use Rattle.log_run.specs.declared.Ran.{Ran}
@@ -12,7 +11,7 @@ use Rattle.log_pieces.specs.Printing.{LinePromise}
 use Rattle.log_run.specs.Running.{LogRunPromise}
 
 abbrev pub NextRecordOnce : Type 0
-NextRecordOnce = (log : List ℕ) (at : ℕ) (r r' : Next) → NextRecordPromise log at r → NextRecordPromise log at r' → r ≡ r'
+NextRecordOnce = (log : List ℕ) (at : ℕ) (r r' : Found) → NextRecordPromise log at r → NextRecordPromise log at r' → r ≡ r'
 
 abbrev pub WriteLineOnce : Type 0
 WriteLineOnce =

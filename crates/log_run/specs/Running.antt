@@ -1,12 +1,10 @@
 -- A run over a log into a buffer: as many whole lines as have room, from any place on; and the runs one after another.
-use Rattle.std.specs.Prelude.{ℕ, zero, suc, ◌+◌, ◌-◌, ◌≤◌, ◌<◌, ◌≡◌, Bool, true, false, cond, List, [], ◌++◌, length, take, drop, ltb}
+use Rattle.std.specs.Prelude.{ℕ, zero, suc, ◌+◌, ◌-◌, ◌≤◌, ◌<◌, ◌≡◌, Bool, true, false, cond, List, [], ◌++◌, length, take, drop, ltb, Ok, Err, Some, None}
 use Rattle.lists.specs.Bytes.{written}
 use Rattle.reading.specs.Desk.{Desk}
 use Rattle.flows.specs.Fresh.{paper_desk}
 use Rattle.flows.specs.Deliveries.{read, after}
-use Rattle.log_records.specs.declared.Next.{Next}
-use Rattle.log_records.specs.declared.Next.TheVariants.{Record, End, Bad}
-use Rattle.log_records.specs.Records.{next_record}
+use Rattle.log_records.specs.Records.{Found, next_record}
 use Rattle.log_lines.specs.Lines.{line_of, end_line, bad_log}
 use Rattle.log_lines.specs.Puts.{line_room}
 use Rattle.log_run.specs.declared.Ran.{Ran}
@@ -34,11 +32,11 @@ abbrev pub record_ran : (Desk → ℕ → ℕ → Running) → Desk → List ℕ
 record_ran onward b packet line next room = lines_before line (onward (after b packet) next (room - length line))
 
 -- the last line is `end` and the number of records at a clean end, `bad log` at a bad length or a cut record
-abbrev pub ran_by : (Desk → ℕ → ℕ → Running) → Desk → List ℕ → ℕ → ℕ → ℕ → Next → Running
-ran_by onward b log at count room End = running (end_line count) b at count true
-ran_by onward b log at count room Bad = running bad_log b at count true
-ran_by onward b log at count room (Record from size next) =
-    record_ran onward b (take size (drop from log)) (line_of (read b (take size (drop from log))).says (read b (take size (drop from log))).dropped) next room
+abbrev pub ran_by : (Desk → ℕ → ℕ → Running) → Desk → List ℕ → ℕ → ℕ → ℕ → Found → Running
+ran_by onward b log at count room (Ok None) = running (end_line count) b at count true
+ran_by onward b log at count room (Err _) = running bad_log b at count true
+ran_by onward b log at count room (Ok (Some r)) =
+    record_ran onward b (take r.size (drop r.from log)) (line_of (read b (take r.size (drop r.from log))).says (read b (take r.size (drop r.from log))).dropped) r.next room
 
 -- from a place on, with `count` records before it: lines as long as the room left has every line's room, at most `most` of them
 unfoldable pub ran_from : ℕ → Desk → List ℕ → ℕ → ℕ → ℕ → Running

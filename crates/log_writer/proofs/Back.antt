@@ -1,4 +1,5 @@
 -- A record that was written reads back. It stands at the output's beginning, before what was there behind it; and there `log_records` finds it.
+use Rattle.std.specs.Prelude.{Ok, Some}
 use Prim.Native.Nat.{ℕ, ◌+◌, ◌<◌, ◌≤◌}
 use mathlib.Core.Path.{◌≡◌, refl, ap, sym, ◌∙◌}
 use mathlib.Core.List.{List, [], ◌∷◌, ◌++◌, append_assoc}
@@ -13,8 +14,7 @@ use Rattle.lists.proofs.Written.{written_front}
 use Rattle.answers.specs.Answers.{wrote}
 use Rattle.tables.specs.Refusals.{row, all, verdict}
 use Rattle.writing.specs.Writer.{wrote_by}
-use Rattle.log_records.specs.declared.Next.TheVariants.{Record}
-use Rattle.log_records.specs.Records.{next_record}
+use Rattle.log_records.specs.Records.{record_of, next_record}
 use Rattle.log_records.specs.Written.{length_bytes, written_record}
 use Rattle.log_records.proofs.Back.{stands, packet_of_lem}
 use Rattle.log_writer.specs.Writing.{longest_recorded, record_table, recording, record_length, RecordTaken, RecordReadsBack, RecordIsThatLong}
@@ -57,8 +57,8 @@ record_reads_back out packet size e =
     let small : length packet < 16384 = omega arith in
     let there : length bytes + length packet ≡ size = sym (length-append bytes packet) ∙ sized in
     let first : 0 + length bytes ≡ length bytes = zero-add (length bytes) in
-    let found = stands [] packet rest small ∙ ap (λ (k : ℕ). Record k (length packet) (k + length packet)) first in (
-      ap (λ (l : List ℕ). next_record l 0) is ∙ (found ∙ ap (λ (k : ℕ). Record (length bytes) (length packet) k) there),
+    let found = stands [] packet rest small ∙ ap (λ (k : ℕ). Ok (Some (record_of k (length packet) (k + length packet)))) first in (
+      ap (λ (l : List ℕ). next_record l 0) is ∙ (found ∙ ap (λ (k : ℕ). Ok (Some (record_of (length bytes) (length packet) k))) there),
       ap (λ (l : List ℕ). take (length packet) (drop (length bytes) l)) is
           ∙ (ap (λ (k : ℕ). take (length packet) (drop k (bytes ++ (packet ++ rest)))) (sym first) ∙ packet_of_lem [] bytes packet rest),
     )

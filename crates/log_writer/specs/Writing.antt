@@ -1,13 +1,12 @@
 -- Writing one record of a log, or of a burst: what is refused, what is written, and that it reads back.
 -- How a record is written, to the byte, is `written_record` (log_records/specs/Written.antt).
-use Rattle.std.specs.Prelude.{ℕ, ◌+◌, ◌≤◌, ◌≡◌, List, [], ◌∷◌, cond, length, take, drop, ltb, Result}
+use Rattle.std.specs.Prelude.{ℕ, ◌+◌, ◌≤◌, ◌≡◌, List, [], ◌∷◌, cond, length, take, drop, ltb, Result, Ok, Some}
 use Rattle.refusals.specs.declared.Refusal.{Refusal}
 use Rattle.answers.specs.Answers.{wrote, said_of_writer}
 use Rattle.answers.specs.Once.{Outcome, OneOutcome}
 use Rattle.tables.specs.Refusals.{Row, row, all, verdict}
 use Rattle.writing.specs.Writer.{Wrote, wrote_of, wrote_by}
-use Rattle.log_records.specs.declared.Next.TheVariants.{Record}
-use Rattle.log_records.specs.Records.{next_record}
+use Rattle.log_records.specs.Records.{record_of, next_record}
 use Rattle.log_records.specs.Written.{length_bytes, written_record, AllShort}
 
 -- the longest packet whose length two groups of seven bits can say
@@ -53,7 +52,7 @@ RecordTaken =
 abbrev pub RecordReadsBack : Type 0
 RecordReadsBack =
     (out packet : List ℕ) (size : ℕ) → (recording out packet).says ≡ wrote size
-    → (next_record (recording out packet).out 0 ≡ Record (length (length_bytes (length packet))) (length packet) size)
+    → (next_record (recording out packet).out 0 ≡ Ok (Some (record_of (length (length_bytes (length packet))) (length packet) size)))
     × (take (length packet) (drop (length (length_bytes (length packet))) (recording out packet).out) ≡ packet)
 
 -- and it has the length that `record_length` says

@@ -5,7 +5,6 @@
 ghost use Rattle.std.specs.Prelude.{◌+◌, ◌<◌, ◌≤◌, length};
 
 use endpoint::Setup;
-use log_records::Next;
 use printing::{print_bytes, print_number, print_text, read_full};
 
 // With IDs of 8 bits every response has five bytes, and none begins with 0.
@@ -47,16 +46,17 @@ fn print_record(
     requires { at < length log.now }
     ensures { (at < result) × (result ≤ length log.now) }
 {
-    let Next::Record {
-        from,
-        size: _,
-        next,
-    } = log_records::next_record(log, at)
-    else {
+    let Ok(Some(record)) = log_records::next_record(log, at) else {
         return log.len();
     };
-    print_packet(rt, state, stream_memory, message_memory, &log[from..next]);
-    next
+    print_packet(
+        rt,
+        state,
+        stream_memory,
+        message_memory,
+        &log[record.from..record.next],
+    );
+    record.next
 }
 
 // Reads the records of a log, up to the first that is bad.
@@ -84,7 +84,7 @@ fn print_log(rt: &impl Print, log: &[u8]) {
         room: 2048,
         narrow: 1,
     };
-    endpoint::setup(&mut state, settings);
+    let _ = endpoint::setup(&mut state, settings);
     print_text(rt, b"log ");
     print_number(rt, log.len());
     print_text(rt, b"\n");

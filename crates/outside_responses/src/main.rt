@@ -5,7 +5,8 @@ ghost use Rattle.std.specs.Prelude.{◌≡◌};
 ghost use Rattle.outside_responses.specs.Found.{LiesIn, is_record};
 
 use endpoint::Setup;
-use log_records::Next;
+use log_reader::LogReader;
+use log_records::{BadLog, Record};
 use printing::{print_bytes, print_text, read_full};
 
 // With IDs of 16 bits every response has seven bytes, and none begins with 0.
@@ -41,20 +42,21 @@ fn print_found<'a, 'b>(
     stream_memory: &'a mut [u8],
     message_memory: &'a mut [u8],
     log: &'b [u8],
-    found: Next,
+    found: Result<Option<Record>, BadLog>,
 ) -> bool
     requires { LiesIn log.now found }
     ensures { result ≡ is_record found }
 {
-    let Next::Record {
-        from,
-        size: _,
-        next,
-    } = found
-    else {
+    let Ok(Some(record)) = found else {
         return false;
     };
-    print_packet(rt, state, stream_memory, message_memory, &log[from..next]);
+    print_packet(
+        rt,
+        state,
+        stream_memory,
+        message_memory,
+        &log[record.from..record.next],
+    );
     true
 }
 
@@ -66,9 +68,9 @@ fn print_packets(
     message_memory: &mut [u8],
     log: &[u8],
 ) {
-    let mut reader = log_reader::new(log);
+    let mut reader = LogReader::new(log);
     loop {
-        let found = log_reader::next(&mut reader);
+        let found = reader.next();
         if !print_found(rt, state, stream_memory, message_memory, log, found) {
             return;
         }
@@ -80,7 +82,7 @@ fn main(rt: HostRuntime) {
     let mut streams = [0u8; 32768];
     let mut messages = [0u8; 32768];
     let mut log = [0u8; 65536];
-    endpoint::setup(
+    let _ = endpoint::setup(
         &mut state,
         Setup {
             device: 1,

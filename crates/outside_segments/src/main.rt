@@ -3,7 +3,6 @@
 
 ghost use Rattle.std.specs.Prelude.{◌≡◌, length};
 
-use answers::Written;
 use cutting::Heading;
 use printing::{print_bytes, print_number, print_text, read_full};
 
@@ -31,12 +30,12 @@ fn print_segment(
     out: &mut [u8],
 ) {
     match segments::write_segment(out, heading, mtu, pdu, number) {
-        Written::Length(size) => {
+        Ok(size) => {
             print_bytes(rt, b"", &out[..size]);
         }
-        Written::Refused(n) => {
+        Err(refusal) => {
             print_text(rt, b"refused ");
-            print_number(rt, n);
+            print_number(rt, refusal.number());
         }
     }
     print_text(rt, b"\n");

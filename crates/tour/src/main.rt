@@ -4,6 +4,7 @@
 use answers::Answer;
 use endpoint::Setup;
 use printing::{print_bytes, print_number, print_text};
+use refusals::Refusal;
 
 fn number(rt: &impl Print, n: usize) {
     print_text(rt, b" ");
@@ -11,39 +12,43 @@ fn number(rt: &impl Print, n: usize) {
 }
 
 // One line for an answer.
-fn line(rt: &impl Print, answer: Answer) {
+fn line(rt: &impl Print, answer: Result<Answer, Refusal>) {
     match answer {
-        Answer::Held => {
+        Ok(Answer::Held) => {
             print_text(rt, b"held");
         }
-        Answer::Delivered {
-            context: _,
-            flow,
-            stream,
-            length,
-        } => {
+        Ok(
+            Answer::Delivered {
+                flow,
+                stream,
+                length,
+                ..
+            },
+        ) => {
             print_text(rt, b"pdu");
             number(rt, flow.source);
             number(rt, flow.cos);
             number(rt, stream);
             number(rt, length);
         }
-        Answer::Message {
-            context: _,
-            source,
-            letter,
-            mailbox,
-            length,
-        } => {
+        Ok(
+            Answer::Message {
+                source,
+                letter,
+                mailbox,
+                length,
+                ..
+            },
+        ) => {
             print_text(rt, b"msg");
             number(rt, source);
             number(rt, letter);
             number(rt, mailbox);
             number(rt, length);
         }
-        Answer::Refused(n) => {
+        Err(refusal) => {
             print_text(rt, b"refused");
-            number(rt, n);
+            number(rt, refusal.number());
         }
     }
     print_text(rt, b"\n");
@@ -54,7 +59,7 @@ fn main(rt: HostRuntime) {
     let mut streams = [0u8; 16384];
     let mut messages = [0u8; 32768];
     let mut response = [0u8; 7];
-    endpoint::setup(
+    let _ = endpoint::setup(
         &mut state,
         Setup {
             device: 1,

@@ -12,25 +12,15 @@ use Rattle.c_bursts.proofs.read_packet.Goals.{Start}
 abbrev begun : Start → Run
 begun s = run (desk s.args.state.now s.args.stream_memory.now s.args.message_memory.now s.args.responses.now) s.args.reports.now s.args.count 0
 
--- the report's words end inside the buffer
-pub overflow_mul-count : goal.overflow_mul-count
-overflow_mul-count c = omega (arith, c.requires.space.answers)
-
-pub put-requires : goal.put-requires
-put-requires c = omega (arith, c.requires.space.answers)
-
-pub step-told-requires : goal.step-told-requires
-step-told-requires c = slot-ready (begun (goal.at.step-told-requires c).Start) c.requires
-
-pub reported-report-requires : goal.reported-report-requires
-reported-report-requires c = c.step-told.ensures.numbers
+pub step-reading-requires : goal.step-reading-requires
+step-reading-requires c = slot-ready (begun (goal.at.step-reading-requires c).Start) c.requires
 
 pub returns : goal.returns
 returns c =
     let s = begun (goal.at.returns c).Start in
-    let t = c.step-told in
+    let t = c.step-reading in
     let at = header (ids_in (state_on s.desk)) in
     let small : get_or c.args.packet.now at 0 < 256 = omega (arith, c.type_inv.packet at) in
     let after : Desk = desk t.new.state t.new.stream_memory t.new.message_memory t.new.response in
     packet-read s c.requires _ small t.result after t.ensures t.auto.stream_memory t.auto.message_memory t.auto.response
-    c.reported-report.result _ c.reported-report.ensures c.put.ensures
+    c.from.result _ c.from.ensures c.put.ensures

@@ -1,5 +1,6 @@
 -- `c_runs::read_burst` meets its contract: rows 19 and 12, then the run.
-use Rattle.std.proofs.Common.{◌≡◌, sym, subst, ◌∙◌}
+use Rattle.std.proofs.Common.{◌≡◌, sym, subst}
+use Rattle.refusals.proofs.Back.{never_0}
 use Rattle.reading.specs.Desk.{Desk, desk}
 use Rattle.reading.specs.Table.{lent_refusal}
 use Rattle.reading.proofs.Lent.{lent-ready}
@@ -14,20 +15,16 @@ abbrev lent_to : Start → Desk
 lent_to s = desk s.args.state.now s.args.stream_memory.now s.args.message_memory.now s.args.responses.now
 
 -- 19 or 12
-pub returns-then-number-ne0 : goal.returns-then-number-ne0
-returns-then-number-ne0 c =
-    refuses _ (lent_to (goal.at.returns-then-number-ne0 c).Start) _ _ c.lent_refusal-number.result _ c.lent_refusal-number.ensures c.if-number-ne0.true
-    c.refused.ensures
+pub returns-in-Err : goal.returns-in-Err
+returns-in-Err c = refuses _ (lent_to (goal.at.returns-in-Err c).Start) _ _ _ _ c.in-Err.ensures (never_0 c.in-Err.refusal) c.refused.ensures
 
 -- the run: nothing refuses it
 pub run_over-requires : goal.run_over-requires
 run_over-requires c =
     let d = lent_to (goal.at.run_over-requires c).Start in
-    let passed : lent_refusal d ≡ 0 = sym c.lent_refusal-number.ensures ∙ c.if-number-ne0.false in
-    record { fit = (lent-ready d passed).fit; space = subst (Room (run d _ 0 0)) (sym c.room_for-room.ensures) (has_room d _) }
+    record { fit = (lent-ready d (sym c.in_default.ensures)).fit; space = subst (Room (run d _ 0 0)) (sym c.room_for-room.ensures) (has_room d _) }
 
 pub returns : goal.returns
 returns c =
     let d = lent_to (goal.at.returns c).Start in
-    let passed : lent_refusal d ≡ 0 = sym c.lent_refusal-number.ensures ∙ c.if-number-ne0.false in
-    accepted _ d _ _ _ _ passed c.room_for-room.ensures c.run_over.ensures
+    accepted _ d _ _ _ _ (sym c.in_default.ensures) c.room_for-room.ensures c.run_over.ensures

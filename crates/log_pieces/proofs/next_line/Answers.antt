@@ -1,49 +1,47 @@
 -- `log_pieces::next_line` meets its contract: by what stands at the place.
-use Rattle.std.proofs.Common.{arith, sym, ◌∙◌}
+use Rattle.std.proofs.Common.{◌≡◌, arith, Ok, Some, None, Err}
 use Rattle.reading.specs.Desk.{desk}
-use Rattle.log_pieces.proofs.Laws.{at-end, at_bad_lem, at_record, neither, packet-size}
+use Rattle.log_pieces.proofs.Laws.{at-end, at_bad_lem, at_record, packet-size}
+use Rattle.log_records.specs.Records.{next_record}
 use Rattle.log_records.proofs.Found.{inside}
 use Rattle.log_pieces.proofs.next_line.Goals as goal
 
 -- the end
-pub returns-in-End : goal.returns-in-End
-returns-in-End c = record {
-  line_promise = at-end (desk _ _ _ _) _ _ _ _ _ _ (sym c.next_record-found.ensures ∙ c.in-End.is) c.write_end.ensures.0;
-  onward = c.write_end.ensures.1;
-}
+pub returns-in-Ok-None-clause-line_promise : goal.returns-in-Ok-None-clause-line_promise
+returns-in-Ok-None-clause-line_promise c =
+    let e : next_record c.args.log.now c.args.at ≡ Ok None = cc in
+    at-end (desk _ _ _ _) _ _ _ _ _ _ e c.write_end.ensures.0
 
 -- a log that is bad there
-pub returns-in_default-found : goal.returns-in_default-found
-returns-in_default-found c =
-    let bad = neither c.next_record-found.result c.in_default.not-End c.in_default-found.not-Record in
-    record {
-      line_promise = at_bad_lem (desk _ _ _ _) _ _ _ _ _ _ (sym c.next_record-found.ensures ∙ bad) c.write_bad.ensures.0;
-      onward = c.write_bad.ensures.1;
-    }
+pub returns-in-Err-clause-line_promise : goal.returns-in-Err-clause-line_promise
+returns-in-Err-clause-line_promise c =
+    let e : next_record c.args.log.now c.args.at ≡ Err c.in-Err.field-0 = cc in
+    at_bad_lem (desk _ _ _ _) _ _ _ _ _ _ _ e c.write_bad.ensures.0
 
 -- a record: its packet lies inside the log
 pub slice_bounds-read-count : goal.slice_bounds-read-count
 slice_bounds-read-count c =
-    let r = inside _ _ _ _ _ (sym c.next_record-found.ensures ∙ c.in-Record.is) in
-    omega (arith, r.behind)
+    let e : next_record c.args.log.now c.args.at ≡ Ok (Some c.in-Ok-Some.record) = cc in
+    omega (arith, (inside _ _ _ e).behind)
 
 pub slice_bounds-read-start : goal.slice_bounds-read-start
 slice_bounds-read-start c =
-    let r = inside _ _ _ _ _ (sym c.next_record-found.ensures ∙ c.in-Record.is) in
-    omega (arith, r.behind)
+    let e : next_record c.args.log.now c.args.at ≡ Ok (Some c.in-Ok-Some.record) = cc in
+    omega (arith, (inside _ _ _ e).behind)
 
 pub slice_bounds-read-end : goal.slice_bounds-read-end
 slice_bounds-read-end c =
-    let r = inside _ _ _ _ _ (sym c.next_record-found.ensures ∙ c.in-Record.is) in
-    omega (arith, r.within)
+    let e : next_record c.args.log.now c.args.at ≡ Ok (Some c.in-Ok-Some.record) = cc in
+    omega (arith, (inside _ _ _ e).within)
 
 -- it is read, and its line put
-pub returns : goal.returns
-returns c =
-    let e = sym c.next_record-found.ensures ∙ c.in-Record.is in
-    let r = inside _ _ _ _ _ e in
-    record {
-      line_promise =
-          at_record (desk _ _ _ _) _ _ _ _ _ _ _ _ c.read-reading.result _ _ _ _ _ _ e (packet-size _ _ _ _ _ e) c.read-reading.ensures c.write_line.ensures.0;
-      onward = (c.write_line.ensures.1, r.onward, r.within);
-    }
+pub returns-clause-line_promise : goal.returns-clause-line_promise
+returns-clause-line_promise c =
+    let e : next_record c.args.log.now c.args.at ≡ Ok (Some c.in-Ok-Some.record) = cc in
+    at_record (desk _ _ _ _) _ _ _ _ _ _ c.read-reading.result _ _ _ _ _ _ e (packet-size _ _ _ e) c.read-reading.ensures c.write_line.ensures.0
+
+pub returns-clause-onward : goal.returns-clause-onward
+returns-clause-onward c =
+    let e : next_record c.args.log.now c.args.at ≡ Ok (Some c.in-Ok-Some.record) = cc in
+    let i = inside _ _ _ e in
+    (c.write_line.ensures.1, i.onward, i.within)

@@ -1,5 +1,5 @@
--- `log_records::next_record` meets its contract: each way out is a row of `next_record`.
-use Rattle.std.proofs.Common.{le-ltb, lt-ltb}
+-- `log_records::next_record` meets its contract: the place is at the end, or past it; or a record stands there; or the log is bad.
+use Rattle.std.proofs.Common.{le-ltb, lt-ltb, rules}
 use Rattle.log_records.specs.Records.{next_record}
 use Rattle.log_records.proofs.next_record.Goals as goal
 
@@ -8,14 +8,10 @@ pub returns-then-log-at : goal.returns-then-log-at
 unfolding next_record
 returns-then-log-at c = simp (le-ltb _ _ c.if-log-at.true)
 
--- a length of one byte
-pub returns-then-first-lt128 : goal.returns-then-first-lt128
+pub returns-in_err-record_within : goal.returns-in_err-record_within
 unfolding next_record
-returns-then-first-lt128 c =
-    simp (lt-ltb _ _ c.if-log-at.false, ← c.wide-first.ensures.0, lt-ltb _ _ c.if-first-lt128.true, ← c.record_from.ensures)
+returns-in_err-record_within c = simp (lt-ltb _ _ c.if-log-at.false, ← c.record_within.ensures, c.in_err-record_within.was) (search rules)
 
--- a length of two bytes
 pub returns : goal.returns
 unfolding next_record
-returns c =
-    simp (lt-ltb _ _ c.if-log-at.false, ← c.wide-first.ensures.0, le-ltb _ _ c.if-first-lt128.false, ← c.long_record.ensures)
+returns c = simp (lt-ltb _ _ c.if-log-at.false, ← c.record_within.ensures, c.in_ok-record_within.was)

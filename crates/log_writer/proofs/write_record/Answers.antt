@@ -1,5 +1,5 @@
 -- `log_writer::write_record` meets its contract: each way out is one of the table's, and the first group or both are the length's bytes.
-use Rattle.std.proofs.Common.{ℕ, ap, ◌∙◌, arith, take, length-take}
+use Rattle.std.proofs.Common.{ℕ, ap, ◌∙◌, take}
 use Rattle.log_writer.proofs.Laws.{too_long, no_room, whole}
 use Rattle.log_writer.proofs.write_record.Goals as goal
 
