@@ -1,14 +1,14 @@
 // Bytes and lists: what every layer above uses, and nothing of RapidIO.
 #![tactic(auto)]
 
-ghost use Rattle.std.specs.Prelude.{◌≡◌, ◌+◌, ◌<◌, ◌≤◌, length, take, drop};
+ghost use Rattle.std.specs.Prelude.{◌≡◌, ◌+◌, ◌<◌, ◌≤◌, length};
 ghost use Rattle.lists.specs.Bytes.{word, long, written};
 
 // A byte as a number.
 pub fn wide(b: u8) -> usize
     ensures { (result ≡ b) × (result < 256) }
 {
-    b as usize
+    usize::from(b)
 }
 
 // The two bytes from `at` on, the first the higher. Every caller has tested the length.
@@ -16,7 +16,7 @@ pub fn word_at(bytes: &[u8], at: usize) -> usize
     requires { at + 1 < length bytes.now }
     ensures { (result ≡ word bytes.now at) × (result < 65536) }
 {
-    wide(bytes[at]) * 256 + wide(bytes[at + 1])
+    usize::from(u16::from_be_bytes([bytes[at], bytes[at + 1]]))
 }
 
 // The four bytes from `at` on, the first the highest. Every caller has tested the length.
@@ -24,88 +24,21 @@ pub fn long_at(bytes: &[u8], at: usize) -> usize
     requires { at + 3 < length bytes.now }
     ensures { (result ≡ long bytes.now at) × (result < 4294967296) }
 {
-    word_at(bytes, at) * 65536 + word_at(bytes, at + 2)
+    u32::from_be_bytes([bytes[at], bytes[at + 1], bytes[at + 2], bytes[at + 3]]) as usize
 }
 
-// The copying leaf: `bytes` into the front of `memory`. Every caller has room for them.
+// `bytes` into the front of `memory`. Every caller has room for them.
 pub fn copy(memory: &mut [u8], bytes: &[u8])
     requires { length bytes.now ≤ length memory.old }
     ensures { memory.new ≡ written memory.old 0 bytes.now }
 {
-    let mut i = 0;
-    while i < bytes.len() {
-        memory[i] = bytes[i];
-        i += 1;
-    }
+    memory[..bytes.len()].copy_from_slice(bytes);
 }
 
-// 128 bytes from `at` on, through a block: all are read before any is written, so nobody need ask whether the two overlap.
-fn block_of_128(memory: &mut [u8], bytes: &[u8], at: usize)
-    requires { (at + 128 ≤ length bytes.now) × (length bytes.now ≤ length memory.old) }
-    ensures { memory.new ≡ written memory.old at (take 128 (drop at bytes.now)) }
-{
-    let mut block = [0u8; 128];
-    let to = at + 128;
-    copy(&mut block, &bytes[at..to]);
-    copy(&mut memory[at..], &block);
-}
-
-// 32 bytes in the same way.
-fn block_of_32(memory: &mut [u8], bytes: &[u8], at: usize)
-    requires { (at + 32 ≤ length bytes.now) × (length bytes.now ≤ length memory.old) }
-    ensures { memory.new ≡ written memory.old at (take 32 (drop at bytes.now)) }
-{
-    let mut block = [0u8; 32];
-    let to = at + 32;
-    copy(&mut block, &bytes[at..to]);
-    copy(&mut memory[at..], &block);
-}
-
-// The bytes from `from` on to the same place of `memory`: in blocks of 32, and what is left byte by byte. Where the blocks end is known
-// before the loop.
-fn copy_small_blocks(memory: &mut [u8], bytes: &[u8], from: usize)
-    requires { (from ≤ length bytes.now) × (length bytes.now ≤ length memory.old) }
-    ensures { memory.new ≡ written memory.old from (drop from bytes.now) }
-{
-    let end = bytes.len() - (bytes.len() - from) % 32;
-    let mut at = from;
-    while at < end {
-        block_of_32(memory, bytes, at);
-        at += 32;
-    }
-    copy(&mut memory[at..], &bytes[at..]);
-}
-
-// The blocks of 128 at the front; how many bytes they are. A PDU's segment has at most 256 bytes, so the two blocks stand in the open, and no
-// loop is unrolled.
-fn copy_large_blocks(memory: &mut [u8], bytes: &[u8]) -> usize
-    requires { length bytes.now ≤ length memory.old }
-    ensures { (result ≤ length bytes.now) × (memory.new ≡ written memory.old 0 (take result bytes.now)) }
-{
-    if bytes.len() < 128 {
-        return 0;
-    }
-    block_of_128(memory, bytes, 0);
-    if bytes.len() < 256 {
-        return 128;
-    }
-    block_of_128(memory, bytes, 128);
-    256
-}
-
-// The same as `copy`: in blocks of 128, then in smaller ones.
-fn copy_blocks(memory: &mut [u8], bytes: &[u8])
-    requires { length bytes.now ≤ length memory.old }
-    ensures { memory.new ≡ written memory.old 0 bytes.now }
-{
-    let at = copy_large_blocks(memory, bytes);
-    copy_small_blocks(memory, bytes, at);
-}
-
-// The part of `memory` from `at` on is lent on to the copying leaf. Every caller has room for the bytes there.
+// `bytes` into `memory` from `at` on. Every caller has room for them there.
 pub fn store(memory: &mut [u8], at: usize, bytes: &[u8])
     requires { at + length bytes.now ≤ length memory.old }
     ensures { memory.new ≡ written memory.old at bytes.now }
 {
-    copy_blocks(&mut memory[at..], bytes);
+    memory[at..at + bytes.len()].copy_from_slice(bytes);
 }
