@@ -30,6 +30,7 @@ pub fn data_length(raw: usize, flags: usize) -> usize
 }
 
 // The bytes that an ssize code means; 0 where it is reserved or no code.
+#[tactic(auto, unfolding(crate::specs::Sizes::bytes_of))]
 pub fn bytes_of(code: usize) -> usize
     ensures { result ≡ bytes_of code }
 {

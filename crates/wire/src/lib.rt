@@ -46,6 +46,7 @@ pub struct MessageSegment {
 }
 
 // Whether two flows are one: the only place that compares them.
+#[tactic(auto, unfolding(crate::specs::Type9::same_flow))]
 pub fn same_flow(a: Flow, b: Flow) -> bool
     ensures { result ≡ same_flow a b }
 {
