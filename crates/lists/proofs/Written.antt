@@ -4,10 +4,23 @@ use mathlib.Core.Path.{◌≡◌, refl, ap, ap₂, sym, ◌∙◌}
 use mathlib.Core.List.{List, [], ◌++◌, append_assoc, append-nil}
 use native.Mathlib.Omega.{arith}
 use native.Mathlib.Nat.{zero-add, add-zero, add_assoc}
-use lib.ListN.{length, get_or, take, drop, take-append-drop, length-append, length-take, length-drop, drop_of_length-le, get_or-append}
-use lib.Seq.{take_all, take-take, take-add, take-append-le, drop-append-le, drop-append-add, drop-drop, drop_at, take_at, length-take-le, get_or-take, sets, sets-eq}
+use native.Mathlib.Numerals.{add-one}
+use lib.ListN.{length, get_or, take, drop, set, take-append-drop, length-append, length-take, length-drop, drop_of_length-le, get_or-append}
+use lib.Seq.{paste, paste-suc, take_all, take-length, take-take, take-add, take-append-le, drop-append-le, drop-append-add, drop-drop, drop_at, take_at, length-take-le, get_or-take, sets, sets-eq}
 use borrow.Rule.Slice.PartMut.{mid_of, put_mid}
 use Rattle.lists.specs.Bytes.{written}
+
+-- the copying loop's turn
+pub copy_next : (d s l : List ℕ) (i : ℕ) → i < length s → length s ≤ length d → l ≡ paste d 0 s i → set l i (get_or s i 0) ≡ paste d 0 s (i + 1)
+copy_next d s l i h g e =
+    ap (λ (m : List ℕ). set m i (get_or s i 0)) e
+    ∙ (ap (λ (k : ℕ). set (paste d 0 s i) k (get_or s i 0)) (sym (zero-add i))
+    ∙ (paste-suc d 0 s i 0 (omega arith) h ∙ ap (λ (k : ℕ). paste d 0 s k) (sym (add-one i))))
+
+-- and its end
+pub copied : (d s : List ℕ) → paste d 0 s (length s) ≡ written d 0 s
+unfolding written
+copied d s = simp take-length
 
 pub written_front : (memory bytes : List ℕ) → written memory 0 bytes ≡ bytes ++ drop (length bytes) memory
 unfolding written
@@ -30,12 +43,6 @@ written-part memory bytes part at h e =
     let whole : take (length memory - at) (drop at memory) ≡ drop at memory = take_all (length memory - at) (drop at memory) (simp length-drop (omega arith)) in
     let rest : drop (length memory - at) (drop at memory) ≡ [] = drop_of_length-le (drop at memory) {i = length memory - at} (simp length-drop (omega arith)) in
     rw (e, written_front) (simp (written_is, whole, rest, drop-drop, append-nil, append_assoc))
-
--- a copy into the part from `at` on that is as long as the bytes
-pub written-between : (memory bytes part : List ℕ) (at : ℕ) → part ≡ bytes → put_mid at (at + length bytes - at) memory part ≡ written memory at bytes
-written-between memory bytes part at e =
-    let size : at + length bytes - at ≡ length bytes = omega arith in
-    rw (e, size) (simp (written_is, drop-drop))
 
 -- a run of single stores
 pub stores : (words values : List ℕ) (at : ℕ) → at + length values ≤ length words → sets words at values ≡ written words at values

@@ -1,7 +1,7 @@
 // Bytes and lists: what every layer above uses, and nothing of RapidIO.
 #![tactic(auto)]
 
-ghost use Rattle.std.specs.Prelude.{◌≡◌, ◌+◌, ◌<◌, ◌≤◌, length};
+ghost use Rattle.std.specs.Prelude.{◌≡◌, ◌+◌, ◌<◌, ◌≤◌, length, take, drop};
 ghost use Rattle.lists.specs.Bytes.{word, long, written};
 
 // A byte as a number.
@@ -27,18 +27,72 @@ pub fn long_at(bytes: &[u8], at: usize) -> usize
     u32::from_be_bytes([bytes[at], bytes[at + 1], bytes[at + 2], bytes[at + 3]]) as usize
 }
 
-// `bytes` into the front of `memory`. Every caller has room for them.
+// The copying leaf: `bytes` into the front of `memory`. Every caller has room for them.
 pub fn copy(memory: &mut [u8], bytes: &[u8])
     requires { length bytes.now ≤ length memory.old }
     ensures { memory.new ≡ written memory.old 0 bytes.now }
 {
-    memory[..bytes.len()].copy_from_slice(bytes);
+    for (i, byte) in bytes.iter().enumerate() {
+        memory[i] = *byte;
+    }
 }
 
-// `bytes` into `memory` from `at` on. Every caller has room for them there.
+// N bytes from `at` on, through a block: all are read before any is written, so nobody need ask whether the two overlap.
+fn copy_block<const N: usize>(memory: &mut [u8], bytes: &[u8], at: usize)
+    requires { (at + N ≤ length bytes.now) × (length bytes.now ≤ length memory.old) }
+    ensures { memory.new ≡ written memory.old at (take N (drop at bytes.now)) }
+{
+    let mut block = [0u8; N];
+    let to = at + N;
+    block.copy_from_slice(&bytes[at..to]);
+    memory[at..to].copy_from_slice(&block);
+}
+
+// The bytes from `from` on to the same place of `memory`: in blocks of 32, and what is left byte by byte. Where the blocks end is known
+// before the loop.
+fn copy_small_blocks(memory: &mut [u8], bytes: &[u8], from: usize)
+    requires { (from ≤ length bytes.now) × (length bytes.now ≤ length memory.old) }
+    ensures { memory.new ≡ written memory.old from (drop from bytes.now) }
+{
+    let end = bytes.len() - (bytes.len() - from) % 32;
+    let mut at = from;
+    while at < end {
+        copy_block::<32>(memory, bytes, at);
+        at += 32;
+    }
+    copy(&mut memory[at..], &bytes[at..]);
+}
+
+// The blocks of 128 at the front; how many bytes they are. A PDU's segment has at most 256 bytes, so the two blocks stand in the open, and no
+// loop is unrolled.
+fn copy_large_blocks(memory: &mut [u8], bytes: &[u8]) -> usize
+    requires { length bytes.now ≤ length memory.old }
+    ensures { (result ≤ length bytes.now) × (memory.new ≡ written memory.old 0 (take result bytes.now)) }
+{
+    if bytes.len() < 128 {
+        return 0;
+    }
+    copy_block::<128>(memory, bytes, 0);
+    if bytes.len() < 256 {
+        return 128;
+    }
+    copy_block::<128>(memory, bytes, 128);
+    256
+}
+
+// The same as `copy`: in blocks of 128, then in smaller ones.
+fn copy_blocks(memory: &mut [u8], bytes: &[u8])
+    requires { length bytes.now ≤ length memory.old }
+    ensures { memory.new ≡ written memory.old 0 bytes.now }
+{
+    let at = copy_large_blocks(memory, bytes);
+    copy_small_blocks(memory, bytes, at);
+}
+
+// The part of `memory` from `at` on is lent on to the copying leaf. Every caller has room for the bytes there.
 pub fn store(memory: &mut [u8], at: usize, bytes: &[u8])
     requires { at + length bytes.now ≤ length memory.old }
     ensures { memory.new ≡ written memory.old at bytes.now }
 {
-    memory[at..at + bytes.len()].copy_from_slice(bytes);
+    copy_blocks(&mut memory[at..], bytes);
 }

@@ -1,6 +1,6 @@
--- `lists::store` meets its contract: the part that is written holds the bytes.
-use Rattle.lists.proofs.Written.{written-between}
+-- `lists::store` meets its contract: what the leaf leaves in the part is what the memory then holds from `at` on.
+use Rattle.lists.proofs.Written.{written-part}
 use Rattle.lists.proofs.store.Goals as goal
 
 pub returns : goal.returns
-returns c = written-between _ _ _ _ c.copy_from_slice.ensures.after
+returns c = written-part c.args.memory.now c.args.bytes.now _ c.args.at c.requires c.copy_blocks.ensures
