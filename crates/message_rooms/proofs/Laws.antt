@@ -17,7 +17,7 @@ use Rattle.responses.specs.Type13.{DONE, answered}
 use Rattle.contexts.specs.State.{State, ids_in, message_contexts}
 use Rattle.rules.specs.Messages.{last_with}
 use Rattle.message_rooms.specs.Placing.{message_joining, message_data, marks_with, message_placed, message_room_bytes, message_memory_bytes}
-use Rattle.message_rooms.specs.Inside.{MessageKept, CanReply, MessageReady}
+use Rattle.message_rooms.specs.Inside.{MessageKept}
 
 -- ---- numbers that stay inside (`small`)
 
@@ -46,10 +46,6 @@ pub data_whole : (ids : ℕ) (p : List ℕ) (raw : ℕ) → message_data_from id
 data_whole ids p raw inside =
     let place : length p - raw ≡ message_data_from ids = omega arith in
     ap (λ (n : ℕ). take (length p - n) (drop n p)) place ∙ take_all (length p - message_data_from ids) (drop (message_data_from ids) p) (simp length-drop (omega arith))
-
--- where the rest of the step can be
-pub can_reply : {words memory response packet : List ℕ} {m : MessageSegment} → MessageReady words memory response packet m → CanReply words response packet
-can_reply r = record { words_whole = r.whole; room = r.reply; head = omega (arith, r.inside) }
 
 pub placing : (s : State) (memory response p : List ℕ) (m : MessageSegment) (n marks last size marks' last' : ℕ) (says : Said) (state : State) (memory' response' : List ℕ)
     → size ≡ bytes_of m.ssize

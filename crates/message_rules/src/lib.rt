@@ -14,10 +14,7 @@ use wire::MessageSegment;
 pub fn is_last(m: MessageSegment) -> bool
     ensures { result ≡ is_last m }
 {
-    if m.msglen == 0 {
-        return true;
-    }
-    m.msgseg == m.msglen
+    m.msglen == 0 || m.msgseg == m.msglen
 }
 
 // Row 21 of a last segment. It is never past the last. Row 20 has refused a reserved size.

@@ -15,6 +15,7 @@ use refusals::Refusal;
 use wire::MessageSegment;
 
 // A single-segment message: the lowest free context, delivered at once.
+#[tactic(auto, using(sizes::proofs::Laws::bytes_le))]
 fn take_alone(
     state: &mut [usize],
     memory: &mut [u8],
@@ -59,6 +60,7 @@ fn take_alone(
 }
 
 // A type 11 packet, read into `m`: rows 20 to 22, then by the kind of message.
+#[tactic(auto, using(rules::proofs::Laws::sound, messages::proofs::Laws::status_small))]
 fn take(
     state: &mut [usize],
     memory: &mut [u8],

@@ -1,11 +1,11 @@
--- Where types part: by the number that a packet's head answers it is refused, of type 9 or of type 11, for a desk that rows 19 and 12 have passed.
+-- Where types part: by what a packet's head answers it is refused, of type 9 or of type 11, for a desk that rows 19 and 12 have passed.
 use Prim.Native.Nat.{ℕ, ◌+◌, ◌<◌, ◌≤◌}
-use mathlib.Core.Path.{◌≡◌, ap, sym, ◌∙◌}
+use mathlib.Core.Path.{◌≡◌, ap, ap₂, sym, ◌∙◌}
 use lib.ListN.{get_or}
-use borrow.Author.Tests.{lt-ltb, le-ltb, eq-eqb, ne_eqb}
+use borrow.Author.Tests.{lt-ltb}
 use Rattle.tables.specs.Refusals.{all}
 use Rattle.wire.specs.declared.Setup.{Setup}
-use Rattle.wire.specs.Packet.{header}
+use Rattle.wire.specs.Packet.{header, id_bytes}
 use Rattle.wire.specs.Parsed.{Parsed, parsed, Refused, Stream, Message}
 use Rattle.wire.specs.Inside.{headed}
 use Rattle.wire.proofs.ByNumber.{said_by_number, by_number}
@@ -22,28 +22,24 @@ use Rattle.reading.proofs.Rows.{by_parsed, by_packet}
 abbrev pub setup_in : Lent → Setup
 setup_in x = (state_in x).setup
 
--- the number that its head answers
-abbrev pub head_in : Lent → ℕ
-head_in x = headed (setup_in x).device (ids_in (state_in x)) x.packet
-
 -- what the packet is
 abbrev pub Is : Lent → Parsed → Type 0
 Is x p = parsed (setup_in x) x.packet ≡ p
 
 module _ (x : Lent) where
-  -- ---- by the number of its head
-  module _ (n : ℕ) (number : n ≡ head_in x) where
-    by_head : Is x (said_by_number (setup_in x) x.packet n)
-    by_head = by_number (setup_in x) x.packet n number
+  -- ---- by what its head answers
+  module _ {device narrow : ℕ} (d : device ≡ (setup_in x).device) (w : narrow ≡ (setup_in x).narrow) where
+    by_head : {number : ℕ} → number ≡ headed device (id_bytes narrow) x.packet → Is x (said_by_number (setup_in x) x.packet number)
+    by_head e = by_number (setup_in x) x.packet _ (e ∙ ap₂ (λ (a b : ℕ). headed a (id_bytes b) x.packet) d w)
 
-    pub is_refused : n < 9 → Is x (Refused n)
-    is_refused h = by_head ∙ rw (lt-ltb n 9 h)
+    pub is_refused : {number : ℕ} → number ≡ headed device (id_bytes narrow) x.packet → number < 9 → Is x (Refused number)
+    is_refused {number} e h = by_head e ∙ rw (lt-ltb number 9 h)
 
-    pub is_9 : 9 ≤ n → n ≡ 9 → Is x (Stream (segment_in x))
-    is_9 h e = by_head ∙ rw (le-ltb n 9 h, eq-eqb n 9 e)
+    pub is_9 : 9 ≡ headed device (id_bytes narrow) x.packet → Is x (Stream (segment_in x))
+    is_9 = by_head
 
-    pub is_11 : 9 ≤ n → (n ≡ 9 → ⊥) → Is x (Message (message_segment_in x))
-    is_11 h e = by_head ∙ rw (le-ltb n 9 h, ne_eqb n 9 e)
+    pub is_11 : 11 ≡ headed device (id_bytes narrow) x.packet → Is x (Message (message_segment_in x))
+    is_11 = by_head
 
   -- ---- what reading it is, and what the step of its type may rely on
   module _ (ready : ReadyToRead x.desk) where

@@ -25,10 +25,8 @@ pub fn segment_count(mtu: usize, length: usize) -> usize
 fn wide_ids(heading: Heading) -> bool
     ensures { result ≡ wide_ids heading }
 {
-    if ids::too_wide(heading.narrow, heading.destination) {
-        return true;
-    }
-    ids::too_wide(heading.narrow, heading.source)
+    ids::too_wide(heading.narrow, heading.destination)
+        || ids::too_wide(heading.narrow, heading.source)
 }
 
 // Writes segment `number`, from 0, of the PDU into the front of `out`.

@@ -1,6 +1,5 @@
 -- `message_step::take_alone` meets its contract: the lowest free context, or none is free.
-use Rattle.std.proofs.Common.{refl, ap, ◌∙◌, arith, length-take, length-drop}
-use Rattle.sizes.proofs.Laws.{bytes_le}
+use Rattle.std.proofs.Common.{refl, ap, ◌∙◌, arith}
 use Rattle.contexts.specs.Words.{state_of}
 use Rattle.messages.specs.Joining.{delivered_at_once}
 use Rattle.messages.proofs.Laws.{alone-none, alone_taken, taking}
@@ -12,13 +11,6 @@ returns-in_default c =
     let t = c.refuse.ensures in
     let pre = c.requires.sound in
     (alone-none _ _ _ _ _ pre.0.rows pre.1 (rw (← c.in_default.ensures.0) (omega arith)) t.0, t.1, t.2)
-
--- the store ends inside the room
-pub store-requires : goal.store-requires
-store-requires c =
-    let s = c.requires in
-    simp (length-take, length-drop)
-    (omega (arith, c.in-Some.ensures.1, s.message_ready.size, s.message_ready.inside, s.sound.0.fits, bytes_le c.args.m.ssize))
 
 -- delivered at once
 pub returns : goal.returns
