@@ -62,6 +62,7 @@ pub fn choose(state: &[usize], m: MessageSegment) -> Result<Chosen, Refusal>
 }
 
 // The status that a refusal by rows 23 to 25 writes.
+#[tactic(auto, using(refusals::proofs::Back::number_once), unfolding(messages::specs::Inside::refusal_status))]
 pub fn status_of(refusal: Refusal) -> u8
     ensures { result ≡ refusal_status (number_of refusal) }
 {

@@ -3,8 +3,7 @@ use Prim.Native.Nat.{ℕ, ◌<◌, ◌+◌, ◌-◌, ◌*◌}
 use mathlib.Core.Path.{◌≡◌, refl, ap, ap₂, sym, ◌∙◌}
 use mathlib.Core.List.{List, [], ◌∷◌, ◌++◌, map, append-nil}
 use native.Mathlib.Omega.{arith}
-use borrow.Author.Fill.{fill_more}
-use lib.ListN.{length, take, drop, drop_of_length-le, replicate, set, length-take, length-drop, length-append, take-append-drop}
+use lib.ListN.{length, take, drop, replicate, set, length-take, length-drop, length-append, take-append-drop}
 use lib.Seq.{drop-drop, take_all}
 use Rattle.lists.specs.Rows.{joined, records_at}
 use Rattle.lists.proofs.Written.{take-before}
@@ -123,13 +122,6 @@ module _ (s : State) (a : length s.streams ≡ stream_contexts) (b : length s.me
       ∙ words_records message_rowed message_contexts first_message (head ++ front) s.messages [] (simp length-append (omega (arith, size))) b)
 
 -- ---- a state of zeros
-
-pub filled : (w₀ w : List ℕ) (i : ℕ) → w ≡ replicate i 0 ++ drop i w₀ → i ≡ length w₀ → w ≡ replicate (length w₀) 0
-filled w₀ w i e z =
-    e ∙ (ap (λ (l : List ℕ). replicate i 0 ++ l) (drop_of_length-le w₀ {i = i} (omega arith)) ∙ (append-nil (replicate i 0) ∙ ap (λ (n : ℕ). replicate n 0) z))
-
-pub fill_next : (w₀ w : List ℕ) (i : ℕ) → i < length w₀ → w ≡ replicate i 0 ++ drop i w₀ → set w i 0 ≡ replicate (i + 1) 0 ++ drop (i + 1) w₀
-fill_next w₀ w i h e = ap (λ (l : List ℕ). set l i 0) e ∙ fill_more i 0 w₀ h
 
 -- with the head written it is as setup makes it
 pub begun : (w : List ℕ) (setup : Setup) → w ≡ replicate state_words 0 → write_at w 0 0 (words_of_setup setup) ≡ words_of (fresh setup)

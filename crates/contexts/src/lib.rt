@@ -119,11 +119,7 @@ pub fn narrow(state: &[usize]) -> usize
 pub fn clear(state: &mut [usize])
     ensures { state.new ≡ replicate (length state.old) 0 }
 {
-    let mut i = 0;
-    while i < state.len() {
-        state[i] = 0;
-        i += 1;
-    }
+    state.fill(0);
 }
 
 // A state as setup makes it.

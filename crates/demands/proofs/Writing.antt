@@ -1,4 +1,5 @@
 -- The writer's calls: where no row refuses, the packet stands in the first bytes; and a call that says a length has left it there.
+use Rattle.std.specs.Prelude.{Ok}
 use Prim.Native.Nat.{ℕ, zero, suc, ◌+◌, ◌≤◌, ◌<◌}
 use mathlib.Core.Path.{◌≡◌, refl, ap, ap₂, sym, ◌∙◌}
 use mathlib.Core.Bool.{false, false≢true}
@@ -9,7 +10,6 @@ use lib.Seq.{take_at}
 use borrow.Author.Tests.{ne_eqb, lt-ltb, le-ltb}
 use Rattle.lists.specs.Bytes.{written}
 use Rattle.lists.proofs.Written.{written_front}
-use Rattle.answers.specs.declared.Written.TheVariants.{Length}
 use Rattle.answers.specs.Answers.{wrote, write_refused}
 use Rattle.tables.specs.Refusals.{Verdict, refuse, accept, verdict}
 use Rattle.wire.specs.declared.Flow.{Flow}
@@ -35,7 +35,7 @@ in_front : (out packet : List ℕ) → take (length packet) (written out 0 packe
 in_front out packet = ap (take (length packet)) (written_front out packet) ∙ take_at packet (drop (length packet) out) (length packet) refl
 
 -- a call that says a length leaves the packet there
-wrote_packet : (out : List ℕ) (h : Heading) (mtu : ℕ) (bytes : List ℕ) (k size : ℕ) (left : List ℕ) → WritePromise out h mtu bytes k (Length size) left
+wrote_packet : (out : List ℕ) (h : Heading) (mtu : ℕ) (bytes : List ℕ) (k size : ℕ) (left : List ℕ) → WritePromise out h mtu bytes k (Ok size) left
     → take size left ≡ packet_of h mtu bytes k
 unfolding writing
 wrote_packet out h mtu bytes k size left p = go (verdict (writer_table out h mtu bytes k)) p

@@ -1,6 +1,5 @@
 -- DEMANDS 2 AND 3 OF THE CALLS THAT PEOPLE MAKE. Of calls from C and of bursts: c_promises/specs/OfCalls.antt.
-use Rattle.std.specs.Prelude.{ℕ, ◌^◌, ◌≤◌, ◌<◌, ◌≡◌, List, [], ◌∷◌, false, length}
-use Rattle.answers.specs.declared.Begun.TheVariants.{Ready}
+use Rattle.std.specs.Prelude.{ℕ, ◌^◌, ◌≤◌, ◌<◌, ◌≡◌, List, [], ◌∷◌, false, length, Ok}
 use Rattle.wire.specs.declared.Flow.{Flow}
 use Rattle.sizes.specs.Sizes.{bad_mtu}
 use Rattle.wire.specs.declared.Setup.{Setup}
@@ -20,7 +19,7 @@ use Rattle.demands.specs.Writes.{Writes}
 pub record SetUp (setup : Setup) (d : Desk) : Type 0 where
   pub device_ID : setup.device < 65536
   pub before : List ℕ
-  pub ready : SetupPromise before setup Ready d.words
+  pub ready : SetupPromise before setup (Ok tt) d.words
   pub lends : Lends setup d
 
 abbrev pub SetUpIsFresh : Type 0

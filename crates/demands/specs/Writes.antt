@@ -1,6 +1,5 @@
 -- The writer's calls that people make, one after the other: any outcome that the promise allows may come.
-use Rattle.std.specs.Prelude.{ℕ, zero, suc, List, [], ◌∷◌, take}
-use Rattle.answers.specs.declared.Written.TheVariants.{Length}
+use Rattle.std.specs.Prelude.{ℕ, zero, suc, List, [], ◌∷◌, take, Ok}
 use Rattle.wire.specs.declared.Flow.{Flow}
 use Rattle.wire.specs.declared.Setup.{Setup}
 use Rattle.writing.specs.Writer.{WritePromise}
@@ -11,6 +10,6 @@ use Rattle.sending.specs.Sending.{Sent, heading_for}
 pub data Writes (setup : Setup) (flow : Flow) (s : Sent) : (k n : ℕ) → List (List ℕ) → Type 0 where
   written_all : {k : ℕ} → Writes setup flow s k zero []
   write : {k n : ℕ} {ps : List (List ℕ)} (out left : List ℕ) (size : ℕ)
-      → WritePromise out (heading_for setup flow s) setup.mtu s.pdu.bytes k (Length size) left
+      → WritePromise out (heading_for setup flow s) setup.mtu s.pdu.bytes k (Ok size) left
       → Writes setup flow s (suc k) n ps
       → Writes setup flow s k (suc n) (take size left ∷ ps)

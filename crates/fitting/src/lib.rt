@@ -41,6 +41,7 @@ fn write_at(
 }
 
 // The same with IDs as the heading chooses. The width parts here, so that each side has its places as constants.
+#[tactic(auto, unfolding(wire::specs::Packet::id_bytes))]
 pub fn write_fitting(
     out: &mut [u8],
     heading: Heading,

@@ -5,8 +5,9 @@ use mathlib.Core.Path.{◌≡◌, refl, ap, sym, ◌∙◌, subst, subst₂}
 use mathlib.Core.Bool.{Bool, true, false, cond}
 use mathlib.Core.Option.{Option, none, some}
 use mathlib.Core.List.{List, [], ◌∷◌, ◌++◌}
-use lib.ListN.{length, drop, set}
+use lib.ListN.{length, set}
 use lib.Dec.{ltb}
+use Rattle.std.specs.Prelude.{Some, None}
 use borrow.Author.Tests.{lt-ltb, le-ltb, ltb-true, ltb-false}
 use Rattle.lists.specs.Bytes.{written}
 use Rattle.lists.proofs.First.{first_passes}
@@ -23,7 +24,7 @@ use Rattle.streams.specs.Rows.{found_for, missized}
 use Rattle.streams.specs.Joining as stream
 use Rattle.stream_rooms.specs.Placing as stream_room
 use Rattle.streams.specs.Inside.{Passed}
-use Rattle.streams.proofs.Laws.{size-le, passed, by_rows, begin_own, begin_free, go_closed, go_passes, go_differs, go_placed}
+use Rattle.streams.proofs.Laws.{found_le, size-le, passed, by_rows, begin_own, begin_free, go_closed, go_passes, go_differs, go_placed}
 use Rattle.lists.proofs.Tests.{by_test}
 use Rattle.flows.specs.OneFlow.{PDU, pdu, held, delivered, refused, FlowOutcome, flow_outcome, is_open, flow_refused, flow_joined, flow_step}
 use Rattle.flows.specs.Deliveries.{in_room, delivery}
@@ -146,9 +147,12 @@ module _ (flows : List Flow) (s : State) (memory p : List ℕ) (g : Segment) (ok
         start_small : 0 + data_length g ≤ s.setup.room
         start_small = omega (arith, size-le g.ends (data_length g) s.setup.mtu e, (good s fine).holds)
 
-        -- the code's facts on the packet
-        now : Passed s g (found_for s g) (data_length g)
-        now = passed s g {count = data_length g} {mtu = s.setup.mtu} refl refl {found = found_for s g} d refl e
+        -- the code's facts on the packet, where its flow is open and where it is not
+        now_open : found_for s g < 16 → Passed s g (Some (found_for s g)) (data_length g)
+        now_open lt = passed s g {count = data_length g} {mtu = s.setup.mtu} refl refl {found = Some (found_for s g)} d (refl, lt) e
+
+        now_shut : 16 ≤ found_for s g → Passed s g None (data_length g)
+        now_shut past_all = passed s g {count = data_length g} {mtu = s.setup.mtu} refl refl {found = None} d (omega (arith, found_le s g ok.size), tt) e
 
         sim_begins : (before : Option PDU) → Own s.streams g.flow → ltb (own s.streams g.flow) 16 ≡ is_open before → g.begins ≡ true → Stepped before
         unfolding flow_context free_stream
@@ -157,7 +161,7 @@ module _ (flows : List Flow) (s : State) (memory p : List ℕ) (g : Segment) (ok
             let lt : i < 16 = omega (arith, ok.size) in
             let opened : true ≡ is_open before = sym (lt-ltb i 16 lt) ∙ o in
             subst₂ (λ (j : stream_room.Joined) (x : FlowOutcome). Sim flows s memory g j x)
-            (begin_own s memory p g t now fine lt refl)
+            (begin_own s memory p g t (now_open lt) fine refl refl)
             (ap (flow_joined g (pdu g.field (stream_room.data_of p g))) opened ∙ sym (flow_begins s.setup g (stream_room.data_of p g) d e before t))
             (sim_placed i 0 g.field true (own_mine flows s.setup.room s.streams memory ok g.flow) lt start_small)
         sim_begins before (lacks q no_one) o t =
@@ -167,7 +171,7 @@ module _ (flows : List Flow) (s : State) (memory p : List ℕ) (g : Segment) (ok
             let past_all : 16 ≤ own s.streams g.flow = omega (arith, ok.size) in
             let shut : false ≡ is_open before = sym (le-ltb (own s.streams g.flow) 16 past_all) ∙ o in
             subst₂ (λ (j : stream_room.Joined) (x : FlowOutcome). Sim flows s memory g j x)
-            (begin_free s memory p g t now fine past_all {free = i} refl lt refl)
+            (begin_free s memory p g t (now_shut past_all) fine refl {n = i} (refl, lt) refl)
             (ap (flow_joined g (pdu g.field (stream_room.data_of p g))) shut ∙ sym (flow_begins s.setup g (stream_room.data_of p g) d e before t))
             (sim_placed i 0 g.field false (spare_mine flows s.setup.room s.streams memory ok g.flow no_one within) lt start_small)
 
@@ -186,7 +190,7 @@ module _ (flows : List Flow) (s : State) (memory p : List ℕ) (g : Segment) (ok
           unfolding flow_context
           sim_closed o =
               subst₂ (λ (j : stream_room.Joined) (x : FlowOutcome). Sim flows s memory g j x)
-              (go_closed s memory p g t now o)
+              (go_closed s memory p g t (now_shut o) refl)
               (sym (flow_closed_lem s.setup g (stream_room.data_of p g) d e t))
               (sim_staying (seen_none s.setup.room s.streams memory g.flow o))
 
@@ -198,7 +202,7 @@ module _ (flows : List Flow) (s : State) (memory p : List ℕ) (g : Segment) (ok
             unfolding flow_context stream.refused_closing
             sim_9 h =
                 subst₂ (λ (j : stream_room.Joined) (x : FlowOutcome). Sim flows s memory g j x)
-                (go_passes s memory p g t now lt {held = c.held} {room = s.setup.room} refl refl (ltb-true s.setup.room (c.held + data_length g) h)
+                (go_passes s memory p g t (now_open lt) {held = c.held} {room = s.setup.room} refl refl (ltb-true s.setup.room (c.held + data_length g) h)
                 (record { answer = refl; drop = refl; state = refl }))
                 (sym (flow_passes s.setup g (stream_room.data_of p g) d e t held_so_far c.held holds h))
                 (sim_closing (some held_so_far) 9 (lt-ltb i 16 lt))
@@ -211,7 +215,7 @@ module _ (flows : List Flow) (s : State) (memory p : List ℕ) (g : Segment) (ok
               unfolding flow_context stream.refused_closing
               sim_11 w =
                   subst₂ (λ (j : stream_room.Joined) (x : FlowOutcome). Sim flows s memory g j x)
-                  (go_differs s memory p g t now lt {held = c.held} {room = s.setup.room} refl refl fits w (record { answer = refl; drop = refl; state = refl }))
+                  (go_differs s memory p g t (now_open lt) {held = c.held} {room = s.setup.room} refl refl fits w (record { answer = refl; drop = refl; state = refl }))
                   (sym (flow_differs s.setup g (stream_room.data_of p g) d e t held_so_far c.held holds h w))
                   (sim_closing (some held_so_far) 11 (lt-ltb i 16 lt))
 
@@ -219,7 +223,7 @@ module _ (flows : List Flow) (s : State) (memory p : List ℕ) (g : Segment) (ok
               unfolding flow_context
               sim_joins w =
                   subst₂ (λ (j : stream_room.Joined) (x : FlowOutcome). Sim flows s memory g j x)
-                  (go_placed s memory p g t now lt {held = c.held} {room = s.setup.room} refl refl fits w refl)
+                  (go_placed s memory p g t (now_open lt) {held = c.held} {room = s.setup.room} refl refl fits w refl)
                   (sym (flow_joins s.setup g (stream_room.data_of p g) d e t held_so_far c.held holds h w))
                   (sim_placed i c.held c.stream false (own_mine flows s.setup.room s.streams memory ok g.flow) lt fits)
 

@@ -9,13 +9,11 @@ ghost use Rattle.wire.specs.Packet.{too_wide, header as headerOf, addressed};
 pub const WIDEST: usize = 2;
 
 // Whether IDs of 8 bits are chosen and this one is over 255.
+#[tactic(auto, unfolding(wire::specs::Packet::too_wide))]
 pub fn too_wide(narrow: usize, id: u16) -> bool
     ensures { result ≡ too_wide narrow id }
 {
-    if narrow == 0 {
-        return false;
-    }
-    255 < id
+    narrow != 0 && 255 < id
 }
 
 // Where the fields of a type begin: behind byte 0 and two IDs.
@@ -32,9 +30,10 @@ pub fn id_at(packet: &[u8], at: usize, ids: usize) -> usize
     ensures { result ≡ number ids packet.now at }
 {
     if ids == 1 {
-        return lists::wide(packet[at]);
+        usize::from(packet[at])
+    } else {
+        lists::word_at(packet, at)
     }
-    lists::word_at(packet, at)
 }
 
 // Writes an ID from `at` on, the most significant byte first; where it has one byte, that takes the place of both stores. Every caller has room for it.

@@ -1,35 +1,25 @@
 -- Laws of copying in blocks: bytes of one place are read to a block, and from there written to the same place of a memory.
 use Prim.Native.Nat.{ℕ, ◌≤◌, ◌+◌, ◌-◌}
 use mathlib.Core.Path.{◌≡◌, ap, sym, ◌∙◌}
-use mathlib.Core.List.{List, ◌++◌, append-nil}
+use mathlib.Core.List.{List}
 use native.Mathlib.Omega.{arith}
-use lib.ListN.{length, take, drop, length-take, length-drop, drop_of_length-le}
+use lib.ListN.{length, take, drop, length-take, length-drop}
 use lib.Seq.{take_all, take-add, drop-drop}
 use borrow.Rule.Slice.PartMut.{mid_of, put_mid}
 use Rattle.lists.specs.Bytes.{written}
-use Rattle.lists.proofs.Written.{written_front, written-nothing, written-part, written_behind}
+use Rattle.lists.proofs.Written.{written_is, written-nothing, written-part, written_behind}
 
 -- ---- one block
 
--- a run as long as what it is written over takes its place
-block_is : (old bytes : List ℕ) → length old ≤ length bytes → written old 0 bytes ≡ bytes
-block_is old bytes h = written_front old bytes ∙ (ap (λ (l : List ℕ). bytes ++ l) (drop_of_length-le old {i = length bytes} h) ∙ append-nil bytes)
-
--- k bytes from `at` on, copied to a block and from there to the same place of the memory
-pub block_written : (k : ℕ) (memory bytes zeros block part : List ℕ) (at : ℕ)
-    → length zeros ≡ k
+-- k bytes from `at` on, written to the same place of the memory
+pub block_written : (k : ℕ) (memory bytes part : List ℕ) (at : ℕ)
     → at + k ≤ length bytes
-    → length bytes ≤ length memory
-    → block ≡ written zeros 0 (mid_of at (at + k - at) bytes)
-    → part ≡ written (mid_of at (length memory - at) memory) 0 block
-    → put_mid at (length memory - at) memory part ≡ written memory at (take k (drop at bytes))
-block_written k memory bytes zeros block part at z h g one two =
+    → part ≡ take (at + k - at) (drop at bytes)
+    → put_mid at (at + k - at) memory part ≡ written memory at (take k (drop at bytes))
+block_written k memory bytes part at g e =
     let n : at + k - at ≡ k = omega arith in
     let size : length (take k (drop at bytes)) ≡ k = simp (length-take, length-drop) (omega arith) in
-    let same : block ≡ take k (drop at bytes) =
-    one ∙ (ap (λ (j : ℕ). written zeros 0 (take j (drop at bytes))) n ∙ block_is zeros (take k (drop at bytes)) (omega arith)) in
-    let long : length block ≡ k = ap length same ∙ size in
-    written-part memory block part at (omega arith) two ∙ ap (written memory at) same
+    rw (e, n) (simp (written_is, size, drop-drop))
 
 -- ---- block after block
 

@@ -8,7 +8,7 @@ ghost use Rattle.lists.specs.Bytes.{word, long, written};
 pub fn wide(b: u8) -> usize
     ensures { (result ≡ b) × (result < 256) }
 {
-    b as usize
+    usize::from(b)
 }
 
 // The two bytes from `at` on, the first the higher. Every caller has tested the length.
@@ -16,7 +16,7 @@ pub fn word_at(bytes: &[u8], at: usize) -> usize
     requires { at + 1 < length bytes.now }
     ensures { (result ≡ word bytes.now at) × (result < 65536) }
 {
-    wide(bytes[at]) * 256 + wide(bytes[at + 1])
+    usize::from(u16::from_be_bytes([bytes[at], bytes[at + 1]]))
 }
 
 // The four bytes from `at` on, the first the highest. Every caller has tested the length.
@@ -24,7 +24,7 @@ pub fn long_at(bytes: &[u8], at: usize) -> usize
     requires { at + 3 < length bytes.now }
     ensures { (result ≡ long bytes.now at) × (result < 4294967296) }
 {
-    word_at(bytes, at) * 65536 + word_at(bytes, at + 2)
+    u32::from_be_bytes([bytes[at], bytes[at + 1], bytes[at + 2], bytes[at + 3]]) as usize
 }
 
 // The copying leaf: `bytes` into the front of `memory`. Every caller has room for them.
@@ -32,33 +32,20 @@ pub fn copy(memory: &mut [u8], bytes: &[u8])
     requires { length bytes.now ≤ length memory.old }
     ensures { memory.new ≡ written memory.old 0 bytes.now }
 {
-    let mut i = 0;
-    while i < bytes.len() {
-        memory[i] = bytes[i];
-        i += 1;
+    for (i, byte) in bytes.iter().enumerate() {
+        memory[i] = *byte;
     }
 }
 
-// 128 bytes from `at` on, through a block: all are read before any is written, so nobody need ask whether the two overlap.
-fn block_of_128(memory: &mut [u8], bytes: &[u8], at: usize)
-    requires { (at + 128 ≤ length bytes.now) × (length bytes.now ≤ length memory.old) }
-    ensures { memory.new ≡ written memory.old at (take 128 (drop at bytes.now)) }
+// N bytes from `at` on, through a block: all are read before any is written, so nobody need ask whether the two overlap.
+fn copy_block<const N: usize>(memory: &mut [u8], bytes: &[u8], at: usize)
+    requires { (at + N ≤ length bytes.now) × (length bytes.now ≤ length memory.old) }
+    ensures { memory.new ≡ written memory.old at (take N (drop at bytes.now)) }
 {
-    let mut block = [0u8; 128];
-    let to = at + 128;
-    copy(&mut block, &bytes[at..to]);
-    copy(&mut memory[at..], &block);
-}
-
-// 32 bytes in the same way.
-fn block_of_32(memory: &mut [u8], bytes: &[u8], at: usize)
-    requires { (at + 32 ≤ length bytes.now) × (length bytes.now ≤ length memory.old) }
-    ensures { memory.new ≡ written memory.old at (take 32 (drop at bytes.now)) }
-{
-    let mut block = [0u8; 32];
-    let to = at + 32;
-    copy(&mut block, &bytes[at..to]);
-    copy(&mut memory[at..], &block);
+    let mut block = [0u8; N];
+    let to = at + N;
+    block.copy_from_slice(&bytes[at..to]);
+    memory[at..to].copy_from_slice(&block);
 }
 
 // The bytes from `from` on to the same place of `memory`: in blocks of 32, and what is left byte by byte. Where the blocks end is known
@@ -70,7 +57,7 @@ fn copy_small_blocks(memory: &mut [u8], bytes: &[u8], from: usize)
     let end = bytes.len() - (bytes.len() - from) % 32;
     let mut at = from;
     while at < end {
-        block_of_32(memory, bytes, at);
+        copy_block::<32>(memory, bytes, at);
         at += 32;
     }
     copy(&mut memory[at..], &bytes[at..]);
@@ -85,11 +72,11 @@ fn copy_large_blocks(memory: &mut [u8], bytes: &[u8]) -> usize
     if bytes.len() < 128 {
         return 0;
     }
-    block_of_128(memory, bytes, 0);
+    copy_block::<128>(memory, bytes, 0);
     if bytes.len() < 256 {
         return 128;
     }
-    block_of_128(memory, bytes, 128);
+    copy_block::<128>(memory, bytes, 128);
     256
 }
 

@@ -1,7 +1,7 @@
 // The lines of the log program, into a buffer that the caller lends.
 #![tactic(auto)]
 
-ghost use Rattle.std.specs.Prelude.{◌≡◌, cond, [], ◌∷◌, ◌++◌, ◌+◌, ◌<◌, ◌≤◌, length};
+ghost use Rattle.std.specs.Prelude.{◌≡◌, Ok, cond, [], ◌∷◌, ◌++◌, ◌+◌, ◌<◌, ◌≤◌, length};
 ghost use Rattle.answers.specs.Answers.{said};
 ghost use Rattle.log_lines.specs.Text.{text};
 ghost use Rattle.log_lines.specs.Decimal.{digit, decimal};
@@ -65,30 +65,36 @@ fn put_four(out: &mut [u8], word: &[u8], a: usize, b: usize, c: usize, d: usize)
     put_spaced(out, four, d)
 }
 
+// What the answer to a packet says that is not refused.
+fn put_accepted(out: &mut [u8], answer: Answer) -> usize
+    requires { 87 ≤ length out.old }
+    ensures { Puts out.old 0 (answer_text (said (Ok answer))) out.new result × (result ≤ 87) }
+{
+    match answer {
+        Answer::Held => put_text(out, 0, b"held"),
+        Answer::Delivered {
+            flow,
+            stream,
+            length,
+            ..
+        } => put_four(out, b"pdu", flow.source, flow.cos, stream, length),
+        Answer::Message {
+            source,
+            letter,
+            mailbox,
+            length,
+            ..
+        } => put_four(out, b"msg", source, letter, mailbox, length),
+    }
+}
+
 // What the answer says.
 fn put_answer(out: &mut [u8], answer: Result<Answer, Refusal>) -> usize
     requires { 87 ≤ length out.old }
     ensures { Puts out.old 0 (answer_text (said answer)) out.new result × (result ≤ 87) }
 {
     match answer {
-        Ok(Answer::Held) => put_text(out, 0, b"held"),
-        Ok(
-            Answer::Delivered {
-                flow,
-                stream,
-                length,
-                ..
-            },
-        ) => put_four(out, b"pdu", flow.source, flow.cos, stream, length),
-        Ok(
-            Answer::Message {
-                source,
-                letter,
-                mailbox,
-                length,
-                ..
-            },
-        ) => put_four(out, b"msg", source, letter, mailbox, length),
+        Ok(accepted) => put_accepted(out, accepted),
         Err(refusal) => {
             let behind = put_text(out, 0, b"refused");
             put_spaced(out, behind, refusal.number())

@@ -5,7 +5,8 @@ use mathlib.Core.List.{List}
 use native.Mathlib.Nat.{zero-add}
 use lib.ListN.{length, replicate}
 use borrow.Author.Tests.{lt-ltb}
-use Rattle.answers.specs.declared.Begun.{Begun}
+use Rattle.std.specs.Prelude.{⊤, Result}
+use Rattle.refusals.specs.declared.Refusal.{Refusal}
 use Rattle.answers.specs.Answers.{SetupSaid}
 use Rattle.tables.specs.Refusals.{verdict}
 use Rattle.wire.specs.Packet.{id_bytes, too_wide}
@@ -35,12 +36,12 @@ pub record Sums (log : List ℕ) (b : Desk) (out : List ℕ) (at count total : �
   pub fits : total ≤ 65536 * at
   pub whole : total + length (still b log at count) ≡ length (output log)
 
-set_up : (words : List ℕ) (r : Begun) → SetupPromise (replicate state_words 0) paper_setup r words → words ≡ words_of (fresh paper_setup)
+set_up : (words : List ℕ) (r : Result ⊤ Refusal) → SetupPromise (replicate state_words 0) paper_setup r words → words ≡ words_of (fresh paper_setup)
 unfolding setup setup_table verdict too_wide bad_mtu bad_room
 set_up words r p = ap (λ (x : Stands SetupSaid). x.words) p
 
 -- nothing is put, and the whole output is still to come
-pub begins : (log words : List ℕ) (r : Begun) → length log ≤ 65536 → SetupPromise (replicate state_words 0) paper_setup r words
+pub begins : (log words : List ℕ) (r : Result ⊤ Refusal) → length log ≤ 65536 → SetupPromise (replicate state_words 0) paper_setup r words
     → 0 + length (still (desk words (replicate 32768 0) (replicate 32768 0) (replicate 7 0)) log 0 0) ≡ length (output log)
 unfolding id_bytes
 begins log words r small p =

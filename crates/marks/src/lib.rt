@@ -13,6 +13,7 @@ pub fn power(k: usize) -> usize
 }
 
 // Whether segment k is marked.
+#[tactic(auto, unfolding(crate::specs::Marks::marked))]
 pub fn marked(marks: u16, k: usize) -> bool
     requires { k < 16 }
     ensures { result ≡ markedOf marks k }
@@ -33,5 +34,5 @@ pub fn complete(marks: u16, msglen: usize) -> bool
     requires { (msglen < 16) × (marks < 2 ^ (msglen + 1)) }
     ensures { (result ≡ all_marked marks (msglen + 1)) × (result ≡ counted_complete marks msglen) }
 {
-    u16::count_ones(marks) as usize == msglen + 1
+    marks.count_ones() as usize == msglen + 1
 }

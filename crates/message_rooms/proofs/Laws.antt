@@ -1,6 +1,6 @@
 -- Laws of a context's room: where its segments end, and what a store and a context put make of it.
 use Prim.Native.Nat.{ℕ, ◌≤◌, ◌<◌, ◌+◌, ◌-◌, ◌*◌, ◌^◌}
-use mathlib.Core.Path.{◌≡◌, sym, ap, subst, ◌∙◌}
+use mathlib.Core.Path.{◌≡◌, ap, ◌∙◌}
 use mathlib.Core.List.{List}
 use native.Mathlib.Omega.{arith}
 use native.Mathlib.Nat.{mul-le-mul_right}
@@ -10,17 +10,16 @@ use lib.Pow.{pow_mono}
 use Rattle.lists.specs.Bytes.{written}
 use Rattle.answers.specs.Answers.{Said}
 use Rattle.wire.specs.declared.MessageSegment.{MessageSegment}
-use Rattle.wire.specs.Packet.{header, id_bytes}
 use Rattle.wire.specs.Type11.{message_data_from}
 use Rattle.sizes.specs.Sizes.{bytes_of}
-use Rattle.responses.specs.Type13.{response_size, DONE, answered}
+use Rattle.sizes.proofs.Laws.{bytes_le}
+use Rattle.responses.specs.Type13.{DONE, answered}
 use Rattle.contexts.specs.State.{State, ids_in, message_contexts}
-use Rattle.contexts.specs.Words.{state_of}
 use Rattle.rules.specs.Messages.{last_with}
 use Rattle.message_rooms.specs.Placing.{message_joining, message_data, marks_with, message_placed, message_room_bytes, message_memory_bytes}
-use Rattle.message_rooms.specs.Inside.{MessageKept, reply_size, CanReply, MessageReady}
+use Rattle.message_rooms.specs.Inside.{MessageKept, CanReply, MessageReady}
 
--- ---- numbers that stay inside
+-- ---- numbers that stay inside (`small`)
 
 pub product_le : (k size : ℕ) → k < 16 → size ≤ 256 → k * size ≤ 3840
 product_le k size b h =
@@ -37,6 +36,8 @@ marks_le marks msglen h m =
     let bound : 2 ^ (msglen + 1) ≤ 65536 = pow_mono {j = 16} (omega arith) in
     omega arith
 
+pub ruleset small = (bytes_le, product_le, segment-ends)
+
 -- ---- what the stores and the context make
 
 -- the last `raw` bytes of the packet are all behind the head
@@ -45,20 +46,6 @@ pub data_whole : (ids : ℕ) (p : List ℕ) (raw : ℕ) → message_data_from id
 data_whole ids p raw inside =
     let place : length p - raw ≡ message_data_from ids = omega arith in
     ap (λ (n : ℕ). take (length p - n) (drop n p)) place ∙ take_all (length p - message_data_from ids) (drop (message_data_from ids) p) (simp length-drop (omega arith))
-
--- ---- a response, by the number that chooses the width
-
-module _ (s : State) {narrow : ℕ} (e : narrow ≡ s.setup.narrow) where
-  pub reply_made : {written : ℕ} {after : List ℕ} (before packet : List ℕ) (status : ℕ)
-      → (written ≡ response_size (id_bytes narrow)) × (after ≡ answered (id_bytes narrow) before packet status)
-      → (written ≡ reply_size s) × (after ≡ answered (ids_in s) before packet status)
-  reply_made {written} {after} before packet status r =
-      subst (λ (n : ℕ). (written ≡ response_size (id_bytes n)) × (after ≡ answered (id_bytes n) before packet status)) e r
-
-pub reply_requires : (words : List ℕ) {narrow : ℕ} {response packet : List ℕ} → narrow ≡ (state_of words).setup.narrow → CanReply words response packet
-    → (response_size (id_bytes narrow) ≤ length response) × (header (id_bytes narrow) + 2 ≤ length packet)
-reply_requires words {narrow} {response} {packet} e r =
-    subst (λ (n : ℕ). (response_size (id_bytes n) ≤ length response) × (header (id_bytes n) + 2 ≤ length packet)) (sym e) (r.room, r.head)
 
 -- where the rest of the step can be
 pub can_reply : {words memory response packet : List ℕ} {m : MessageSegment} → MessageReady words memory response packet m → CanReply words response packet

@@ -46,6 +46,7 @@ pub fn done(state: &[usize], response: &mut [u8], packet: &[u8]) -> usize
 }
 
 // Context n with these marks: delivered where all segments are in, else kept. So many bytes of response were written.
+#[tactic(auto, using(crate::proofs::Laws::small))]
 fn keep(
     state: &mut [usize],
     m: MessageSegment,
@@ -80,6 +81,7 @@ fn keep(
 
 // Segment k is stored at k ssize of room n: the part of the memory from there on is lent to the copying leaf.
 // Every caller has tested the state, the buffers' sizes and rows 20 to 24.
+#[tactic(auto, using(crate::proofs::Laws::small))]
 pub fn place(
     state: &mut [usize],
     memory: &mut [u8],

@@ -21,6 +21,7 @@ pub fn is_last(m: MessageSegment) -> bool
 }
 
 // Row 21 of a last segment. It is never past the last. Row 20 has refused a reserved size.
+#[tactic(auto, using(rules::proofs::Laws::judge_length, rules::proofs::Laws::judge_last), unfolding(rules::specs::Messages::bad_length))]
 fn judge_last(m: MessageSegment, size: usize) -> Result<(), Refusal>
     requires { (size ≡ bytes_of m.ssize) × (0 < size) × (is_last m ≡ true) }
     ensures { refused_by result ≡ judged m }
@@ -32,6 +33,7 @@ fn judge_last(m: MessageSegment, size: usize) -> Result<(), Refusal>
 }
 
 // Rows 20 to 22. Whether it is the last is asked once.
+#[tactic(auto, using(rules::proofs::Laws::judge_size, rules::proofs::Laws::judge_length, rules::proofs::Laws::judge_past, rules::proofs::Laws::judge_none), unfolding(rules::specs::Messages::bad_length))]
 pub fn judge(m: MessageSegment) -> Result<(), Refusal>
     ensures { refused_by result ≡ judged m }
 {

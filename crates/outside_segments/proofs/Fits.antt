@@ -5,8 +5,8 @@ use mathlib.Core.List.{List}
 use lib.ListN.{length}
 use native.Mathlib.Omega.{arith}
 use borrow.Author.Tests.{ltb-false}
-use Rattle.answers.specs.declared.Written.{Written}
-use Rattle.answers.specs.declared.Written.TheVariants.{Length}
+use Rattle.std.specs.Prelude.{Result, Ok}
+use Rattle.refusals.specs.declared.Refusal.{Refusal}
 use Rattle.answers.specs.Answers.{wrote, said_of_writer}
 use Rattle.tables.specs.Refusals.{Verdict, refuse, accept, verdict, none}
 use Rattle.tables.proofs.Exactly.{none-held}
@@ -14,8 +14,8 @@ use Rattle.cutting.specs.declared.Heading.{Heading}
 use Rattle.cutting.specs.Cutting.{packet_of}
 use Rattle.writing.specs.Writer.{Wrote, wrote_by, writer_table, writing, WritePromise}
 
-pub fits : (out : List ℕ) (h : Heading) (mtu : ℕ) (pdu : List ℕ) (k : ℕ) (r : Written) (after : List ℕ) (size : ℕ)
-    → WritePromise out h mtu pdu k r after → r ≡ Length size
+pub fits : (out : List ℕ) (h : Heading) (mtu : ℕ) (pdu : List ℕ) (k : ℕ) (r : Result ℕ Refusal) (after : List ℕ) (size : ℕ)
+    → WritePromise out h mtu pdu k r after → r ≡ Ok size
     → size ≤ length out
 unfolding writing writer_table none
 fits out h mtu pdu k r after size promised is = go (verdict (writer_table out h mtu pdu k)) refl (sym (ap said_of_writer is) ∙ ap (λ (w : Wrote). w.says) promised)

@@ -15,23 +15,12 @@ pub fn print_text(rt: &impl Print, text: &[u8]) -> usize
     text.len()
 }
 
-// How many digits a number has in decimal, without zeros in front.
-fn digit_count(n: usize) -> usize
-    ensures count { IsDigitCount n result }
-    ensures few { result ≤ n + 1 }
-{
-    if n < 10 {
-        return 1;
-    }
-    digit_count(n / 10) + 1
-}
-
 // A number in decimal, without zeros in front. Answers how many digits that are.
 pub fn print_number(rt: &impl Print, n: usize) -> usize
     ensures { IsDigitCount n result }
 {
     let _ = rt.print(n);
-    digit_count(n)
+    n.max(1).ilog10() as usize + 1
 }
 
 // A byte as two hexadecimal digits.
@@ -43,13 +32,13 @@ fn print_byte(rt: &impl Print, b: u8) {
 pub fn print_bytes(rt: &impl Print, before: &[u8], bytes: &[u8]) -> usize
     ensures { result ≡ length bytes.now }
 {
-    let mut i = 0;
-    while i < bytes.len() {
-        print_text(rt, before);
-        print_byte(rt, bytes[i]);
-        i += 1;
-    }
-    i
+    bytes
+        .iter()
+        .inspect(|b| {
+            print_text(rt, before);
+            print_byte(rt, **b);
+        })
+        .count()
 }
 
 // Reads until the buffer is full, the input ends or a read fails. Answers how many bytes stand in the buffer's front then.
@@ -58,18 +47,10 @@ pub fn read_full(input: &mut impl Read, buf: &mut [u8]) -> usize
 {
     let mut count = 0;
     while count < buf.len() {
-        let came = read_some(input, &mut buf[count..]);
-        if came == 0 {
-            break;
+        match input.read(&mut buf[count..]) {
+            Ok(0) | Err(_) => break,
+            Ok(came) => count += came,
         }
-        count += came;
     }
     count
-}
-
-// One read. No bytes where the input ends, and where the read fails.
-fn read_some(input: &mut impl Read, part: &mut [u8]) -> usize
-    ensures { result ≤ length part.new }
-{
-    input.read(part).unwrap_or(0)
 }

@@ -1,9 +1,11 @@
 -- Any two outcomes that a promise allows are one: each promise is an equation, and an answer is determined by what it says.
+use Rattle.std.specs.Prelude.{Result}
 use Prim.Native.Nat.{ℕ}
 use mathlib.Core.Path.{◌≡◌, ap, ap₂, sym, ◌∙◌}
 use mathlib.Core.List.{List}
 use mathlib.Core.Bool.{Bool}
 use denote.Ref.{Bor}
+use Rattle.refusals.specs.declared.Refusal.{Refusal}
 use Rattle.answers.specs.declared.Answer.{Answer}
 use Rattle.answers.specs.declared.Reading.{Reading}
 use Rattle.answers.specs.declared.Abandoned.{Abandoned}
@@ -19,11 +21,11 @@ use Rattle.promises.specs.Determinism.{OneRoom, OneOutcomeEach}
 -- a reading is its answer, whether it dropped a PDU, and its count
 same-reading : (r r' : Reading) → r.answer ≡ r'.answer → r.dropped ≡ r'.dropped → r.response ≡ r'.response → r ≡ r'
 same-reading r r' a d n =
-    ap₂ (λ (x : Answer) (y : Bool). record { answer = x; dropped = y; response = r.response }) a d
+    ap₂ (λ (x : Result Answer Refusal) (y : Bool). record { answer = x; dropped = y; response = r.response }) a d
     ∙ ap (λ (k : ℕ). record { answer = r'.answer; dropped = r'.dropped; response = k }) n
 
 -- of either kind of context
-abandoned : (promised : Stands AbandonSaid) → OneOutcome (λ (y : Outcome Abandoned (List ℕ)). stands (said_of_abandon y.answer) y.after ≡ promised)
+abandoned : (promised : Stands AbandonSaid) → OneOutcome (λ (y : Outcome (Result Abandoned Refusal) (List ℕ)). stands (said_of_abandon y.answer) y.after ≡ promised)
 abandoned promised y z p q =
     let e = p ∙ sym q in
     both (abandon_once y.answer z.answer (ap (λ (l : Stands AbandonSaid). l.says) e)) (ap (λ (l : Stands AbandonSaid). l.words) e)

@@ -1,4 +1,5 @@
 -- Good states: setup makes one, and reading and abandoning leave one.
+use Rattle.std.specs.Prelude.{Ok}
 use Prim.Native.Nat.{ℕ}
 use mathlib.Core.Path.{◌≡◌, refl, ap, sym, ◌∙◌, subst}
 use mathlib.Core.List.{List}
@@ -18,7 +19,6 @@ use Rattle.reading.specs.Table.{state_in}
 use Rattle.reading.specs.Good.{GoodWords, StillGood}
 use Rattle.reading.proofs.Kept.{good_words, unchanged, stays_good}
 use Rattle.wire.specs.Packet.{header}
-use Rattle.answers.specs.declared.Begun.TheVariants.{Ready}
 use Rattle.endpoint.specs.Calls.{SetupPromise, SetupLeaves, setup_table, setup, setup_by}
 use Rattle.answers.specs.Stands.{Stands, stands}
 use Rattle.abandoning.specs.Abandoning.{context_table, abandon_by, abandon_stream, abandon_message}
@@ -39,7 +39,7 @@ module _ (words : List ℕ) (settings : Setup) (after : List ℕ) where
       absurd (let z : ◌≡◌ {A = ℕ} 0 1 = cc in omega arith)
   by_setup accept e p = subst GoodWords (sym (ap (λ (s : Stands SetupSaid). s.words) p)) (passed words settings (none-held (setup_table words settings) e))
 
-  setup-good : SetupPromise words settings Ready after → GoodWords after
+  setup-good : SetupPromise words settings (Ok tt) after → GoodWords after
   unfolding setup
   setup-good p = by_setup (verdict (setup_table words settings)) refl p
 

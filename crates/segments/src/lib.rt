@@ -8,6 +8,7 @@ use cutting::Heading;
 use refusals::Refusal;
 
 // The number of segments of a PDU of `length` bytes; 0 where the writer would refuse the MTU or the length.
+#[tactic(auto, using(crate::proofs::Sizes::tested), unfolding(writing::specs::Writer::count_to_write))]
 pub fn segment_count(mtu: usize, length: usize) -> usize
     ensures { CountPromise mtu length result }
 {
@@ -31,6 +32,7 @@ fn wide_ids(heading: Heading) -> bool
 }
 
 // Writes segment `number`, from 0, of the PDU into the front of `out`.
+#[tactic(auto, using(writing::proofs::Nested::nested, crate::proofs::Sizes::tested))]
 pub fn write_segment(
     out: &mut [u8],
     heading: Heading,

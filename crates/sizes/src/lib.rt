@@ -6,26 +6,19 @@ ghost use Rattle.wire.specs.Packet.{bit};
 ghost use Rattle.sizes.specs.Sizes.{bad_mtu, pdu_length, without_pad, bytes_of, in_eights};
 
 // Whether an MTU is no multiple of 4 from 32 to 256.
+#[tactic(auto, unfolding(crate::specs::Sizes::bad_mtu))]
 pub fn bad_mtu(mtu: usize) -> bool
     ensures { result ≡ bad_mtu mtu }
 {
-    if mtu < 32 {
-        return true;
-    }
-    if 256 < mtu {
-        return true;
-    }
-    mtu % 4 != 0
+    !(32..=256).contains(&mtu) || mtu % 4 != 0
 }
 
 // The PDU length that an end's field means.
+#[tactic(auto, unfolding(crate::specs::Sizes::pdu_length))]
 pub fn pdu_length(field: usize) -> usize
     ensures { result ≡ pdu_length field }
 {
-    if field == 0 {
-        return 65536;
-    }
-    field
+    if field == 0 { 65536 } else { field }
 }
 
 // The bytes of a segment's data, the pad not counted: P is the lowest bit. Row 6 has refused a segment without data.
@@ -37,6 +30,7 @@ pub fn data_length(raw: usize, flags: usize) -> usize
 }
 
 // The bytes that an ssize code means; 0 where it is reserved or no code.
+#[tactic(auto, unfolding(crate::specs::Sizes::bytes_of))]
 pub fn bytes_of(code: usize) -> usize
     ensures { result ≡ bytes_of code }
 {
@@ -52,14 +46,9 @@ pub fn bytes_of(code: usize) -> usize
 }
 
 // Whether n bytes are 8 to `size` in eights.
+#[tactic(auto, unfolding(crate::specs::Sizes::in_eights))]
 pub fn in_eights(n: usize, size: usize) -> bool
     ensures { result ≡ in_eights n size }
 {
-    if n < 8 {
-        return false;
-    }
-    if size < n {
-        return false;
-    }
-    n % 8 == 0
+    (8..=size).contains(&n) && n % 8 == 0
 }

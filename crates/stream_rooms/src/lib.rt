@@ -20,10 +20,10 @@ pub fn refused_closing(state: &mut [usize], found: Option<usize>, refusal: Refus
     ensures { Closing (state_of state.old) (unwrap_or found stream_contexts) (number_of refusal) (said result.answer) result.dropped (state_of state.new)
         × (result.response ≡ 0) }
 {
-    let Some(n) = found else {
+    let Some(open) = found else {
         return answers::refusal(refusal, false, 0);
     };
-    stream_contexts::close_stream(state, n);
+    stream_contexts::close_stream(state, open);
     answers::refusal(refusal, true, 0)
 }
 

@@ -18,7 +18,7 @@ pub struct Setup {
 }
 
 // A flow: who sends, at which priority, under which class of service.
-#[derive(Clone, Copy)]
+#[derive(Clone, Copy, PartialEq, Eq)]
 pub struct Flow {
     pub source: usize,
     pub priority: usize,
@@ -46,16 +46,11 @@ pub struct MessageSegment {
 }
 
 // Whether two flows are one: the only place that compares them.
+#[tactic(auto, unfolding(crate::specs::Type9::same_flow))]
 pub fn same_flow(a: Flow, b: Flow) -> bool
     ensures { result ≡ same_flow a b }
 {
-    if a.source != b.source {
-        return false;
-    }
-    if a.priority != b.priority {
-        return false;
-    }
-    a.cos == b.cos
+    a == b
 }
 
 // Whether the bit of that weight is set.

@@ -1,36 +1,34 @@
 -- `beginning::begin` meets its contract: the flow's own context from its beginning, else the lowest free one, else none.
-use borrow.Author.Rules.{rules}
-use Rattle.answers.specs.Answers.{refused}
 use Rattle.stream_rooms.proofs.Laws.{joined_told}
 use Rattle.streams.proofs.Laws.{start_fits, begin_own, begin_free, begin_none}
 use Rattle.beginning.proofs.begin.Goals as goal
 
 -- the flow's own
-pub begin_room-requires : goal.begin_room-requires
-begin_room-requires c =
+pub begin_room-requires-clause-fields : goal.begin_room-requires-clause-fields
+begin_room-requires-clause-fields c =
     let begins = c.requires.fields.1 in
-    record { ready = c.requires.ready; fields = (c.requires.fields.0, begins.start, start_fits _ _ c.requires.ready.good begins.passed c.if-found-lt-STREAM_CONTEXTS.true) }
+    (c.requires.fields.0, begins.start, start_fits _ _ c.requires.ready.good begins.passed (rw c.in-Some.is at begins.passed.flow).1)
 
-pub returns-then-found-lt-STREAM_CONTEXTS : goal.returns-then-found-lt-STREAM_CONTEXTS
-returns-then-found-lt-STREAM_CONTEXTS c =
+pub returns-in-Some : goal.returns-in-Some
+returns-in-Some c =
     let begins = c.requires.fields.1 in
     let t = c.begin_room.ensures in
-    (begin_own _ _ _ _ begins.start begins.passed c.requires.ready.good c.if-found-lt-STREAM_CONTEXTS.true t.0, t.1)
+    (begin_own _ _ _ _ begins.start begins.passed c.requires.ready.good c.in-Some.is t.0, t.1)
 
 -- the lowest free one
-pub begin_room-requires-then-free-lt-STREAM_CONTEXTS : goal.begin_room-requires-then-free-lt-STREAM_CONTEXTS
-begin_room-requires-then-free-lt-STREAM_CONTEXTS c =
+pub begin_room-requires-in-Some-free_stream-clause-fields : goal.begin_room-requires-in-Some-free_stream-clause-fields
+begin_room-requires-in-Some-free_stream-clause-fields c =
     let begins = c.requires.fields.1 in
-    record { ready = c.requires.ready; fields = (c.requires.fields.0, begins.start, start_fits _ _ c.requires.ready.good begins.passed c.if-free-lt-STREAM_CONTEXTS.true) }
+    (c.requires.fields.0, begins.start, start_fits _ _ c.requires.ready.good begins.passed c.in-Some-free_stream.ensures.1)
 
-pub returns-then-free-lt-STREAM_CONTEXTS : goal.returns-then-free-lt-STREAM_CONTEXTS
-returns-then-free-lt-STREAM_CONTEXTS c =
+pub returns-in-Some-free_stream : goal.returns-in-Some-free_stream
+returns-in-Some-free_stream c =
     let begins = c.requires.fields.1 in
-    let t = c.begin_room-then-free-lt-STREAM_CONTEXTS.ensures in
-    (begin_free _ _ _ _ begins.start begins.passed c.requires.ready.good c.if-found-lt-STREAM_CONTEXTS.false c.free_stream-free.ensures c.if-free-lt-STREAM_CONTEXTS.true t.0, t.1)
+    let t = c.begin_room-in-Some-free_stream.ensures in
+    (begin_free _ _ _ _ begins.start begins.passed c.requires.ready.good c.in_default.is c.in-Some-free_stream.ensures t.0, t.1)
 
 -- 10: none is free
 pub returns : goal.returns
 returns c =
     let begins = c.requires.fields.1 in
-    joined_told (refused 10) c.refusal.ensures (begin_none _ _ _ _ begins.start begins.passed c.requires.ready.good c.if-found-lt-STREAM_CONTEXTS.false c.free_stream-free.ensures c.if-free-lt-STREAM_CONTEXTS.false)
+    joined_told c.refusal.ensures (begin_none _ _ _ _ begins.start begins.passed c.requires.ready.good c.in_default.is c.in_default-free_stream.ensures)

@@ -1,6 +1,5 @@
 -- `continuing::go_on_in` meets its contract: row 9, then an end by its length, a continuation behind what the context holds.
 use native.Mathlib.Omega.{arith}
-use borrow.Author.Rules.{rules}
 use Rattle.contexts.proofs.Words.{sixteen}
 use Rattle.stream_rooms.specs.Inside.{stream_for}
 use Rattle.stream_rooms.proofs.Laws.{ends_by}
@@ -10,59 +9,46 @@ use Rattle.continuing.proofs.go_on_in.Goals as goal
 -- what the context holds is at most R, and the data at most the MTU
 pub overflow_add-total : goal.overflow_add-total
 overflow_add-total c =
-    omega (arith, total_le _ _ c.requires.ready.good c.requires.fields.1.passed (sixteen c.args.state.now) c.requires.fields.2 c.held_of-held.ensures)
+    omega (arith, total_le _ _ c.requires.ready.good c.requires.fields.1.passed (sixteen c.args.state.now) c.held_of-held.ensures)
 
 -- 9: the total would pass R
 pub returns-then-room-total : goal.returns-then-room-total
 returns-then-room-total c =
     let on = c.requires.fields.1 in
-    let t = c.refused_closing.ensures in (
-      go_passes _ _ _ _ on.start on.passed c.requires.fields.2 c.held_of-held.ensures c.room.ensures (omega (arith, c.if-room-total.true)) t.0,
-      t.1,
-    )
+    let t = c.refused_closing.ensures in
+    (go_passes _ _ _ _ on.start on.passed c.held_of-held.ensures c.room.ensures c.if-room-total.true t.0, t.1)
 
 -- an end
-pub end-requires : goal.end-requires
-end-requires c =
-    let fields = c.requires.fields.0 in
-    record {
-      ready = c.requires.ready;
-      from_value = (
-        fields.data_from_lem,
-        fields.sender,
-        record {
-          continues = c.requires.fields.1;
-          here = c.requires.fields.2;
-          so_far = c.held_of-held.ensures;
-          behind = rw (← c.room.ensures) c.if-room-total.false;
-          kind = ends_by _ _ fields.flag_bits c.bit.ensures c.if-bit.true;
-        },
-      );
-    }
+pub end-requires-clause-fields : goal.end-requires-clause-fields
+end-requires-clause-fields c =
+    let fields = c.requires.fields.0 in (
+      fields,
+      record {
+        continues = c.requires.fields.1;
+        so_far = c.held_of-held.ensures;
+        behind = rw (← c.room.ensures) c.if-room-total.false;
+        kind = ends_by _ _ fields.flag_bits c.bit.ensures c.if-bit.true;
+      },
+    )
 
 -- a continuation
-pub hold_room-requires : goal.hold_room-requires
-hold_room-requires c =
+pub hold_room-requires-clause-fields : goal.hold_room-requires-clause-fields
+hold_room-requires-clause-fields c =
     let fields = c.requires.fields.0 in
-    let q = c.requires.fields.1.passed in
-    let here = c.requires.fields.2 in
-    record {
-      ready = c.requires.ready;
-      from_value = (
-        fields.data_from_lem,
-        record {
-          fits = record { context = here; size = q.size; within = q.within; behind = rw (← c.room.ensures) c.if-room-total.false };
-          own = own_flow _ (stream_for c.args.state.now c.args.packet.now) q.flow (sixteen c.args.state.now) here;
-          kind = ends_by _ _ fields.flag_bits c.bit.ensures c.if-bit.false;
-        },
-      );
-    }
+    let q = c.requires.fields.1.passed in (
+      fields,
+      record {
+        fits = record { context = q.flow.1; size = q.size; within = q.within; behind = rw (← c.room.ensures) c.if-room-total.false };
+        own = own_flow _ (stream_for c.args.state.now c.args.packet.now) q.flow (sixteen c.args.state.now);
+        kind = ends_by _ _ fields.flag_bits c.bit.ensures c.if-bit.false;
+      },
+    )
 
 pub returns : goal.returns
 returns c =
     let on = c.requires.fields.1 in
     let t = c.hold_room.ensures in (
-      go_placed _ _ _ _ on.start on.passed c.requires.fields.2 c.held_of-held.ensures c.room.ensures c.if-room-total.false
+      go_placed _ _ _ _ on.start on.passed c.held_of-held.ensures c.room.ensures c.if-room-total.false
           (no_length (stream_for c.args.state.now c.args.packet.now) _ (ends_by _ _ c.requires.fields.0.flag_bits c.bit.ensures c.if-bit.false)) t.0,
       t.1,
     )

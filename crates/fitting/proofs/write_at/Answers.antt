@@ -1,6 +1,6 @@
 -- `fitting::write_at` meets its contract: the length that it tests and answers is the packet's, and the head, the field, the data and the pad that it puts are the packet's bytes.
 -- A segment below the count begins in the PDU, so the part that is lent lies in it, and it holds a byte: so there is room for a field.
-use Rattle.std.proofs.Common.{ℕ, ◌<◌, ◌+◌, ◌*◌, ◌%◌, ◌≡◌, ap, List, length, arith}
+use Rattle.std.proofs.Common.{ℕ, ◌<◌, ◌+◌, ◌*◌, ◌%◌, ◌≡◌, ap, length, arith}
 use Rattle.cutting.specs.Cutting.{packet_of}
 use Rattle.writing.proofs.Sizes.{begins}
 use Rattle.writing.proofs.Packet.{cut-length, cut-bytes}

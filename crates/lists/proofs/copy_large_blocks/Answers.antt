@@ -11,5 +11,5 @@ returns-then-bytes-lt128 c = (search rules, nothing_copied _ c.args.bytes.now 0)
 pub returns : goal.returns
 returns c =
     let bytes = c.args.bytes.now in
-    let one = c.block_of_128.ensures ∙ next_block _ _ bytes 0 0 (search rules) c.requires (nothing_copied _ bytes 0) 128 c.if-bytes-lt128.false in
-    (c.if-bytes-lt256.false, c.block_of_128-2.ensures ∙ next_block _ _ bytes 0 128 (search rules) c.requires one 128 c.if-bytes-lt256.false)
+    let one = c.copy_block.ensures ∙ next_block _ _ bytes 0 0 (search rules) c.requires (nothing_copied _ bytes 0) 128 c.if-bytes-lt128.false in
+    (c.if-bytes-lt256.false, c.copy_block-2.ensures ∙ next_block _ _ bytes 0 128 (search rules) c.requires one 128 c.if-bytes-lt256.false)

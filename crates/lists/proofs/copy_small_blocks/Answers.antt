@@ -10,7 +10,7 @@ loop-at-init c = (search rules, search rules, search rules, search rules, nothin
 pub loop-at-preserved : goal.loop-at-preserved
 loop-at-preserved c =
     let inv = c.loop-at.invariant in
-    (search rules, search rules, search rules, search rules, c.block_of_32.ensures ∙ next_block _ _ _ _ _ inv.0 c.requires.1 inv.4 32 (search rules), search rules)
+    (search rules, search rules, search rules, search rules, c.copy_block.ensures ∙ next_block _ _ _ _ _ inv.0 c.requires.1 inv.4 32 (search rules), search rules)
 
 -- what is left, byte by byte
 pub returns : goal.returns

@@ -4,10 +4,10 @@ use lib.ListN.{length-take}
 use Rattle.outside_segments.proofs.Fits.{fits}
 use Rattle.outside_segments.proofs.print_segment.Goals as goal
 
-pub slice_bounds-print_bytes-end-in-Length : goal.slice_bounds-print_bytes-end-in-Length
-slice_bounds-print_bytes-end-in-Length g c =
-    omega (arith, fits _ _ _ _ _ _ _ _ c.write_segment.ensures c.in-Length.is, c.write_segment.auto.out)
+pub slice_bounds-print_bytes-end-in-Ok : goal.slice_bounds-print_bytes-end-in-Ok
+slice_bounds-print_bytes-end-in-Ok g c =
+    omega (arith, fits _ _ _ _ _ _ _ _ c.write_segment.ensures c.in-Ok.is, c.write_segment.auto.out)
 
-pub slice_bounds-print_bytes-end-in-Length-2 : goal.slice_bounds-print_bytes-end-in-Length-2
-slice_bounds-print_bytes-end-in-Length-2 g c =
-    simp length-take (omega (arith, fits _ _ _ _ _ _ _ _ c.write_segment.ensures c.in-Length.is, c.write_segment.auto.out))
+pub slice_bounds-print_bytes-end-in-Ok-2 : goal.slice_bounds-print_bytes-end-in-Ok-2
+slice_bounds-print_bytes-end-in-Ok-2 g c =
+    simp length-take (omega (arith, fits _ _ _ _ _ _ _ _ c.write_segment.ensures c.in-Ok.is, c.write_segment.auto.out))

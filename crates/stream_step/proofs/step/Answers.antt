@@ -5,20 +5,19 @@ use mathlib.Core.Bool.{false}
 use mathlib.Core.List.{List}
 use native.Mathlib.Omega.{arith}
 use lib.ListN.{length}
-use borrow.Author.Rules.{rules}
+use Rattle.lists.specs.First.{IsFound}
 use Rattle.wire.specs.declared.StreamHead.{StreamHead}
 use Rattle.wire.specs.Packet.{header, id_bytes}
 use Rattle.wire.specs.Type9.{flags}
 use Rattle.wire.specs.Inside.{stream_head}
 use Rattle.wire.proofs.Fields.{flow_is, from_is, from_least}
-use Rattle.rules.specs.Segments.{malformed, wrong_size}
-use Rattle.contexts.specs.State.{ids_in, stream_contexts, flow_context}
+use Rattle.rules.specs.Segments.{malformed}
+use Rattle.contexts.specs.State.{ids_in, stream_contexts}
 use Rattle.contexts.specs.Words.{state_of}
-use Rattle.contexts.proofs.Words.{sixteen}
 use Rattle.stream_rooms.specs.Inside.{stream_for, Fields}
 use Rattle.streams.specs.Rows.{found_for}
 use Rattle.streams.specs.Inside.{Passed}
-use Rattle.streams.proofs.Laws.{some_data, found_le, passed, raw_by, malformed_by, data_by, size_by, begins_by, step-malformed, step-missized}
+use Rattle.streams.proofs.Laws.{some_data, passed, raw_by, malformed_by, data_by, size_by, begins_by, step-malformed, step-missized}
 use Rattle.stream_step.proofs.step.Goals as goal
 use Rattle.stream_step.proofs.step.Goals.{After-find_stream-found, Else-is_wrong_form, Else-is_wrong_size}
 
@@ -32,8 +31,7 @@ head_there words p h = omega (arith, from_least (ids_in (state_of words)) p)
 head_is : (c : After-find_stream-found) → c.stream_of-head.result ≡ stream_head (ids_in (state_of c.args.state.now)) c.args.packet.now
 head_is c = c.stream_of-head.ensures.0 ∙ ap (λ (n : ℕ). stream_head (id_bytes n) c.args.packet.now) c.narrow.ensures
 
-fields : (c : After-find_stream-found) → let head = c.stream_of-head.result in
-    Fields c.args.state.now c.args.packet.now head.flags head.from head.flow
+fields : (c : After-find_stream-found) → Fields c.args.state.now c.args.packet.now c.stream_of-head.result
 unfolding stream_head
 fields c =
     let ids = ids_in (state_of c.args.state.now) in
@@ -45,24 +43,18 @@ fields c =
       sender = ap (λ (h : StreamHead). h.flow) (head_is c) ∙ sym (flow_is ids p);
     }
 
-found-is : (c : After-find_stream-found) → c.find_stream-found.result ≡ found_for (state_of c.args.state.now) (stream_for c.args.state.now c.args.packet.now)
-found-is c = c.find_stream-found.ensures ∙ ap (flow_context (state_of c.args.state.now)) (fields c).sender
-
-found-small : (c : After-find_stream-found) → c.find_stream-found.result ≤ stream_contexts
-found-small c =
-    rw (found-is c) (found_le (state_of c.args.state.now) (stream_for c.args.state.now c.args.packet.now) (sixteen c.args.state.now))
+found-is : (c : After-find_stream-found) → IsFound stream_contexts (found_for (state_of c.args.state.now) (stream_for c.args.state.now c.args.packet.now)) c.find_stream-found.result
+found-is c = rw (← (fields c).sender) c.find_stream-found.ensures
 
 -- ---- what is known where row 6 has passed, and row 7, by what was known before
 
-well-formed : (c : Else-is_wrong_form) → let head = c.stream_of-head.result in
-    Fields c.args.state.now c.args.packet.now head.flags head.from head.flow →
-    malformed (stream_for c.args.state.now c.args.packet.now) ≡ false
+well-formed : (c : Else-is_wrong_form) → Fields c.args.state.now c.args.packet.now c.stream_of-head.result → malformed (stream_for c.args.state.now c.args.packet.now) ≡ false
 well-formed c f = malformed_by _ _ f.flag_bits f.data_from_lem refl c.is_wrong_form.ensures c.if-is_wrong_form.false
 
-has-passed : (c : Else-is_wrong_size) → let head = c.stream_of-head.result in let s = state_of c.args.state.now in let g = stream_for c.args.state.now c.args.packet.now in
-    Fields c.args.state.now c.args.packet.now head.flags head.from head.flow →
+has-passed : (c : Else-is_wrong_size) → let s = state_of c.args.state.now in let g = stream_for c.args.state.now c.args.packet.now in
+    Fields c.args.state.now c.args.packet.now c.stream_of-head.result →
     malformed g ≡ false →
-    c.find_stream-found.result ≡ found_for s g →
+    IsFound stream_contexts (found_for s g) c.find_stream-found.result →
     Passed s g c.find_stream-found.result c.data_length-count.result
 has-passed c f good found =
     passed _ _ (data_by _ _ f.flag_bits f.data_from_lem refl c.data_length-count.ensures) c.mtu.ensures good found
@@ -77,15 +69,12 @@ pub overflow_sub-raw : goal.overflow_sub-raw
 overflow_sub-raw c = omega (arith, (fields (goal.at.overflow_sub-raw c).After-find_stream-found).data_from_lem, c.requires.inside)
 
 -- 6: no data, odd bytes of data, or O wrong
-pub refused_closing-requires : goal.refused_closing-requires
-refused_closing-requires c = (c.requires.whole, found-small (goal.at.refused_closing-requires c).After-find_stream-found)
-
 pub returns-then-is_wrong_form : goal.returns-then-is_wrong_form
 returns-then-is_wrong_form c =
     let at-found = (goal.at.returns-then-is_wrong_form c).After-find_stream-found in
     let f = fields at-found in
     let t = c.refused_closing.ensures in
-    (step-malformed _ _ _ _ (found-is at-found) (malformed_by _ _ f.flag_bits f.data_from_lem refl c.is_wrong_form.ensures c.if-is_wrong_form.true) t.0, t.1)
+    (step-malformed _ _ _ _ (found-is at-found).0 (malformed_by _ _ f.flag_bits f.data_from_lem refl c.is_wrong_form.ensures c.if-is_wrong_form.true) t.0, t.1)
 
 pub data_length-count-requires : goal.data_length-count-requires
 data_length-count-requires c =
@@ -94,17 +83,13 @@ data_length-count-requires c =
     rw (raw_by _ _ f.flag_bits f.data_from_lem refl) (some_data _ (well-formed places.Else-is_wrong_form f))
 
 -- 7: not MTU bytes, or over MTU
-pub refused_closing-requires-then-is_wrong_size : goal.refused_closing-requires-then-is_wrong_size
-refused_closing-requires-then-is_wrong_size c =
-    (c.requires.whole, found-small (goal.at.refused_closing-requires-then-is_wrong_size c).After-find_stream-found)
-
 pub returns-then-is_wrong_size : goal.returns-then-is_wrong_size
 returns-then-is_wrong_size c =
     let places = goal.at.returns-then-is_wrong_size c in
     let f = fields places.After-find_stream-found in
     let t = c.refused_closing-then-is_wrong_size.ensures in (
       step-missized _ _ _ _ (well-formed places.Else-is_wrong_form f) (data_by _ _ f.flag_bits f.data_from_lem refl c.data_length-count.ensures) c.mtu.ensures
-          (found-is places.After-find_stream-found) (size_by _ _ f.flag_bits c.data_length-count.result c.mtu.result c.is_wrong_size.ensures c.if-is_wrong_size.true) t.0,
+          (found-is places.After-find_stream-found).0 (size_by _ _ f.flag_bits c.data_length-count.result c.mtu.result c.is_wrong_size.ensures c.if-is_wrong_size.true) t.0,
       t.1,
     )
 

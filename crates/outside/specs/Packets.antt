@@ -1,0 +1,16 @@
+-- What reading a packet does to a board of the programs.
+use Rattle.std.specs.Prelude.{ℕ, List, replicate}
+use Rattle.answers.specs.declared.Reading.{Reading}
+use Rattle.reading.specs.Desk.{Desk, desk}
+use Rattle.reading.specs.Table.{lent}
+use Rattle.reading.specs.Read.{ReadPromise}
+use Rattle.outside.specs.declared.packets.Board.{Board}
+
+-- the board and a response buffer, as they are lent
+abbrev pub lent_of : Board → (response : List ℕ) → Desk
+lent_of board response = desk board.state board.streams board.messages response
+
+-- the endpoint has read the packet, with a response buffer of so many zeros
+abbrev pub Reads : (size : ℕ) → Board → (packet : List ℕ) → Reading → (response : List ℕ) → Board → Type 0
+Reads size before packet reading response after =
+    ReadPromise (lent (lent_of before (replicate size 0)) packet) reading (lent_of after response)

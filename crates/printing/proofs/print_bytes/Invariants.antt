@@ -1,9 +1,0 @@
--- `printing::print_bytes` comes past every byte: i is at most their number, and what is left falls.
-use Rattle.std.proofs.Common.{length, ◌-◌, ◌≤◌}
-use Rattle.printing.proofs.print_bytes.Given as goal
-
-abbrev pub invariant-loop-i : goal.invariant-loop-i
-invariant-loop-i g l = l.i ≤ length l.bytes
-
-abbrev pub decreases-loop-i : goal.decreases-loop-i
-decreases-loop-i g l = length l.bytes - l.i
