@@ -11,6 +11,6 @@ abbrev pub lent_of : Board → (response : List ℕ) → Desk
 lent_of board response = desk board.state board.streams board.messages response
 
 -- the endpoint has read the packet, with a response buffer of so many zeros
-abbrev pub Reads : (size : ℕ) → Board → (packet : List ℕ) → Reading → (response : List ℕ) → Board → Type 0
-Reads size before packet reading response after =
+abbrev pub BoardReads : (size : ℕ) → Board → (packet : List ℕ) → Reading → (response : List ℕ) → Board → Type 0
+BoardReads size before packet reading response after =
     ReadPromise (lent (lent_of before (replicate size 0)) packet) reading (lent_of after response)

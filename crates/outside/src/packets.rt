@@ -4,7 +4,7 @@ ghost use Rattle.refusals.specs.declared.Refusal.{Refusal};
 ghost use Rattle.answers.specs.declared.Reading.{Reading as ReadingOf};
 ghost use Rattle.contexts.specs.Words.{state_words};
 ghost use Rattle.endpoint.specs.Calls.{SetupPromise};
-ghost use Rattle.outside.specs.Packets.{Reads};
+ghost use Rattle.outside.specs.Packets.{BoardReads};
 
 use answers::Reading;
 use endpoint::Setup;
@@ -33,7 +33,7 @@ pub fn new(settings: Setup) -> Board
 
 // Reads one packet, with a response buffer of N zeros.
 pub fn read<const N: usize>(board: &mut Board, packet: &[u8]) -> (Reading, [u8; N])
-    ensures { Reads N board.old packet.now result.0 result.1 board.new }
+    ensures { BoardReads N board.old packet.now result.0 result.1 board.new }
 {
     let mut response = [0; N];
     let reading = endpoint::read(
@@ -59,7 +59,7 @@ fn print_response(rt: &impl Print, response: &[u8]) {
 // Reads one packet, and prints its line and the response that was written, which has N bytes.
 pub fn print_packet<const N: usize>(rt: &impl Print, board: &mut Board, packet: &[u8])
     requires { N < 2 ^ 63 }
-    ensures { (reading : ReadingOf) × (response : List ℕ) × Reads N board.old packet.now reading response board.new }
+    ensures { (reading : ReadingOf) × (response : List ℕ) × BoardReads N board.old packet.now reading response board.new }
 {
     let (reading, response) = read::<N>(board, packet);
     let mut line = [0; log_lines::LINE];
