@@ -10,6 +10,7 @@ use answers::Reading;
 use heads::PacketType;
 
 // One packet. Every caller has tested the state and the memories; a run over many packets tests them once.
+#[inline(always)]
 pub fn step(
     state: &mut [usize],
     stream_memory: &mut [u8],
@@ -28,8 +29,8 @@ pub fn step(
     }
 }
 
-// Reads one packet: rows 19 and 12, then the packet by its type, as the step above does. With the same lines in both, neither waits for a call before
-// a packet is refused by its head (docs/PERFORMANCE.md).
+// Reads one packet: rows 19 and 12, then the step above. It stands open there, so that a packet that its head refuses waits for no call
+// (docs/PERFORMANCE.md).
 pub fn read(
     state: &mut [usize],
     stream_memory: &mut [u8],
@@ -43,9 +44,5 @@ pub fn read(
     if let Err(refusal) = reading::lent_refusal(state, stream_memory, message_memory, response) {
         return answers::refusal(refusal, false, 0);
     }
-    match heads::head(packet, contexts::device(state), contexts::narrow(state)) {
-        Ok(PacketType::DataStreaming) => stream_step::step(state, stream_memory, packet),
-        Ok(PacketType::Message) => message_step::step(state, message_memory, response, packet),
-        Err(refusal) => answers::refusal(refusal, false, 0),
-    }
+    step(state, stream_memory, message_memory, response, packet)
 }

@@ -22,28 +22,30 @@ returns-in-Err c =
 -- ---- type 9
 
 pub step-requires : goal.step-requires
-step-requires c = parting.ready_9 (lent_to (goal.at.step-requires c).Start) c.requires (parting.is_9 _ c.device.ensures c.narrow.ensures c.in-Ok-DataStreaming.ensures.number)
+step-requires c =
+    let x = lent_to (goal.at.step-requires c).Start in
+    parting.ready_9 x c.requires (parting.is_9 x c.device.ensures c.narrow.ensures (rw c.in-Ok-DataStreaming.field-0-is at c.in-Ok-DataStreaming.ensures.number))
 
 pub returns-in-Ok-DataStreaming : goal.returns-in-Ok-DataStreaming
 returns-in-Ok-DataStreaming c =
     let x = lent_to (goal.at.returns-in-Ok-DataStreaming c).Start in
     let t = c.step in
     stream_promised x t.result t.new.state t.new.memory _ (t.auto.state ∙ c.requires.fit.whole) t.ensures
-    (parting.reads x c.requires _ (parting.is_9 x c.device.ensures c.narrow.ensures c.in-Ok-DataStreaming.ensures.number))
+    (parting.reads x c.requires _ (parting.is_9 x c.device.ensures c.narrow.ensures (rw c.in-Ok-DataStreaming.field-0-is at c.in-Ok-DataStreaming.ensures.number)))
 
 -- ---- type 11
 
-pub step-requires-2 : goal.step-requires-2
-step-requires-2 c =
-    let x = lent_to (goal.at.step-requires-2 c).Start in
+pub step-requires-in-Ok-Message : goal.step-requires-in-Ok-Message
+step-requires-in-Ok-Message c =
+    let x = lent_to (goal.at.step-requires-in-Ok-Message c).Start in
     let at = header (ids_in (state_in x)) in
     let a : get_or x.packet at 0 < 256 = omega (arith, c.type_inv.packet at) in
     let b : get_or x.packet (at + 1) 0 < 256 = omega (arith, c.type_inv.packet (at + 1)) in
-    parting.ready_11 x c.requires (parting.is_11 x c.device.ensures c.narrow.ensures c.in-Ok-Message.ensures.number) a b
+    parting.ready_11 x c.requires (parting.is_11 x c.device.ensures c.narrow.ensures (rw c.in-Ok-Message.field-0-is at c.in-Ok-Message.ensures.number)) a b
 
 pub returns-in-Ok-Message : goal.returns-in-Ok-Message
 returns-in-Ok-Message c =
     let x = lent_to (goal.at.returns-in-Ok-Message c).Start in
-    let t = c.step-2 in
+    let t = c.step-in-Ok-Message in
     message_promised x t.result t.new.state t.new.memory t.new.response _ (t.auto.state ∙ c.requires.fit.whole) t.ensures
-    (parting.reads x c.requires _ (parting.is_11 x c.device.ensures c.narrow.ensures c.in-Ok-Message.ensures.number))
+    (parting.reads x c.requires _ (parting.is_11 x c.device.ensures c.narrow.ensures (rw c.in-Ok-Message.field-0-is at c.in-Ok-Message.ensures.number)))
