@@ -80,6 +80,7 @@ fn head_at(packet: &[u8], device: usize, ids: usize) -> Result<PacketType, Refus
 }
 
 // Rows 1 to 5 at the width of the endpoint. It parts here, so that each side has its places as constants (docs/PERFORMANCE.md).
+#[inline(always)]
 pub fn head(packet: &[u8], device: usize, narrow: usize) -> Result<PacketType, Refusal>
     ensures number { head_number result ≡ headed device (id_bytes narrow) packet.now }
     ensures row { IfErr result (λ refusal. number_of refusal < 9) }
