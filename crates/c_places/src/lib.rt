@@ -25,6 +25,7 @@ fn nowhere() -> Place
 }
 
 // The first l bytes of room n of a memory of so many rooms and that size. Every caller knows the rooms to be small.
+#[tactic(auto, unfolding(room_parts::specs::Parts::room_part))]
 fn room_at(rooms: usize, room: usize, size: usize, n: usize, l: usize) -> Place
     requires { (rooms ≤ stream_contexts) × (room ≤ 65536) }
     ensures { result ≡ place_of (room_part rooms room size n l) }
