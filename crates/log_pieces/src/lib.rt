@@ -28,18 +28,15 @@ pub fn next_line(
         log.now at count line.old result (desk state.new stream_memory.new message_memory.new response.new) line.new }
     ensures onward { Onward (length log.now) at result }
 {
-    let record = match log_records::next_record(log, at) {
-        Ok(Some(record)) => record,
-        Ok(None) => {
-            return Piece::Last {
-                size: log_lines::write_end(line, count),
-            };
-        }
-        Err(_) => {
-            return Piece::Last {
-                size: log_lines::write_bad(line),
-            };
-        }
+    let Ok(found) = log_records::next_record(log, at) else {
+        return Piece::Last {
+            size: log_lines::write_bad(line),
+        };
+    };
+    let Some(record) = found else {
+        return Piece::Last {
+            size: log_lines::write_end(line, count),
+        };
     };
     let reading = endpoint::read(
         state,
