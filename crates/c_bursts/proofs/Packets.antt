@@ -23,7 +23,7 @@ use Rattle.reading.specs.Inside.{Fit, ReadyToRead}
 use Rattle.reading.proofs.Kept.{stays_good}
 use Rattle.c_reports.specs.declared.Report.{Report}
 use Rattle.c_reports.specs.Reports.{report_of, report_words, words_of_report}
-use Rattle.c_bursts.specs.Bursts.{slot_bytes, Run, run, slot, lent_in, read_in, report_for, answers_placed}
+use Rattle.c_bursts.specs.Bursts.{slot_bytes, Run, run, slot, lent_in, read_in, answers_placed}
 use Rattle.c_bursts.specs.Inside.{ReadyToRun, PacketPromise}
 
 -- a part of as many bytes, put back

@@ -7,7 +7,7 @@ use Rattle.c_bursts.specs.declared.Stop.{Stop}
 use Rattle.c_bursts.specs.declared.Stop.TheVariants as why
 use Rattle.c_bursts.specs.Bursts.{Run, run, StepLeft, step_left, finished, answering}
 use Rattle.c_bursts.specs.Inside.{stop_number, goes_or_stops}
-use Rattle.c_bursts.proofs.Steps.{SameSizes, begins, stops, had_room, keeps_going}
+use Rattle.c_bursts.proofs.Steps.{SameSizes, stops, had_room, keeps_going}
 use Rattle.c_loops.proofs.run_over.Goals as goal
 use Rattle.c_loops.proofs.run_over.Goals.{After-step_at-t}
 

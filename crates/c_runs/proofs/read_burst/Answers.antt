@@ -1,8 +1,7 @@
 -- `c_runs::read_burst` meets its contract: rows 19 and 12, then the run.
-use Rattle.std.proofs.Common.{◌≡◌, sym, subst}
+use Rattle.std.proofs.Common.{sym, subst}
 use Rattle.refusals.proofs.Back.{never_0}
 use Rattle.reading.specs.Desk.{Desk, desk}
-use Rattle.reading.specs.Table.{lent_refusal}
 use Rattle.reading.proofs.Lent.{lent-ready}
 use Rattle.c_bursts.specs.Bursts.{run}
 use Rattle.c_bursts.specs.Inside.{Room}
