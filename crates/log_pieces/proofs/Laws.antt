@@ -1,6 +1,6 @@
 -- The piece at a place, by what stands there.
 use Prim.Native.Nat.{ℕ, ◌-◌, ◌≤◌, ◌<◌}
-use mathlib.Core.Path.{◌≡◌, refl, ap, sym, subst, ◌∙◌}
+use mathlib.Core.Path.{◌≡◌, ap, sym, subst, ◌∙◌}
 use mathlib.Core.List.{List}
 use native.Mathlib.Omega.{arith}
 use Rattle.log_records.proofs.Found.{inside}
@@ -13,7 +13,7 @@ use Rattle.reading.specs.Desk.{Desk, desk}
 use Rattle.std.specs.Prelude.{Ok, Err, Some, None}
 use Rattle.log_records.specs.declared.Record.{Record}
 use Rattle.log_records.specs.declared.BadLog.{BadLog}
-use Rattle.log_records.specs.Records.{Found, next_record}
+use Rattle.log_records.specs.Records.{next_record}
 use Rattle.log_lines.specs.Lines.{line_of, end_line, bad_log}
 use Rattle.log_lines.specs.Puts.{LinePut, line_put, put_line}
 use Rattle.log_pieces.specs.declared.Piece.{Piece}

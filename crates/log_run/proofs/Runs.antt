@@ -11,7 +11,6 @@ use Rattle.reading.specs.Desk.{Desk}
 use Rattle.flows.specs.Fresh.{paper_desk}
 use Rattle.flows.specs.Deliveries.{read, after}
 use Rattle.std.specs.Prelude.{Ok, Err, Some, None}
-use Rattle.log_records.specs.declared.Record.{Record}
 use Rattle.log_records.specs.Records.{Found, Records, before, by_next, next_record, records_from}
 use Rattle.log_records.proofs.Found.{inside}
 use Rattle.log_lines.specs.Lines.{line_of, end_line, bad_log}

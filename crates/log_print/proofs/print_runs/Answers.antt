@@ -1,5 +1,5 @@
 -- `log_print::print_runs` meets its contract, and ends: a run that is not over has come on.
-use Rattle.std.proofs.Common.{ℕ, ◌≡◌, refl, length}
+use Rattle.std.proofs.Common.{refl}
 use mathlib.Core.Path.{◌∙◌}
 use native.Mathlib.Omega.{arith}
 use Rattle.reading.specs.Desk.{desk}
