@@ -2,5 +2,5 @@
 use Rattle.std.proofs.Common.{length, ◌-◌}
 use Rattle.outside_narrow.proofs.print_records.Given as goal
 
-abbrev pub decreases-loop-from : goal.decreases-loop-from
-decreases-loop-from g l = length l.log - l.at
+abbrev pub decreases-loop-record : goal.decreases-loop-record
+decreases-loop-record g l = length l.log - l.at

@@ -2,8 +2,8 @@
 use Rattle.std.proofs.Common.{length, ◌-◌, ◌≡◌}
 use Rattle.outside_responses.proofs.print_packets.Given as goal
 
-abbrev pub invariant-loop-from : goal.invariant-loop-from
-invariant-loop-from g l = l.reader.log.now ≡ l.log
+abbrev pub invariant-loop-record : goal.invariant-loop-record
+invariant-loop-record g l = l.reader.log.now ≡ l.log
 
-abbrev pub decreases-loop-from : goal.decreases-loop-from
-decreases-loop-from g l = length l.log - l.reader.at
+abbrev pub decreases-loop-record : goal.decreases-loop-record
+decreases-loop-record g l = length l.log - l.reader.at
