@@ -2,7 +2,7 @@
 use mathlib.Core.Path.{◌≡◌, refl, ap, ap₂, sym, ◌∙◌}
 use Rattle.std.specs.Prelude.{ℕ, ⊤, Result, Ok, Err, Option, Some, None}
 use Rattle.refusals.specs.declared.Refusal.{Refusal}
-use Rattle.refusals.specs.Numbers.{number_of}
+use Rattle.refusals.specs.Numbers.{row_number}
 use Rattle.refusals.proofs.Back.{refusal_of, back, IsRow}
 use Rattle.wire.specs.declared.Flow.{Flow}
 use Rattle.answers.specs.declared.Answer.{Answer}

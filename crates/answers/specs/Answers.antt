@@ -2,7 +2,7 @@
 -- so that a new answer of one call is no new case of another.
 use Rattle.std.specs.Prelude.{ℕ, ⊤, Result, Ok, Err, Option, Some, None}
 use Rattle.refusals.specs.declared.Refusal.{Refusal}
-use Rattle.refusals.specs.Numbers.{number_of}
+use Rattle.refusals.specs.Numbers.{row_number}
 use Rattle.wire.specs.declared.Flow.{Flow}
 use Rattle.answers.specs.declared.Answer.{Answer}
 use Rattle.answers.specs.declared.Answer.TheVariants as answer
@@ -27,7 +27,7 @@ abbrev pub said : Result Answer Refusal → Said
 said (Ok answer.Held) = held
 said (Ok (answer.Delivered context flow stream size)) = delivered context flow stream size
 said (Ok (answer.Message context source letter mailbox size)) = message context source letter mailbox size
-said (Err refusal) = refused (number_of refusal)
+said (Err refusal) = refused (row_number refusal)
 
 -- ---- setup
 
@@ -38,7 +38,7 @@ pub data SetupSaid : Type 0 where
 
 abbrev pub said_of_setup : Result ⊤ Refusal → SetupSaid
 said_of_setup (Ok _) = ready
-said_of_setup (Err refusal) = setup_refused (number_of refusal)
+said_of_setup (Err refusal) = setup_refused (row_number refusal)
 
 -- ---- abandoning a context
 
@@ -52,7 +52,7 @@ pub data AbandonSaid : Type 0 where
 abbrev pub said_of_abandon : Result Abandoned Refusal → AbandonSaid
 said_of_abandon (Ok abandoned.Closed) = closed
 said_of_abandon (Ok abandoned.WasFree) = free
-said_of_abandon (Err refusal) = abandon_refused (number_of refusal)
+said_of_abandon (Err refusal) = abandon_refused (row_number refusal)
 
 -- ---- asking after a context
 
@@ -65,7 +65,7 @@ pub data StreamContextSaid : Type 0 where
 abbrev pub said_of_stream : Result (Option UnfinishedPdu) Refusal → StreamContextSaid
 said_of_stream (Ok (Some pdu)) = stream_is_open pdu.flow pdu.stream pdu.held
 said_of_stream (Ok None) = stream_is_free
-said_of_stream (Err refusal) = stream_ask_refused (number_of refusal)
+said_of_stream (Err refusal) = stream_ask_refused (row_number refusal)
 
 pub data MessageContextSaid : Type 0 where
   -- a message is open there: source, letter, mbox; its msglen, the bytes of its segments; which have come, and the last one's length, 0 before it came
@@ -76,7 +76,7 @@ pub data MessageContextSaid : Type 0 where
 abbrev pub said_of_message : Result (Option UnfinishedMessage) Refusal → MessageContextSaid
 said_of_message (Ok (Some m)) = message_is_open m.source m.letter m.mbox m.msglen m.size m.marks m.last
 said_of_message (Ok None) = message_is_free
-said_of_message (Err refusal) = message_ask_refused (number_of refusal)
+said_of_message (Err refusal) = message_ask_refused (row_number refusal)
 
 -- ---- the writers, of a segment and of a record
 
@@ -87,4 +87,4 @@ pub data WriterSaid : Type 0 where
 
 abbrev pub said_of_writer : Result ℕ Refusal → WriterSaid
 said_of_writer (Ok size) = wrote size
-said_of_writer (Err refusal) = write_refused (number_of refusal)
+said_of_writer (Err refusal) = write_refused (row_number refusal)

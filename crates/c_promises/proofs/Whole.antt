@@ -10,7 +10,7 @@ use borrow.Author.Tests.{ltb-false}
 use Rattle.std.specs.Prelude.{Result, Ok, Err, Some, None}
 use Rattle.log_records.specs.declared.Record.{Record}
 use Rattle.log_records.specs.declared.BadLog.{BadLog}
-use Rattle.log_records.specs.Records.{Found, found, Records, records, by_next, next_record, record_within, records_from, records_of}
+use Rattle.log_records.specs.Records.{Found, found_record, Records, records, by_next, next_record, record_within, records_from, records_of}
 use Rattle.log_records.proofs.Found.{inside}
 use Rattle.c_bursts.specs.Bursts.{Run, run, behind, step_left, step_over, pause_of, at_end, Finished, stopped, ran, room_for, read_burst, burst_by}
 use Rattle.c_bursts.proofs.Steps.{at-end, over-packet, stops, goes_on}
@@ -24,7 +24,7 @@ same_next end a b r packet (p ∷ ps) = refl
 -- ---- the end is at the log's length
 
 -- a record before the end is none
-never_none : (x : Result Record BadLog) → found x ≡ Ok None → ⊥
+never_none : (x : Result Record BadLog) → found_record x ≡ Ok None → ⊥
 never_none (Ok r) e = cc
 never_none (Err b) e = cc
 
@@ -32,7 +32,7 @@ ends_there : (log : List ℕ) (at : ℕ) → next_record log at ≡ Ok None → 
 unfolding next_record
 ends_there log at e = go (ltb at (length log)) refl e
   where
-    go : (b : Bool) → ltb at (length log) ≡ b → cond b (found (record_within log at)) (Ok None) ≡ Ok None → length log ≤ at
+    go : (b : Bool) → ltb at (length log) ≡ b → cond b (found_record (record_within log at)) (Ok None) ≡ Ok None → length log ≤ at
     go true t h = absurd (never_none (record_within log at) h)
     go false t h = ltb-false at (length log) t
 

@@ -3,7 +3,7 @@
 #![tactic(auto)]
 
 ghost use Rattle.std.specs.Prelude.{◌≡◌};
-ghost use Rattle.refusals.specs.Numbers.{number_of};
+ghost use Rattle.refusals.specs.Numbers.{row_number};
 ghost use Rattle.reading.specs.Desk.{desk};
 ghost use Rattle.c_bursts.specs.Bursts.{refused_all, answering, room_for, BurstPromise};
 
@@ -20,7 +20,7 @@ fn room_for(report_words: usize, response_bytes: usize) -> usize
 
 // A burst that is refused as a whole.
 fn refused(refusal: Refusal) -> Burst
-    ensures { result ≡ answering refused_all (number_of refusal) 0 0 }
+    ensures { result ≡ answering refused_all (row_number refusal) 0 0 }
 {
     Burst {
         stop: Stop::Refused as usize,

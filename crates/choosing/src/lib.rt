@@ -2,7 +2,7 @@
 #![tactic(auto)]
 
 ghost use Rattle.std.specs.Prelude.{◌≡◌, ◌<◌, ◌≤◌};
-ghost use Rattle.refusals.specs.Numbers.{number_of};
+ghost use Rattle.refusals.specs.Numbers.{row_number};
 ghost use Rattle.contexts.specs.State.{message_context, message_contexts};
 ghost use Rattle.contexts.specs.Words.{state_of};
 ghost use Rattle.messages.specs.Inside.{OfSeveral, Chooses, refusal_status};
@@ -64,7 +64,7 @@ pub fn choose(state: &[usize], m: MessageSegment) -> Result<Chosen, Refusal>
 // The status that a refusal by rows 23 to 25 writes.
 #[tactic(auto, using(refusals::proofs::Back::number_once), unfolding(messages::specs::Inside::refusal_status))]
 pub fn status_of(refusal: Refusal) -> u8
-    ensures { result ≡ refusal_status (number_of refusal) }
+    ensures { result ≡ refusal_status (row_number refusal) }
 {
     match refusal {
         Refusal::MessagesFull => responses::RETRY,

@@ -1,7 +1,7 @@
 -- What the head of a packet answers: its type, 9 or 11, or the row of the table that refuses it.
 use Rattle.std.specs.Prelude.{ℕ, Result, Ok, Err}
 use Rattle.refusals.specs.declared.Refusal.{Refusal}
-use Rattle.refusals.specs.Numbers.{number_of}
+use Rattle.refusals.specs.Numbers.{row_number}
 use Rattle.heads.specs.declared.PacketType.{PacketType}
 use Rattle.heads.specs.declared.PacketType.TheVariants as packet
 
@@ -11,4 +11,4 @@ type_number packet.Message = 11
 
 abbrev pub head_number : Result PacketType Refusal → ℕ
 head_number (Ok t) = type_number t
-head_number (Err refusal) = number_of refusal
+head_number (Err refusal) = row_number refusal

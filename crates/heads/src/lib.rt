@@ -2,7 +2,7 @@
 #![tactic(auto)]
 
 ghost use Rattle.std.specs.Prelude.{◌≡◌, true, IfErr, ◌+◌, ◌<◌, ◌≤◌, length};
-ghost use Rattle.refusals.specs.Numbers.{number_of};
+ghost use Rattle.refusals.specs.Numbers.{row_number};
 ghost use Rattle.wire.specs.Packet.{header, id_bytes};
 ghost use Rattle.wire.specs.Head.{is9};
 ghost use Rattle.wire.specs.Inside.{headed, headed_behind};
@@ -21,7 +21,7 @@ pub enum PacketType {
 fn head_of_9(packet: &[u8], ids: usize) -> Result<PacketType, Refusal>
     requires { (ids ≤ 2) × (header ids + 2 ≤ length packet.now) × (is9 packet.now ≡ true) }
     ensures number { head_number result ≡ headed_behind 5 ids packet.now }
-    ensures row { IfErr result (λ refusal. number_of refusal < 9) }
+    ensures row { IfErr result (λ refusal. row_number refusal < 9) }
 {
     let h = ids::header(ids);
     let flags = lists::wide(packet[h + 1]);
@@ -42,7 +42,7 @@ fn head_of_9(packet: &[u8], ids: usize) -> Result<PacketType, Refusal>
 fn head_by_type(packet: &[u8], ids: usize) -> Result<PacketType, Refusal>
     requires { (1 ≤ ids) × (ids ≤ 2) × (header ids ≤ length packet.now) }
     ensures number { head_number result ≡ headed_behind 3 ids packet.now }
-    ensures row { IfErr result (λ refusal. number_of refusal < 9) }
+    ensures row { IfErr result (λ refusal. row_number refusal < 9) }
 {
     let h = ids::header(ids);
     let kind = lists::wide(packet[0]) % 16;
@@ -65,7 +65,7 @@ fn head_by_type(packet: &[u8], ids: usize) -> Result<PacketType, Refusal>
 fn head_at(packet: &[u8], device: usize, ids: usize) -> Result<PacketType, Refusal>
     requires { (1 ≤ ids) × (ids ≤ 2) }
     ensures number { head_number result ≡ headed device ids packet.now }
-    ensures row { IfErr result (λ refusal. number_of refusal < 9) }
+    ensures row { IfErr result (λ refusal. row_number refusal < 9) }
 {
     if packet.len() < ids::header(ids) {
         return Err(Refusal::Short);
@@ -83,7 +83,7 @@ fn head_at(packet: &[u8], device: usize, ids: usize) -> Result<PacketType, Refus
 #[inline(always)]
 pub fn head(packet: &[u8], device: usize, narrow: usize) -> Result<PacketType, Refusal>
     ensures number { head_number result ≡ headed device (id_bytes narrow) packet.now }
-    ensures row { IfErr result (λ refusal. number_of refusal < 9) }
+    ensures row { IfErr result (λ refusal. row_number refusal < 9) }
 {
     if narrow == 0 {
         return head_at(packet, device, 2);

@@ -8,7 +8,7 @@ use lib.ListN.{length}
 use Rattle.answers.specs.declared.Answer.{Answer}
 use Rattle.std.specs.Prelude.{Result, Err}
 use Rattle.refusals.specs.declared.Refusal.{Refusal}
-use Rattle.refusals.specs.Numbers.{number_of}
+use Rattle.refusals.specs.Numbers.{row_number}
 use Rattle.answers.specs.Answers.{Said, said}
 use Rattle.log_lines.specs.Text.{text}
 use Rattle.log_lines.specs.Lines.{spaced, answer_text, line_of, end_line}
@@ -36,7 +36,7 @@ four a b c d {r₁} letters fits w pa pb pc pd =
     (joined (omega (arith, pa.1, pb.1, pc.1, pd.1)) three pd.0, omega (arith, pa.1, pb.1, pc.1, pd.1))
 
 -- a refusal and its number
-pub refused_is : {out mid after : List ℕ} {r r₁ number : ℕ} {answer : Result Answer Refusal} {refusal : Refusal} → answer ≡ Err refusal → number ≡ number_of refusal
+pub refused_is : {out mid after : List ℕ} {r r₁ number : ℕ} {answer : Result Answer Refusal} {refusal : Refusal} → answer ≡ Err refusal → number ≡ row_number refusal
     → 87 ≤ length out → Puts out 0 (text "refused") mid r₁ → Within mid r₁ (spaced number) after r (r₁ + 21)
     → Within out 0 (answer_text (said answer)) after r 87
 refused_is {out} {after = after} {r} {r₁} e n fits p q =

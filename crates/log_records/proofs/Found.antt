@@ -10,7 +10,7 @@ use lib.Dec.{eqb, ltb}
 use borrow.Author.Tests.{lt-ltb, le-ltb, ltb-true, ltb-false, ne_eqb, eqb-false}
 use Rattle.lists.specs.Bytes.{byte}
 use Rattle.log_records.specs.declared.Record.{Record}
-use Rattle.log_records.specs.Records.{record_of, unreadable, record_from, long_record, record_within, Found, found, next_record}
+use Rattle.log_records.specs.Records.{record_of, unreadable, record_from, long_record, record_within, Found, found_record, next_record}
 
 -- a packet that is all there
 there : (n from size : ℕ) → from + size ≤ n → record_from n from size ≡ Ok (record_of from size (from + size))
@@ -47,9 +47,9 @@ large log at low high first second some h room =
 pub data Stood (log : List ℕ) (at : ℕ) (x : Found) : Type 0 where
   past : length log ≤ at → x ≡ Ok None → Stood log at x
   bad : x ≡ Err unreadable → Stood log at x
-  one : at < length log → byte log at < 128 → found (record_from (length log) (at + 1) (byte log at)) ≡ x → Stood log at x
+  one : at < length log → byte log at < 128 → found_record (record_from (length log) (at + 1) (byte log at)) ≡ x → Stood log at x
   two : at + 2 ≤ length log → 128 ≤ byte log at → (byte log (at + 1) ≡ 0 → ⊥) → byte log (at + 1) ≤ 127
-      → found (record_from (length log) (at + 2) (byte log at - 128 + 128 * byte log (at + 1))) ≡ x → Stood log at x
+      → found_record (record_from (length log) (at + 2) (byte log at - 128 + 128 * byte log (at + 1))) ≡ x → Stood log at x
 
 pub stood : (log : List ℕ) (at : ℕ) {x : Found} → next_record log at ≡ x → Stood log at x
 unfolding next_record record_within long_record
@@ -58,7 +58,7 @@ stood log at {x} e = go _ _ _ _ _ refl refl refl refl refl e
     go : (a b c d f : Bool) → ltb at (length log) ≡ a → ltb (byte log at) 128 ≡ b → ltb (length log) (at + 2) ≡ c → eqb (byte log (at + 1)) 0 ≡ d
         → ltb 127 (byte log (at + 1)) ≡ f
         → cond a
-        (found
+        (found_record
         (cond b (record_from (length log) (at + 1) (byte log at))
         (cond c (Err unreadable)
         (cond d (Err unreadable)
@@ -80,11 +80,11 @@ pub record Fits (n f s : ℕ) (r : Record) : Type 0 where
   pub behind : r.from + r.size ≡ r.next
   pub within : r.next ≤ n
 
-pub fits : (n f s : ℕ) (r : Record) → f ≤ n → found (record_from n f s) ≡ Ok (Some r) → Fits n f s r
+pub fits : (n f s : ℕ) (r : Record) → f ≤ n → found_record (record_from n f s) ≡ Ok (Some r) → Fits n f s r
 unfolding record_from
 fits n f s r start e = go (ltb (n - f) s) refl e
   where
-    go : (b : Bool) → ltb (n - f) s ≡ b → found (cond b (Err unreadable) (Ok (record_of f s (f + s)))) ≡ Ok (Some r) → Fits n f s r
+    go : (b : Bool) → ltb (n - f) s ≡ b → found_record (cond b (Err unreadable) (Ok (record_of f s (f + s)))) ≡ Ok (Some r) → Fits n f s r
     go true t e = absurd (false≢true cc)
     go false t e =
         let room : s ≤ n - f = ltb-false (n - f) s t in

@@ -13,7 +13,7 @@ use Rattle.lists.specs.Bytes.{byte}
 use Rattle.std.specs.Prelude.{Result, Ok, Err, Some, None}
 use Rattle.log_records.specs.declared.Record.{Record}
 use Rattle.log_records.specs.declared.BadLog.{BadLog}
-use Rattle.log_records.specs.Records.{Found, found, Records, by_next, next_record, records_from, records_of}
+use Rattle.log_records.specs.Records.{Found, found_record, Records, by_next, next_record, records_from, records_of}
 use Rattle.log_records.specs.Written.{length_bytes, written_log, AllShort, LogIsWritten}
 use Rattle.log_records.proofs.Found.{Stood, past, bad, one, two, stood, fits}
 
@@ -79,7 +79,7 @@ whole_record : (log : List ℕ) (at : ℕ) (r : Record) → AsWritten log at r
 whole_record log at r w =
     rw (packet-length log r.from r.size (omega arith), append_assoc, ← w.behind, ← drop-drop r.size r.from log, take-append-drop r.size (drop r.from log)) w.before
 
-no_end : (x : Result Record BadLog) → found x ≡ Ok None → ⊥
+no_end : (x : Result Record BadLog) → found_record x ≡ Ok None → ⊥
 no_end (Ok r) e = false≢true cc
 no_end (Err _) e = false≢true cc
 

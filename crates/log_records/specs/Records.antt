@@ -32,13 +32,13 @@ record_within log at = cond (ltb (byte log at) 128) (record_from (length log) (a
 abbrev pub Found : Type 0
 Found = Result (Option Record) BadLog
 
-abbrev pub found : Result Record BadLog → Found
-found (Ok r) = Ok (Some r)
-found (Err e) = Err e
+abbrev pub found_record : Result Record BadLog → Found
+found_record (Ok r) = Ok (Some r)
+found_record (Err e) = Err e
 
 -- the record at a place of the log, or its end
 unfoldable pub next_record : List ℕ → ℕ → Found
-next_record log at = cond (ltb at (length log)) (found (record_within log at)) (Ok None)
+next_record log at = cond (ltb at (length log)) (found_record (record_within log at)) (Ok None)
 
 -- what `next_record` promises
 abbrev pub NextRecordPromise : List ℕ → ℕ → Found → Type 0

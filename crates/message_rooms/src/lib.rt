@@ -2,7 +2,7 @@
 #![tactic(auto)]
 
 ghost use Rattle.std.specs.Prelude.{◌≡◌, false, ◌+◌, ◌<◌, ◌≤◌, ◌^◌, length};
-ghost use Rattle.refusals.specs.Numbers.{number_of};
+ghost use Rattle.refusals.specs.Numbers.{row_number};
 ghost use Rattle.answers.specs.Answers.{said};
 ghost use Rattle.responses.specs.Type13.{DONE, answered};
 ghost use Rattle.contexts.specs.State.{ids_in, message_contexts};
@@ -29,7 +29,7 @@ pub fn refuse(
     status: u8,
 ) -> Reading
     requires { CanReply state.now response.old packet.now × (status < 16) }
-    ensures { Replied (state_of state.now) response.old packet.now (number_of refusal) status (said result.answer) response.new
+    ensures { Replied (state_of state.now) response.old packet.now (row_number refusal) status (said result.answer) response.new
         × (result.dropped ≡ false) × (result.response ≡ reply_size (state_of state.now)) }
 {
     let written = responses::respond(response, packet, contexts::narrow(state), status);

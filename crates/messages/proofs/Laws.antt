@@ -9,7 +9,7 @@ use lib.ListN.{length, take, drop}
 use borrow.Author.Tests.{lt-ltb, le-ltb, eq-eqb, ne_eqb, eqb-true, not-false}
 use Rattle.std.specs.Prelude.{Ok, Err}
 use Rattle.refusals.specs.declared.Refusal.{Refusal}
-use Rattle.refusals.specs.Numbers.{number_of}
+use Rattle.refusals.specs.Numbers.{row_number}
 use Rattle.refusals.proofs.Back.{never_0}
 use Rattle.lists.specs.Bytes.{written}
 use Rattle.lists.proofs.Tests.{◌and◌}
@@ -210,11 +210,11 @@ module _ (s : State) (memory response p : List ℕ) (m : MessageSegment) where
     passed n = sym (by_number ∙ rw n)
 
     -- what is chosen
-    pub chosen_refused : {says : Said} {after : List ℕ} (refusal : Refusal) (status : ℕ) → Chooses s m (Err refusal) → status ≡ refusal_status (number_of refusal)
-        → Replied s response p (number_of refusal) status says after → message_joining says s memory after ≡ message_stepped s memory response p m
+    pub chosen_refused : {says : Said} {after : List ℕ} (refusal : Refusal) (status : ℕ) → Chooses s m (Err refusal) → status ≡ refusal_status (row_number refusal)
+        → Replied s response p (row_number refusal) status says after → message_joining says s memory after ≡ message_stepped s memory response p m
     chosen_refused refusal status chosen e r =
-        replying s memory response p (number_of refusal) status _ _ r
-        ∙ sym (by_number ∙ rw (← chosen.row, ne_eqb (number_of refusal) 0 (never_0 refusal), e))
+        replying s memory response p (row_number refusal) status _ _ r
+        ∙ sym (by_number ∙ rw (← chosen.row, ne_eqb (row_number refusal) 0 (never_0 refusal), e))
 
     pub chosen-placed : {j : MessageJoined} (c : Chosen) → Chooses s m (Ok c) → j ≡ message_placed s memory response p m c.n c.marks c.last
         → j ≡ message_stepped s memory response p m

@@ -8,7 +8,7 @@ use lib.ListN.{length}
 use borrow.Author.Tests.{eq-eqb, le-ltb, eqb-true, ltb-false, not-false}
 use Rattle.std.specs.Prelude.{Err}
 use Rattle.refusals.specs.declared.Refusal.{Refusal}
-use Rattle.refusals.specs.Numbers.{number_of}
+use Rattle.refusals.specs.Numbers.{row_number}
 use Rattle.answers.specs.Answers.{Said, said}
 use Rattle.answers.specs.declared.Reading.{Reading}
 use Rattle.answers.specs.Readings.{reading_of}
@@ -26,7 +26,7 @@ use Rattle.reading.specs.Table.{Lent, state_in, wrong_sizes}
 use Rattle.reading.specs.Read.{settled, refusing, of_stream, of_message, reading, ReadPromise}
 
 -- a refusal that changes nothing
-pub refusal_promised : (x : Lent) (r : Refusal) (told : Reading) → told ≡ reading_of (Err r) false 0 → refusing x (number_of r) all ≡ reading x → ReadPromise x told x.desk
+pub refusal_promised : (x : Lent) (r : Refusal) (told : Reading) → told ≡ reading_of (Err r) false 0 → refusing x (row_number r) all ≡ reading x → ReadPromise x told x.desk
 refusal_promised x r told e w = rw e w
 
 -- what a step leaves in the words

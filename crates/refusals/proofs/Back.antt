@@ -9,7 +9,7 @@ use lib.ListN.{get_or}
 use Rattle.std.specs.Prelude.{Result, Ok, Err, IsErrAnd}
 use Rattle.refusals.specs.declared.Refusal.{Refusal}
 use Rattle.refusals.specs.declared.Refusal.TheVariants as row
-use Rattle.refusals.specs.Numbers.{number_of}
+use Rattle.refusals.specs.Numbers.{row_number}
 
 -- the rows 1 to 25, in their order
 abbrev first_rows : List Refusal
@@ -19,7 +19,7 @@ first_rows = row.Short ∷ row.IdWidth ∷ row.OtherDevice ∷ row.Type ∷ row.
 unfoldable pub refusal_of : ℕ → Refusal
 refusal_of n = cond (eqb n 0) row.WideId (get_or first_rows (n - 1) row.WideId)
 
-pub back : (r : Refusal) → refusal_of (number_of r) ≡ r
+pub back : (r : Refusal) → refusal_of (row_number r) ≡ r
 unfolding refusal_of
 back row.Short = refl
 back row.IdWidth = refl
@@ -49,15 +49,15 @@ back row.MessagesFull = refl
 back row.WideId = refl
 
 -- no two rows have one number
-pub number_once : (a b : Refusal) → number_of a ≡ number_of b → a ≡ b
+pub number_once : (a b : Refusal) → row_number a ≡ row_number b → a ≡ b
 number_once a b e = sym (back a) ∙ (ap refusal_of e ∙ back b)
 
 -- no row has the number 0, which says that none refuses
-pub never_0 : (r : Refusal) → number_of r ≡ 0 → ⊥
+pub never_0 : (r : Refusal) → row_number r ≡ 0 → ⊥
 unfolding refusal_of
 never_0 r z =
     let is : row.WideId ≡ r = ap refusal_of (sym z) ∙ back r in
-    let zero : number_of row.WideId ≡ 0 = ap number_of is ∙ z in
+    let zero : row_number row.WideId ≡ 0 = ap row_number is ∙ z in
     omega arith
 
 -- what `?` passes on is the refusal that came
@@ -67,4 +67,4 @@ passed_on (Err x) e h = ap Err h
 
 -- a number that is one of the table's
 abbrev pub IsRow : ℕ → Type 0
-IsRow n = number_of (refusal_of n) ≡ n
+IsRow n = row_number (refusal_of n) ≡ n

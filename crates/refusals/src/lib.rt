@@ -2,7 +2,7 @@
 #![tactic(auto)]
 
 ghost use Rattle.std.specs.Prelude.{◌≡◌};
-ghost use Rattle.refusals.specs.Numbers.{number_of};
+ghost use Rattle.refusals.specs.Numbers.{row_number};
 
 // The rows, by their numbers (docs/REFUSALS.md says what each means; include/kaiverohm.h has the same names).
 #[derive(Clone, Copy, Debug, PartialEq, Eq)]
@@ -38,7 +38,7 @@ pub enum Refusal {
 impl Refusal {
     // The number that document 01 gives it.
     pub fn number(self) -> usize
-        ensures { result ≡ number_of self }
+        ensures { result ≡ row_number self }
     {
         self as usize
     }
