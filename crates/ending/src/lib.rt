@@ -5,7 +5,7 @@ ghost use Rattle.std.specs.Prelude.{◌≡◌};
 ghost use Rattle.answers.specs.Answers.{said};
 ghost use Rattle.contexts.specs.Words.{state_of};
 ghost use Rattle.stream_rooms.specs.Placing.{joining};
-ghost use Rattle.stream_rooms.specs.Inside.{Ready, Fields, stream_for};
+ghost use Rattle.stream_rooms.specs.Inside.{Ready, stream_for};
 ghost use Rattle.streams.specs.Joining.{stepped};
 ghost use Rattle.streams.specs.Inside.{EndsPDU};
 
@@ -24,7 +24,7 @@ pub fn end(
     count: usize,
 ) -> Reading
     requires ready { Ready state.old memory.old packet.now (stream_for state.old packet.now) }
-    requires fields { (Fields state.old packet.now head) × EndsPDU (state_of state.old) (stream_for state.old packet.now) n held count }
+    requires from_value { (head.from ≡ (stream_for state.old packet.now).from) × (head.flow ≡ (stream_for state.old packet.now).flow) × EndsPDU (state_of state.old) (stream_for state.old packet.now) n held count }
     ensures { (joining (said result.answer) result.dropped (state_of state.new) memory.new
         ≡ stepped (state_of state.old) memory.old packet.now (stream_for state.old packet.now)) × (result.response ≡ 0) }
 {

@@ -47,7 +47,7 @@ pub fn hold_room(
     count: usize,
 ) -> Reading
     requires ready { Ready state.old memory.old packet.now (stream_for state.old packet.now) }
-    requires fields { (Fields state.old packet.now head) × GoesOn (state_of state.old) (stream_for state.old packet.now) n held count false }
+    requires from_value { (head.from ≡ (stream_for state.old packet.now).from) × GoesOn (state_of state.old) (stream_for state.old packet.now) n held count false }
     ensures { (joining (said result.answer) result.dropped (state_of state.new) memory.new
         ≡ placed (state_of state.old) memory.old packet.now (stream_for state.old packet.now) n held (stream_in (state_of state.old) n).stream false)
         × (result.response ≡ 0) }
@@ -68,7 +68,7 @@ pub fn end_room(
     count: usize,
 ) -> Reading
     requires ready { Ready state.old memory.old packet.now (stream_for state.old packet.now) }
-    requires fields { (Fields state.old packet.now head) × GoesOn (state_of state.old) (stream_for state.old packet.now) n held count true }
+    requires from_value { (head.from ≡ (stream_for state.old packet.now).from) × (head.flow ≡ (stream_for state.old packet.now).flow) × GoesOn (state_of state.old) (stream_for state.old packet.now) n held count true }
     ensures { (joining (said result.answer) result.dropped (state_of state.new) memory.new
         ≡ placed (state_of state.old) memory.old packet.now (stream_for state.old packet.now) n held (stream_in (state_of state.old) n).stream false)
         × (result.response ≡ 0) }

@@ -19,10 +19,11 @@ returns-then-room-total c =
     (go_passes _ _ _ _ on.start on.passed c.held_of-held.ensures c.room.ensures c.if-room-total.true t.0, t.1)
 
 -- an end
-pub end-requires-clause-fields : goal.end-requires-clause-fields
-end-requires-clause-fields c =
+pub end-requires-clause-from_value : goal.end-requires-clause-from_value
+end-requires-clause-from_value c =
     let fields = c.requires.fields.0 in (
-      fields,
+      fields.data_from_lem,
+      fields.sender,
       record {
         continues = c.requires.fields.1;
         so_far = c.held_of-held.ensures;
@@ -32,11 +33,11 @@ end-requires-clause-fields c =
     )
 
 -- a continuation
-pub hold_room-requires-clause-fields : goal.hold_room-requires-clause-fields
-hold_room-requires-clause-fields c =
+pub hold_room-requires-clause-from_value : goal.hold_room-requires-clause-from_value
+hold_room-requires-clause-from_value c =
     let fields = c.requires.fields.0 in
     let q = c.requires.fields.1.passed in (
-      fields,
+      fields.data_from_lem,
       record {
         fits = record { context = q.flow.1; size = q.size; within = q.within; behind = rw (← c.room.ensures) c.if-room-total.false };
         own = own_flow _ (stream_for c.args.state.now c.args.packet.now) q.flow (sixteen c.args.state.now);

@@ -4,9 +4,9 @@ use Rattle.placing.proofs.end_room.Goals as goal
 
 pub returns : goal.returns
 returns c =
-    let goes = c.requires.fields.1 in
+    let goes = c.requires.from_value.2 in
     let t = c.deliver.ensures in (
-      ended _ _ _ _ _ _ _ _ _ goes.fits c.store_data.ensures _ goes.kind c.requires.fields.0.sender
+      ended _ _ _ _ _ _ _ _ _ goes.fits c.store_data.ensures _ goes.kind c.requires.from_value.1
           (of_stream_lem c.stream_of-stream.ensures t.0),
       t.1,
     )

@@ -4,5 +4,5 @@ use Rattle.placing.proofs.hold_room.Goals as goal
 
 pub returns : goal.returns
 returns c =
-    let goes = c.requires.fields.1 in
+    let goes = c.requires.from_value.1 in
     joined_told c.holding.ensures (kept _ _ _ _ _ _ _ _ _ goes.fits c.store_data.ensures _ goes.kind goes.own c.hold.ensures)
