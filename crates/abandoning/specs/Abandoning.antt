@@ -5,7 +5,7 @@ use Rattle.answers.specs.Answers.{AbandonSaid, closed, free, abandon_refused, sa
 use Rattle.answers.specs.Stands.{Stands, stands}
 use Rattle.answers.specs.declared.Abandoned.{Abandoned}
 use Rattle.refusals.specs.declared.Refusal.{Refusal}
-use Rattle.tables.specs.Refusals.{Row, row, all, Verdict, refuse, accept, verdict}
+use Rattle.tables.specs.Refusals.{Row, row, all, Verdict, refuse, accept, number_of, verdict}
 use Rattle.contexts.specs.State.{State, stream_in, message_in, with_stream, with_message, closed_stream, closed_message, is_free_stream, is_free_message, stream_contexts, message_contexts}
 use Rattle.contexts.specs.Words.{state_of, words_of}
 use Rattle.lent_state.specs.Lent.{state_rows}
@@ -17,6 +17,10 @@ context_table words contexts n =
     state_rows words
     -- a number past the last context
     ++ (row 13 (not (ltb n contexts)) all ∷ [])
+
+-- what it is refused with: 19, 12 or 13; 0: there is such a context, in a state that 19 does not name
+unfoldable pub context_refusal : List ℕ → ℕ → ℕ → ℕ
+context_refusal words contexts n = number_of (verdict (context_table words contexts n))
 
 -- the context was free, or is closed
 abbrev pub abandon_by : List ℕ → Bool → State → Verdict → Stands AbandonSaid
