@@ -27,13 +27,16 @@ abbrev pub abandon_by : List ℕ → Bool → State → Verdict → Stands Aband
 abandon_by words is_free after (refuse number leaves) = stands (abandon_refused number) words
 abandon_by words is_free after accept = cond is_free (stands free words) (stands closed (words_of after))
 
+-- of so many contexts of a kind, which of them are free, and what closing one leaves
+abbrev pub abandon : ℕ → (State → ℕ → Bool) → (State → ℕ → State) → List ℕ → ℕ → Stands AbandonSaid
+abandon contexts is_free closing words n =
+    abandon_by words (is_free (state_of words) n) (closing (state_of words) n) (verdict (context_table words contexts n))
+
 unfoldable pub abandon_stream : List ℕ → ℕ → Stands AbandonSaid
-abandon_stream words n =
-    abandon_by words (is_free_stream (stream_in (state_of words) n)) (with_stream (state_of words) n closed_stream) (verdict (context_table words stream_contexts n))
+abandon_stream words n = abandon stream_contexts (λ s n. is_free_stream (stream_in s n)) (λ s n. with_stream s n closed_stream) words n
 
 unfoldable pub abandon_message : List ℕ → ℕ → Stands AbandonSaid
-abandon_message words n =
-    abandon_by words (is_free_message (message_in (state_of words) n)) (with_message (state_of words) n closed_message) (verdict (context_table words message_contexts n))
+abandon_message words n = abandon message_contexts (λ s n. is_free_message (message_in s n)) (λ s n. with_message s n closed_message) words n
 
 abbrev pub AbandonStreamPromise : List ℕ → ℕ → Result Abandoned Refusal → List ℕ → Type 0
 AbandonStreamPromise words n r after = stands (said_of_abandon r) after ≡ abandon_stream words n
