@@ -8,8 +8,6 @@ use Rattle.answers.specs.Answers.{AbandonSaid, closed, free, abandon_refused}
 use Rattle.contexts.specs.State.{State, stream_in, message_in, with_stream, with_message, closed_stream, closed_message, is_free_stream, is_free_message, stream_contexts, message_contexts}
 use Rattle.contexts.specs.Words.{state_of}
 use Rattle.answers.specs.Answers.{stream_ask_refused, message_ask_refused, stream_is_free, message_is_free}
-use Rattle.answers.specs.Answers.{stream_is_open, message_is_open}
-use Rattle.sizes.specs.Sizes.{bytes_of}
 use Rattle.abandoning.specs.Abandoning.{context_table, abandon_by, abandon_stream, abandon_message}
 use Rattle.asking.specs.Asking.{ask_stream, ask_message, abandons_stream, abandons_message, AsksAsAbandons}
 

@@ -1,5 +1,5 @@
 -- Laws of asking after a context, of either kind: what each way through the code answers is what the definition says.
-use Prim.Native.Nat.{ℕ, ◌≤◌, ◌<◌}
+use Prim.Native.Nat.{ℕ}
 use mathlib.Core.Path.{◌≡◌, ap, sym, ◌∙◌}
 use mathlib.Core.List.{List}
 use mathlib.Core.Bool.{true, false}
@@ -9,9 +9,8 @@ use Rattle.sizes.specs.Sizes.{bytes_of}
 use Rattle.contexts.specs.declared.StreamContext.{StreamContext}
 use Rattle.contexts.specs.declared.MessageContext.{MessageContext}
 use Rattle.contexts.specs.State.{is_free_stream, is_free_message}
-use Rattle.lent_state.specs.Lent.{state_refusal}
-use Rattle.abandoning.specs.Abandoning.{context_table}
-use Rattle.abandoning.proofs.Laws.{lent-refuses, past-refuses, one_accepts}
+use Rattle.abandoning.specs.Abandoning.{context_table, context_refusal}
+use Rattle.abandoning.proofs.Laws.{context_refused, context_accepted}
 use Rattle.asking.specs.Asking.{held_in_stream, held_in_message}
 
 -- by the table: refused, or what the context holds
@@ -19,15 +18,11 @@ module _ {S : Type 0} (refusing : ℕ → S) (holds : S) (words : List ℕ) (con
   abbrev asked : S
   asked = by_verdict (λ (number : ℕ) (leaves : Leaves). refusing number) holds (verdict (context_table words contexts n))
 
-  pub ask_refused : (number : ℕ) → number ≡ state_refusal words → (number ≡ 0 → ⊥) → refusing number ≡ asked
-  ask_refused number e z = sym (ap (by_verdict (λ (number : ℕ) (leaves : Leaves). refusing number) holds) (lent-refuses words contexts n number e z))
+  pub ask_refused : (number : ℕ) → number ≡ context_refusal words contexts n → (number ≡ 0 → ⊥) → refusing number ≡ asked
+  ask_refused number e z = sym (ap (by_verdict (λ (number : ℕ) (leaves : Leaves). refusing number) holds) (context_refused words contexts n number e z))
 
-  module _ (fine : state_refusal words ≡ 0) where
-    pub ask_past : contexts ≤ n → refusing 13 ≡ asked
-    ask_past k = sym (ap (by_verdict (λ (number : ℕ) (leaves : Leaves). refusing number) holds) (past-refuses words contexts n fine k))
-
-    pub ask_held : {says : S} → n < contexts → says ≡ holds → says ≡ asked
-    ask_held k e = e ∙ sym (ap (by_verdict (λ (number : ℕ) (leaves : Leaves). refusing number) holds) (one_accepts words contexts n fine k))
+  pub ask_held : {says : S} → context_refusal words contexts n ≡ 0 → says ≡ holds → says ≡ asked
+  ask_held passed e = e ∙ sym (ap (by_verdict (λ (number : ℕ) (leaves : Leaves). refusing number) holds) (context_accepted words contexts n passed))
 
 -- a context that was read, and is the one asked after: free or open
 module _ {c own : StreamContext} (e : c ≡ own) where

@@ -11,10 +11,7 @@ use refusals::Refusal;
 pub fn stream_context(state: &[usize], n: usize) -> Result<Option<UnfinishedPdu>, Refusal>
     ensures { StreamContextPromise state.now n result }
 {
-    lent_state::state_refusal(state)?;
-    if contexts::STREAM_CONTEXTS <= n {
-        return Err(Refusal::NoContext);
-    }
+    abandoning::context_refusal(state, n, contexts::STREAM_CONTEXTS)?;
     let c = stream_contexts::stream_at(state, n);
     if c.live == 0 {
         return Ok(None);
@@ -30,10 +27,7 @@ pub fn stream_context(state: &[usize], n: usize) -> Result<Option<UnfinishedPdu>
 pub fn message_context(state: &[usize], n: usize) -> Result<Option<UnfinishedMessage>, Refusal>
     ensures { MessageContextPromise state.now n result }
 {
-    lent_state::state_refusal(state)?;
-    if contexts::MESSAGE_CONTEXTS <= n {
-        return Err(Refusal::NoContext);
-    }
+    abandoning::context_refusal(state, n, contexts::MESSAGE_CONTEXTS)?;
     let m = message_contexts::message_at(state, n);
     if m.live == 0 {
         return Ok(None);
