@@ -3,12 +3,15 @@ use Rattle.std.specs.Prelude.{ℕ, ◌+◌, ◌≤◌, ◌≡◌, List, cond, le
 use Rattle.lists.specs.Bytes.{written}
 use Rattle.answers.specs.declared.Reading.{Reading}
 use Rattle.answers.specs.Answers.{said}
+use Rattle.log_lines.specs.declared.Line.{Line}
 use Rattle.log_lines.specs.Lines.{line_of, end_line, bad_log}
 
--- the bytes stand at the place, and r is the place behind them
-pub record Puts (out : List ℕ) (at : ℕ) (bytes after : List ℕ) (r : ℕ) : Type 0 where
-  pub stored : after ≡ written out at bytes
-  pub behind : r ≡ at + length bytes
+-- the bytes stand behind what the line had, in the same buffer
+pub record Puts (before : Line) (bytes : List ℕ) (after : Line) : Type 0 where
+  pub same : after.out.ghost_name ≡ before.out.ghost_name
+  pub size : length after.out.now ≡ length before.out.now
+  pub stored : after.out.now ≡ written before.out.now before.at bytes
+  pub behind : after.at ≡ before.at + length bytes
 
 -- a buffer that has room for every line
 abbrev pub line_room : ℕ

@@ -14,103 +14,111 @@ use refusals::Refusal;
 // Room for every line: a word of seven letters, four numbers of twenty digits, ` dropped`.
 pub const LINE: usize = 128;
 
-// A digit at a place. Answers the place behind it.
-fn put_digit(out: &mut [u8], at: usize, d: usize) -> usize
-    requires { (at < length out.old) × (d < 10) }
-    ensures { Puts out.old at (digit d ∷ []) out.new result }
-{
-    out[at] = (48 + d) as u8;
-    at + 1
+// A line under way: the lent buffer, and the place behind what stands in it.
+#[derive(Drop)]
+struct Line<'a> {
+    out: &'a mut [u8],
+    at: usize,
 }
 
-// A number at a place: the quotient by ten first, then the digit. Answers the place behind it.
-fn put_decimal(out: &mut [u8], at: usize, n: usize) -> usize
-    requires { at + length (decimal n) ≤ length out.old }
-    ensures { Puts out.old at (decimal n) out.new result }
-{
-    if n < 10 {
-        return put_digit(out, at, n);
+impl Line<'_> {
+    // Some bytes.
+    fn text(&mut self, bytes: &[u8])
+        requires { self.old.at + length bytes.now ≤ length self.old.out.now }
+        ensures { Puts self.old bytes.now self.new }
+    {
+        lists::store(self.out, self.at, bytes);
+        self.at += bytes.len();
     }
-    let last = put_decimal(out, at, n / 10);
-    put_digit(out, last, n % 10)
-}
 
-// Some bytes at a place. Answers the place behind them.
-fn put_text(out: &mut [u8], at: usize, bytes: &[u8]) -> usize
-    requires { at + length bytes.now ≤ length out.old }
-    ensures { Puts out.old at bytes.now out.new result }
-{
-    lists::store(out, at, bytes);
-    at + bytes.len()
-}
-
-// A space and a number.
-fn put_spaced(out: &mut [u8], at: usize, n: usize) -> usize
-    requires { at + 21 ≤ length out.old }
-    ensures { Puts out.old at (spaced n) out.new result × (result ≤ at + 21) }
-{
-    let behind = put_text(out, at, b" ");
-    put_decimal(out, behind, n)
-}
-
-// A word of three letters and four numbers.
-fn put_four(out: &mut [u8], word: &[u8], a: usize, b: usize, c: usize, d: usize) -> usize
-    requires { (length word.now ≡ 3) × (87 ≤ length out.old) }
-    ensures { Puts out.old 0 (word.now ++ spaced a ++ spaced b ++ spaced c ++ spaced d) out.new result × (result ≤ 87) }
-{
-    let one = put_text(out, 0, word);
-    let two = put_spaced(out, one, a);
-    let three = put_spaced(out, two, b);
-    let four = put_spaced(out, three, c);
-    put_spaced(out, four, d)
-}
-
-// What the answer to a packet says that is not refused.
-fn put_accepted(out: &mut [u8], answer: Answer) -> usize
-    requires { 87 ≤ length out.old }
-    ensures { Puts out.old 0 (answer_text (said (Ok answer))) out.new result × (result ≤ 87) }
-{
-    match answer {
-        Answer::Held => put_text(out, 0, b"held"),
-        Answer::Delivered {
-            flow,
-            stream,
-            length,
-            ..
-        } => put_four(out, b"pdu", flow.source, flow.cos, stream, length),
-        Answer::Message {
-            source,
-            letter,
-            mailbox,
-            length,
-            ..
-        } => put_four(out, b"msg", source, letter, mailbox, length),
+    // A digit.
+    fn digit(&mut self, d: usize)
+        requires { (self.old.at < length self.old.out.now) × (d < 10) }
+        ensures { Puts self.old (digit d ∷ []) self.new }
+    {
+        self.out[self.at] = b'0' + d as u8;
+        self.at += 1;
     }
-}
 
-// What the answer says.
-fn put_answer(out: &mut [u8], answer: Result<Answer, Refusal>) -> usize
-    requires { 87 ≤ length out.old }
-    ensures { Puts out.old 0 (answer_text (said answer)) out.new result × (result ≤ 87) }
-{
-    match answer {
-        Ok(accepted) => put_accepted(out, accepted),
-        Err(refusal) => {
-            let behind = put_text(out, 0, b"refused");
-            put_spaced(out, behind, refusal.number())
+    // A number: the quotient by ten first, then the digit.
+    fn decimal(&mut self, n: usize)
+        requires { self.old.at + length (decimal n) ≤ length self.old.out.now }
+        ensures { Puts self.old (decimal n) self.new }
+    {
+        if n < 10 {
+            return self.digit(n);
+        }
+        self.decimal(n / 10);
+        self.digit(n % 10);
+    }
+
+    // A space and a number.
+    fn spaced(&mut self, n: usize)
+        requires { self.old.at + 21 ≤ length self.old.out.now }
+        ensures { Puts self.old (spaced n) self.new × (self.new.at ≤ self.old.at + 21) }
+    {
+        self.text(b" ");
+        self.decimal(n);
+    }
+
+    // A word of three letters and four numbers.
+    fn four(&mut self, word: &[u8], a: usize, b: usize, c: usize, d: usize)
+        requires { (length word.now ≡ 3) × (self.old.at + 87 ≤ length self.old.out.now) }
+        ensures { Puts self.old (word.now ++ spaced a ++ spaced b ++ spaced c ++ spaced d) self.new × (self.new.at ≤ self.old.at + 87) }
+    {
+        self.text(word);
+        self.spaced(a);
+        self.spaced(b);
+        self.spaced(c);
+        self.spaced(d);
+    }
+
+    // What the answer to a packet says that is not refused.
+    fn accepted(&mut self, answer: Answer)
+        requires { self.old.at + 87 ≤ length self.old.out.now }
+        ensures { Puts self.old (answer_text (said (Ok answer))) self.new × (self.new.at ≤ self.old.at + 87) }
+    {
+        match answer {
+            Answer::Held => self.text(b"held"),
+            Answer::Delivered {
+                flow,
+                stream,
+                length,
+                ..
+            } => self.four(b"pdu", flow.source, flow.cos, stream, length),
+            Answer::Message {
+                source,
+                letter,
+                mailbox,
+                length,
+                ..
+            } => self.four(b"msg", source, letter, mailbox, length),
         }
     }
-}
 
-// ` dropped`, where so.
-fn put_dropped(out: &mut [u8], at: usize, dropped: bool) -> usize
-    requires { at + 8 ≤ length out.old }
-    ensures { Puts out.old at (cond dropped (text " dropped") []) out.new result × (result ≤ at + 8) }
-{
-    if dropped {
-        return put_text(out, at, b" dropped");
+    // What the answer says.
+    fn answer(&mut self, answer: Result<Answer, Refusal>)
+        requires { self.old.at + 87 ≤ length self.old.out.now }
+        ensures { Puts self.old (answer_text (said answer)) self.new × (self.new.at ≤ self.old.at + 87) }
+    {
+        match answer {
+            Ok(accepted) => self.accepted(accepted),
+            Err(refusal) => {
+                self.text(b"refused");
+                self.spaced(refusal.number());
+            }
+        }
     }
-    at
+
+    // ` dropped`, where so.
+    fn dropped(&mut self, dropped: bool)
+        requires { self.old.at + 8 ≤ length self.old.out.now }
+        ensures { Puts self.old (cond dropped (text " dropped") []) self.new × (self.new.at ≤ self.old.at + 8) }
+    {
+        if dropped {
+            self.text(b" dropped");
+        }
+    }
 }
 
 // The line of a record's reading, into the front of `out`. Answers its length; 0, and nothing is written, where `out` has under LINE bytes.
@@ -120,9 +128,11 @@ pub fn write_line(out: &mut [u8], reading: Reading) -> usize
     if out.len() < LINE {
         return 0;
     }
-    let behind = put_answer(out, reading.answer);
-    let last = put_dropped(out, behind, reading.dropped);
-    put_text(out, last, b"\n")
+    let mut line = Line { out, at: 0 };
+    line.answer(reading.answer);
+    line.dropped(reading.dropped);
+    line.text(b"\n");
+    line.at
 }
 
 // The line of a clean end, the same way.
@@ -132,9 +142,11 @@ pub fn write_end(out: &mut [u8], count: usize) -> usize
     if out.len() < LINE {
         return 0;
     }
-    let behind = put_text(out, 0, b"end");
-    let last = put_spaced(out, behind, count);
-    put_text(out, last, b"\n")
+    let mut line = Line { out, at: 0 };
+    line.text(b"end");
+    line.spaced(count);
+    line.text(b"\n");
+    line.at
 }
 
 // The line of a bad log, the same way.
@@ -144,5 +156,7 @@ pub fn write_bad(out: &mut [u8]) -> usize
     if out.len() < LINE {
         return 0;
     }
-    put_text(out, 0, b"bad log\n")
+    let mut line = Line { out, at: 0 };
+    line.text(b"bad log\n");
+    line.at
 }

@@ -6,17 +6,20 @@ use endpoint::Setup;
 use printing::{print_bytes, print_number, print_text};
 use refusals::Refusal;
 
-fn number(rt: &impl Print, n: usize) {
-    print_text(rt, b" ");
-    print_number(rt, n);
+// A word, and behind it each number after a space.
+fn numbers(rt: &impl Print, word: &[u8], numbers: &[usize]) {
+    print_text(rt, word);
+    for n in numbers {
+        print_text(rt, b" ");
+        print_number(rt, *n);
+    }
+    print_text(rt, b"\n");
 }
 
 // One line for an answer.
 fn line(rt: &impl Print, answer: Result<Answer, Refusal>) {
     match answer {
-        Ok(Answer::Held) => {
-            print_text(rt, b"held");
-        }
+        Ok(Answer::Held) => numbers(rt, b"held", &[]),
         Ok(
             Answer::Delivered {
                 flow,
@@ -24,13 +27,7 @@ fn line(rt: &impl Print, answer: Result<Answer, Refusal>) {
                 length,
                 ..
             },
-        ) => {
-            print_text(rt, b"pdu");
-            number(rt, flow.source);
-            number(rt, flow.cos);
-            number(rt, stream);
-            number(rt, length);
-        }
+        ) => numbers(rt, b"pdu", &[flow.source, flow.cos, stream, length]),
         Ok(
             Answer::Message {
                 source,
@@ -39,19 +36,9 @@ fn line(rt: &impl Print, answer: Result<Answer, Refusal>) {
                 length,
                 ..
             },
-        ) => {
-            print_text(rt, b"msg");
-            number(rt, source);
-            number(rt, letter);
-            number(rt, mailbox);
-            number(rt, length);
-        }
-        Err(refusal) => {
-            print_text(rt, b"refused");
-            number(rt, refusal.number());
-        }
+        ) => numbers(rt, b"msg", &[source, letter, mailbox, length]),
+        Err(refusal) => numbers(rt, b"refused", &[refusal.number()]),
     }
-    print_text(rt, b"\n");
 }
 
 fn main(rt: HostRuntime) {

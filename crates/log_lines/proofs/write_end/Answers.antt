@@ -1,4 +1,5 @@
 -- `log_lines::write_end` meets its contract.
+use Rattle.std.proofs.Common.{refl, rules}
 use Rattle.log_lines.specs.Lines.{end_line}
 use Rattle.log_lines.proofs.Puts.{no_room}
 use Rattle.log_lines.proofs.Lines.{end_is}
@@ -10,5 +11,4 @@ returns-then-out-lt-LINE c = no_room (end_line c.args.count) c.if-out-lt-LINE.tr
 
 -- the line
 pub returns : goal.returns
-returns c =
-    end_is _ c.if-out-lt-LINE.false c.put_text-behind.ensures c.put_spaced-last.ensures c.put_text.ensures
+returns c = end_is _ refl c.if-out-lt-LINE.false c.text.ensures c.spaced.ensures c.text-2.ensures (search rules)

@@ -1,4 +1,5 @@
 -- `log_lines::write_line` meets its contract.
+use Rattle.std.proofs.Common.{refl, rules}
 use Rattle.answers.specs.Answers.{said}
 use Rattle.log_lines.specs.Lines.{line_of}
 use Rattle.log_lines.proofs.Puts.{no_room}
@@ -13,5 +14,4 @@ returns-then-out-lt-LINE c =
 
 -- the line
 pub returns : goal.returns
-returns c =
-    line-is _ _ c.if-out-lt-LINE.false c.put_answer-behind.ensures c.put_dropped-last.ensures c.put_text.ensures
+returns c = line-is _ _ refl c.if-out-lt-LINE.false c.answer.ensures c.dropped.ensures c.text.ensures (search rules)

@@ -1,5 +1,0 @@
--- `log_lines::put_decimal` ends: the number falls at each call.
-use Rattle.log_lines.proofs.+put_decimal.Given as goal
-
-abbrev pub decreases-put_decimal : goal.decreases-put_decimal
-decreases-put_decimal l = l.n

@@ -1,0 +1,6 @@
+-- `log_lines::Line::answer` meets its contract: `refused` and a number.
+use Rattle.log_lines.proofs.Lines.{refused_is}
+use Rattle.log_lines.proofs.Line.answer.Goals as goal
+
+pub returns-in-Err : goal.returns-in-Err
+returns-in-Err c = refused_is c.in-Err.is c.number.ensures c.requires c.text.ensures c.spaced.ensures
