@@ -4,7 +4,7 @@ use Rattle.answers.specs.declared.Reading.{Reading}
 use Rattle.reading.specs.Desk.{Desk, desk}
 use Rattle.reading.specs.Table.{lent}
 use Rattle.reading.specs.Read.{ReadPromise}
-use Rattle.outside.specs.declared.packets.Board.{Board}
+use Rattle.outside.specs.declared.boards.Board.{Board}
 
 -- the board and a response buffer, as they are lent
 abbrev pub lent_of : Board → (response : List ℕ) → Desk

@@ -3,23 +3,23 @@
 #![tactic(auto)]
 
 use endpoint::Setup;
+use outside::boards;
+use outside::boards::Board;
 use outside::bundles::Logs;
-use outside::packets;
-use outside::packets::Board;
 use printing::{print_number, print_text, read_full};
 
 // Reads the records of a log, up to the first that is bad. With IDs of 8 bits every response has five bytes.
 fn print_records(rt: &impl Print, board: &mut Board, log: &[u8]) {
     let mut at = 0;
     while let Ok(Some(record)) = log_records::next_record(log, at) {
-        packets::print_packet::<5>(rt, board, &log[record.from..record.next]);
+        boards::print_packet::<5>(rt, board, &log[record.from..record.next]);
         at = record.next;
     }
 }
 
 // A log, read by an endpoint of its own.
 fn print_log(rt: &impl Print, log: &[u8]) {
-    let mut board = packets::new(Setup {
+    let mut board = boards::new(Setup {
         device: 1,
         mtu: 32,
         room: 2048,

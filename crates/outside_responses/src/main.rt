@@ -3,20 +3,20 @@
 
 use endpoint::Setup;
 use log_reader::LogReader;
-use outside::packets;
-use outside::packets::Board;
+use outside::boards;
+use outside::boards::Board;
 use printing::read_full;
 
 // Reads the records of a log, by a reader that holds it. With IDs of 16 bits every response has seven bytes.
 fn print_packets(rt: &impl Print, board: &mut Board, log: &[u8]) {
     let mut reader = LogReader::new(log);
     while let Ok(Some(record)) = reader.next() {
-        packets::print_packet::<7>(rt, board, &log[record.from..record.next]);
+        boards::print_packet::<7>(rt, board, &log[record.from..record.next]);
     }
 }
 
 fn main(rt: HostRuntime) {
-    let mut board = packets::new(Setup {
+    let mut board = boards::new(Setup {
         device: 1,
         mtu: 32,
         room: 2048,
