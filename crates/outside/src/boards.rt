@@ -1,5 +1,5 @@
 // An endpoint that reads packets and prints what it answers.
-ghost use Rattle.std.specs.Prelude.{ℕ, ⊤, Result, ◌<◌, ◌^◌, List, replicate};
+ghost use Rattle.std.specs.Prelude.{ℕ, ⊤, Result, ◌≡◌, ◌<◌, ◌^◌, List, replicate};
 ghost use Rattle.refusals.specs.declared.Refusal.{Refusal};
 ghost use Rattle.answers.specs.declared.Reading.{Reading as ReadingOf};
 ghost use Rattle.contexts.specs.Words.{state_words};
@@ -29,6 +29,14 @@ pub fn new(settings: Setup) -> Board
         streams: [0; 32768],
         messages: [0; 32768],
     }
+}
+
+// Sets a board up anew. Its memories keep what they hold.
+pub fn begin(board: &mut Board, settings: Setup)
+    ensures set_up { (begun : Result ⊤ Refusal) × SetupPromise board.old.state settings begun board.new.state }
+    ensures kept { (board.new.streams ≡ board.old.streams) × (board.new.messages ≡ board.old.messages) }
+{
+    let _ = endpoint::setup(&mut board.state, settings);
 }
 
 // Reads one packet, with a response buffer of N zeros.

@@ -17,24 +17,27 @@ fn print_records(rt: &impl Print, board: &mut Board, log: &[u8]) {
     }
 }
 
-// A log, read by an endpoint of its own.
-fn print_log(rt: &impl Print, log: &[u8]) {
-    let mut board = boards::new(Setup {
-        device: 1,
-        mtu: 32,
-        room: 2048,
-        narrow: 1,
-    });
+const SETTINGS: Setup = Setup {
+    device: 1,
+    mtu: 32,
+    room: 2048,
+    narrow: 1,
+};
+
+// A log, read by an endpoint that is set up anew. What the log before left in its memories is printed by nobody.
+fn print_log(rt: &impl Print, board: &mut Board, log: &[u8]) {
+    boards::begin(board, SETTINGS);
     print_text(rt, b"log ");
     print_number(rt, log.len());
     print_text(rt, b"\n");
-    print_records(rt, &mut board, log);
+    print_records(rt, board, log);
 }
 
 fn main(rt: HostRuntime) {
+    let mut board = boards::new(SETTINGS);
     let mut bundle = [0u8; 262144];
     let n = read_full(&mut rt.stdin(), &mut bundle);
     for log in Logs(&bundle[..n]) {
-        print_log(&rt, log);
+        print_log(&rt, &mut board, log);
     }
 }
