@@ -15,9 +15,9 @@ NextRecordOnce = (log : List ℕ) (at : ℕ) (r r' : Found) → NextRecordPromis
 
 abbrev pub WriteLineOnce : Type 0
 WriteLineOnce =
-    (out : List ℕ) (reading : Reading) (r r' : ℕ) (after after' : List ℕ)
-    → WriteLinePromise out reading r after
-    → WriteLinePromise out reading r' after'
+    {R : Type 0} (number_of : R → ℕ) (out : List ℕ) (reading : Reading R) (r r' : ℕ) (after after' : List ℕ)
+    → WriteLinePromise number_of out reading r after
+    → WriteLinePromise number_of out reading r' after'
     → (r ≡ r') × (after ≡ after')
 
 abbrev pub WriteEndOnce : Type 0
