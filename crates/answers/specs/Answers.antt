@@ -1,5 +1,6 @@
 -- What the calls say, in document 01's words and numbers, and what each answer of the code says. Each call has answers of its own,
--- so that a new answer of one call is no new case of another.
+-- so that a new answer of one call is no new case of another. What refuses is a row of the table, and where the name ends in `_by`
+-- anything that has a number.
 use Rattle.std.specs.Prelude.{ℕ, ⊤, Result, Ok, Err, Option, Some, None}
 use Rattle.refusals.specs.declared.Refusal.{Refusal}
 use Rattle.refusals.specs.Numbers.{row_number}
@@ -23,11 +24,17 @@ pub data Said : Type 0 where
   -- a refusal, by its number
   refused : (number : ℕ) → Said
 
+abbrev pub said_by : {R : Type 0} → (R → ℕ) → Result Answer R → Said
+said_by {R} number_of = said
+  where
+    said : Result Answer R → Said
+    said (Ok answer.Held) = held
+    said (Ok (answer.Delivered context flow stream size)) = delivered context flow stream size
+    said (Ok (answer.Message context source letter mailbox size)) = message context source letter mailbox size
+    said (Err refusal) = refused (number_of refusal)
+
 abbrev pub said : Result Answer Refusal → Said
-said (Ok answer.Held) = held
-said (Ok (answer.Delivered context flow stream size)) = delivered context flow stream size
-said (Ok (answer.Message context source letter mailbox size)) = message context source letter mailbox size
-said (Err refusal) = refused (row_number refusal)
+said = said_by row_number
 
 -- ---- setup
 
@@ -36,9 +43,12 @@ pub data SetupSaid : Type 0 where
   ready : SetupSaid
   setup_refused : (number : ℕ) → SetupSaid
 
+abbrev pub said_of_setup_by : {R : Type 0} → (R → ℕ) → Result ⊤ R → SetupSaid
+said_of_setup_by number_of (Ok _) = ready
+said_of_setup_by number_of (Err refusal) = setup_refused (number_of refusal)
+
 abbrev pub said_of_setup : Result ⊤ Refusal → SetupSaid
-said_of_setup (Ok _) = ready
-said_of_setup (Err refusal) = setup_refused (row_number refusal)
+said_of_setup = said_of_setup_by row_number
 
 -- ---- abandoning a context
 
@@ -49,10 +59,13 @@ pub data AbandonSaid : Type 0 where
   free : AbandonSaid
   abandon_refused : (number : ℕ) → AbandonSaid
 
+abbrev pub said_of_abandon_by : {R : Type 0} → (R → ℕ) → Result Abandoned R → AbandonSaid
+said_of_abandon_by number_of (Ok abandoned.Closed) = closed
+said_of_abandon_by number_of (Ok abandoned.WasFree) = free
+said_of_abandon_by number_of (Err refusal) = abandon_refused (number_of refusal)
+
 abbrev pub said_of_abandon : Result Abandoned Refusal → AbandonSaid
-said_of_abandon (Ok abandoned.Closed) = closed
-said_of_abandon (Ok abandoned.WasFree) = free
-said_of_abandon (Err refusal) = abandon_refused (row_number refusal)
+said_of_abandon = said_of_abandon_by row_number
 
 -- ---- asking after a context
 
@@ -62,10 +75,13 @@ pub data StreamContextSaid : Type 0 where
   stream_is_free : StreamContextSaid
   stream_ask_refused : (number : ℕ) → StreamContextSaid
 
+abbrev pub said_of_stream_by : {R : Type 0} → (R → ℕ) → Result (Option UnfinishedPdu) R → StreamContextSaid
+said_of_stream_by number_of (Ok (Some pdu)) = stream_is_open pdu.flow pdu.stream pdu.held
+said_of_stream_by number_of (Ok None) = stream_is_free
+said_of_stream_by number_of (Err refusal) = stream_ask_refused (number_of refusal)
+
 abbrev pub said_of_stream : Result (Option UnfinishedPdu) Refusal → StreamContextSaid
-said_of_stream (Ok (Some pdu)) = stream_is_open pdu.flow pdu.stream pdu.held
-said_of_stream (Ok None) = stream_is_free
-said_of_stream (Err refusal) = stream_ask_refused (row_number refusal)
+said_of_stream = said_of_stream_by row_number
 
 pub data MessageContextSaid : Type 0 where
   -- a message is open there: source, letter, mbox; its msglen, the bytes of its segments; which have come, and the last one's length, 0 before it came
@@ -73,10 +89,13 @@ pub data MessageContextSaid : Type 0 where
   message_is_free : MessageContextSaid
   message_ask_refused : (number : ℕ) → MessageContextSaid
 
+abbrev pub said_of_message_by : {R : Type 0} → (R → ℕ) → Result (Option UnfinishedMessage) R → MessageContextSaid
+said_of_message_by number_of (Ok (Some m)) = message_is_open m.source m.letter m.mbox m.msglen m.size m.marks m.last
+said_of_message_by number_of (Ok None) = message_is_free
+said_of_message_by number_of (Err refusal) = message_ask_refused (number_of refusal)
+
 abbrev pub said_of_message : Result (Option UnfinishedMessage) Refusal → MessageContextSaid
-said_of_message (Ok (Some m)) = message_is_open m.source m.letter m.mbox m.msglen m.size m.marks m.last
-said_of_message (Ok None) = message_is_free
-said_of_message (Err refusal) = message_ask_refused (row_number refusal)
+said_of_message = said_of_message_by row_number
 
 -- ---- the writers, of a segment and of a record
 
@@ -85,6 +104,9 @@ pub data WriterSaid : Type 0 where
   wrote : (size : ℕ) → WriterSaid
   write_refused : (number : ℕ) → WriterSaid
 
+abbrev pub said_of_writer_by : {R : Type 0} → (R → ℕ) → Result ℕ R → WriterSaid
+said_of_writer_by number_of (Ok size) = wrote size
+said_of_writer_by number_of (Err refusal) = write_refused (number_of refusal)
+
 abbrev pub said_of_writer : Result ℕ Refusal → WriterSaid
-said_of_writer (Ok size) = wrote size
-said_of_writer (Err refusal) = write_refused (row_number refusal)
+said_of_writer = said_of_writer_by row_number

@@ -6,7 +6,7 @@ ghost use Rattle.std.specs.Prelude.{◌≡◌, Ok, Err};
 ghost use Rattle.answers.specs.declared.Answer.TheVariants.{Held};
 ghost use Rattle.answers.specs.Readings.{reading_of};
 
-use refusals::Refusal;
+use refusals::{Numbered, Refusal};
 use wire::Flow;
 
 // The answer to a packet that is not refused.
@@ -30,8 +30,8 @@ pub enum Answer {
 
 // The answer to a packet, whether the packet closed an open stream context undelivered, and how many bytes of response were written.
 #[derive(Clone, Copy)]
-pub struct Reading {
-    pub answer: Result<Answer, Refusal>,
+pub struct Reading<R = Refusal> {
+    pub answer: Result<Answer, R>,
     pub dropped: bool,
     pub response: usize,
 }
@@ -65,7 +65,7 @@ pub struct UnfinishedMessage {
 }
 
 // The reading of a packet that is refused.
-pub fn refusal(refusal: Refusal, dropped: bool, response: usize) -> Reading
+pub fn refusal<R: Numbered>(refusal: R, dropped: bool, response: usize) -> Reading<R>
     ensures { result ≡ reading_of (Err refusal) dropped response }
 {
     Reading {

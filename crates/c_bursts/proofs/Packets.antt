@@ -9,6 +9,7 @@ use lib.Seq.{drop-drop}
 use borrow.Rule.Slice.PartMut.{mid_of, put_mid}
 use Rattle.lists.specs.Bytes.{written}
 use Rattle.lists.proofs.Written.{written_is}
+use Rattle.refusals.specs.declared.Refusal.{Refusal}
 use Rattle.answers.specs.declared.Reading.{Reading}
 use Rattle.answers.specs.Answers.{said}
 use Rattle.wire.specs.declared.Setup.{Setup}
@@ -59,7 +60,7 @@ module _ (r : Run) (ready : ReadyToRun r 1) where
   }
 
   -- what reading left: in its memories, in its slot, and with the report beside it
-  module _ (packet : List ℕ) (small : get_or packet (header (ids_in (state_on r.desk))) 0 < 256) (t : Reading) (after : Desk) (promise : ReadPromise (lent lent_desk packet) t after) where
+  module _ (packet : List ℕ) (small : get_or packet (header (ids_in (state_on r.desk))) 0 < 256) (t : Reading Refusal) (after : Desk) (promise : ReadPromise (lent lent_desk packet) t after) where
     as_defined : settled (said t.answer) t.dropped t.response after ≡ read_in r packet
     as_defined = promise ∙ ap (λ (s : List ℕ). reading (lent (with_response r.desk s) packet)) slot_is
 

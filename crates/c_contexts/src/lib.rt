@@ -2,13 +2,13 @@
 #![tactic(auto)]
 
 ghost use Rattle.std.specs.Prelude.{◌≡◌};
-ghost use Rattle.answers.specs.Answers.{said_of_stream, said_of_message};
+ghost use Rattle.answers.specs.Answers.{said_of_stream_by, said_of_message_by};
 ghost use Rattle.c_reports.specs.Reports.{kind_number};
 ghost use Rattle.c_contexts.specs.Open.{no_stream, open_stream_of, no_message, open_message_of};
 
 use answers::{UnfinishedMessage, UnfinishedPdu};
 use c_reports::Kind;
-use refusals::Refusal;
+use refusals::Numbered;
 
 // Kind, refusal number; of an open one its flow's source and cos, its streamID, how many bytes are held, and its flow's priority.
 #[repr(C)]
@@ -54,10 +54,10 @@ fn no_stream(kind: Kind, number: usize) -> OpenStream
 }
 
 // What is said of a stream context.
-impl From<Result<Option<UnfinishedPdu>, Refusal>> for OpenStream {
-    ghost from_gives = { λ answer told. told ≡ open_stream_of (said_of_stream answer) };
+impl<R: Numbered> From<Result<Option<UnfinishedPdu>, R>> for OpenStream {
+    ghost from_gives = { λ answer told. told ≡ open_stream_of (said_of_stream_by R.number_of answer) };
 
-    fn from(answer: Result<Option<UnfinishedPdu>, Refusal>) -> OpenStream {
+    fn from(answer: Result<Option<UnfinishedPdu>, R>) -> OpenStream {
         match answer {
             Ok(Some(pdu)) => OpenStream {
                 kind: Kind::Open as usize,
@@ -92,10 +92,10 @@ fn no_message(kind: Kind, number: usize) -> OpenMessage
 }
 
 // What is said of a message context.
-impl From<Result<Option<UnfinishedMessage>, Refusal>> for OpenMessage {
-    ghost from_gives = { λ answer told. told ≡ open_message_of (said_of_message answer) };
+impl<R: Numbered> From<Result<Option<UnfinishedMessage>, R>> for OpenMessage {
+    ghost from_gives = { λ answer told. told ≡ open_message_of (said_of_message_by R.number_of answer) };
 
-    fn from(answer: Result<Option<UnfinishedMessage>, Refusal>) -> OpenMessage {
+    fn from(answer: Result<Option<UnfinishedMessage>, R>) -> OpenMessage {
         match answer {
             Ok(Some(m)) => OpenMessage {
                 kind: Kind::Open as usize,

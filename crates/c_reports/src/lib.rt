@@ -2,11 +2,12 @@
 #![tactic(auto)]
 
 ghost use Rattle.std.specs.Prelude.{◌≡◌, ◌+◌, ◌≤◌, length};
-ghost use Rattle.answers.specs.Answers.{said};
+ghost use Rattle.answers.specs.Answers.{said_by};
 ghost use Rattle.lists.specs.Bytes.{written};
 ghost use Rattle.c_reports.specs.Reports.{kind_number, flag_of, plain_of, report_of, report_words, words_of_report};
 
 use answers::{Answer, Reading};
+use refusals::Numbered;
 
 // The kinds of answers, of every call, as include/kaiverohm.h has them: answers/specs/Kinds.antt.
 #[derive(Clone, Copy, Debug, PartialEq, Eq)]
@@ -61,11 +62,11 @@ fn plain(kind: Kind, number: usize, dropped: bool, response: usize) -> Report
 }
 
 // The report of reading a packet.
-impl From<Reading> for Report {
-    ghost from_gives = { λ reading report. report ≡ report_of (said reading.answer) reading.dropped reading.response };
+impl<R: Numbered> From<Reading<R>> for Report {
+    ghost from_gives = { λ reading report. report ≡ report_of (said_by R.number_of reading.answer) reading.dropped reading.response };
 
     #[tactic(auto, unfolding(crate::specs::Reports::report_of))]
-    fn from(reading: Reading) -> Report {
+    fn from(reading: Reading<R>) -> Report {
         let dropped = reading.dropped;
         let response = reading.response;
         match reading.answer {

@@ -1,6 +1,7 @@
 -- The calls that people make, one after the other: each takes what the call before left, and any outcome that its promise allows may come.
 use Rattle.std.specs.Prelude.{ℕ, ◌≤◌, ◌≡◌, List, [], ◌∷◌, ◌++◌, length}
 use Rattle.std.specs.Borrow.{Bor}
+use Rattle.refusals.specs.declared.Refusal.{Refusal}
 use Rattle.answers.specs.declared.Reading.{Reading}
 use Rattle.answers.specs.Answers.{Said, held, delivered, message, refused, said}
 use Rattle.wire.specs.declared.Flow.{Flow}
@@ -27,7 +28,7 @@ pub data Fetches (d : Desk) : Said → List Delivery → Type 0 where
 -- each outcome one that its promise allows; and after it what the caller fetches. The desk's own response buffer is lent only where the caller does so
 pub data Reads : Desk → List (List ℕ) → List Delivery → Type 0 where
   stop : {d : Desk} → Reads d [] []
-  call : {d next : Desk} {p : List ℕ} {ps : List (List ℕ)} {fetched ds : List Delivery} (r : Reading) (given : List ℕ) → response_size (ids_in (state_on d)) ≤ length given
+  call : {d next : Desk} {p : List ℕ} {ps : List (List ℕ)} {fetched ds : List Delivery} (r : Reading Refusal) (given : List ℕ) → response_size (ids_in (state_on d)) ≤ length given
       → ReadPromise (lent (with_response d given) p) r next
       → Fetches next (said r.answer) fetched
       → Reads next ps ds

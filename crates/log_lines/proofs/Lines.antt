@@ -7,9 +7,7 @@ use native.Mathlib.Omega.{arith}
 use lib.ListN.{length}
 use Rattle.answers.specs.declared.Answer.{Answer}
 use Rattle.std.specs.Prelude.{Result, Err}
-use Rattle.refusals.specs.declared.Refusal.{Refusal}
-use Rattle.refusals.specs.Numbers.{row_number}
-use Rattle.answers.specs.Answers.{Said, said}
+use Rattle.answers.specs.Answers.{Said, said_by}
 use Rattle.log_lines.specs.Text.{text}
 use Rattle.log_lines.specs.Lines.{spaced, answer_text, line_of, end_line}
 use Rattle.log_lines.specs.declared.Line.{Line}
@@ -36,12 +34,12 @@ four {l₀ = l₀} {l₁ = l₁} a b c d letters fits w pa pb pc pd =
     (joined (omega (arith, pa.1, pb.1, pc.1, pd.1)) three pd.0, omega (arith, pa.1, pb.1, pc.1, pd.1))
 
 -- a refusal and its number
-pub refused_is : {before mid after : Line} {number : ℕ} {answer : Result Answer Refusal} {refusal : Refusal} → answer ≡ Err refusal → number ≡ row_number refusal
+pub refused_is : {R : Type 0} (number_of : R → ℕ) {before mid after : Line} {number : ℕ} {answer : Result Answer R} {refusal : R} → answer ≡ Err refusal → number ≡ number_of refusal
     → before.at + 87 ≤ length before.out.now → Puts before (text "refused") mid → Within mid (spaced number) after 21
-    → Within before (answer_text (said answer)) after 87
-refused_is {before} {mid} {after} e n fits p q =
+    → Within before (answer_text (said_by number_of answer)) after 87
+refused_is {R} number_of {before} {mid} {after} e n fits p q =
     let seven : mid.at ≡ before.at + 7 = p.behind in
-    let says = ap (λ (k : ℕ). text "refused" ++ spaced k) n ∙ sym (ap (λ (y : Result Answer Refusal). answer_text (said y)) e) in
+    let says = ap (λ (k : ℕ). text "refused" ++ spaced k) n ∙ sym (ap (λ (y : Result Answer R). answer_text (said_by number_of y)) e) in
     (subst (λ (l : List ℕ). Puts before l after) says (joined (omega (arith, q.1)) p q.0), omega (arith, q.1))
 
 -- text and the end of the line

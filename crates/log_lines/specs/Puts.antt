@@ -2,7 +2,7 @@
 use Rattle.std.specs.Prelude.{ℕ, ◌+◌, ◌≤◌, ◌≡◌, List, cond, length, ltb}
 use Rattle.lists.specs.Bytes.{written}
 use Rattle.answers.specs.declared.Reading.{Reading}
-use Rattle.answers.specs.Answers.{said}
+use Rattle.answers.specs.Answers.{said_by}
 use Rattle.log_lines.specs.declared.Line.{Line}
 use Rattle.log_lines.specs.Lines.{line_of, end_line, bad_log}
 
@@ -29,8 +29,8 @@ unfoldable pub put_line : List ℕ → List ℕ → LinePut
 put_line out line = cond (ltb (length out) line_room) (line_put 0 out) (line_put (length line) (written out 0 line))
 
 -- what `write_line`, `write_end` and `write_bad` promise; every line has room in a buffer of 128 bytes
-abbrev pub WriteLinePromise : List ℕ → Reading → ℕ → List ℕ → Type 0
-WriteLinePromise out reading r after = (line_put r after ≡ put_line out (line_of (said reading.answer) reading.dropped)) × (r ≤ line_room)
+abbrev pub WriteLinePromise : {R : Type 0} → (R → ℕ) → List ℕ → Reading R → ℕ → List ℕ → Type 0
+WriteLinePromise number_of out reading r after = (line_put r after ≡ put_line out (line_of (said_by number_of reading.answer) reading.dropped)) × (r ≤ line_room)
 
 abbrev pub WriteEndPromise : List ℕ → ℕ → ℕ → List ℕ → Type 0
 WriteEndPromise out count r after = (line_put r after ≡ put_line out (end_line count)) × (r ≤ line_room)

@@ -2,14 +2,14 @@
 #![tactic(auto)]
 
 ghost use Rattle.std.specs.Prelude.{◌≡◌, Ok, cond, [], ◌∷◌, ◌++◌, ◌+◌, ◌<◌, ◌≤◌, length};
-ghost use Rattle.answers.specs.Answers.{said};
+ghost use Rattle.answers.specs.Answers.{said, said_by};
 ghost use Rattle.log_lines.specs.Text.{text};
 ghost use Rattle.log_lines.specs.Decimal.{digit, decimal};
 ghost use Rattle.log_lines.specs.Lines.{spaced, answer_text};
 ghost use Rattle.log_lines.specs.Puts.{Puts, WriteLinePromise, WriteEndPromise, WriteBadPromise};
 
 use answers::{Answer, Reading};
-use refusals::Refusal;
+use refusals::Numbered;
 
 // Room for every line: a word of seven letters, four numbers of twenty digits, ` dropped`.
 pub const LINE: usize = 128;
@@ -97,9 +97,9 @@ impl Line<'_> {
     }
 
     // What the answer says.
-    fn answer(&mut self, answer: Result<Answer, Refusal>)
+    fn answer<R: Numbered>(&mut self, answer: Result<Answer, R>)
         requires { self.old.at + 87 ≤ length self.old.out.now }
-        ensures { Puts self.old (answer_text (said answer)) self.new × (self.new.at ≤ self.old.at + 87) }
+        ensures { Puts self.old (answer_text (said_by R.number_of answer)) self.new × (self.new.at ≤ self.old.at + 87) }
     {
         match answer {
             Ok(accepted) => self.accepted(accepted),
@@ -122,8 +122,8 @@ impl Line<'_> {
 }
 
 // The line of a record's reading, into the front of `out`. Answers its length; 0, and nothing is written, where `out` has under LINE bytes.
-pub fn write_line(out: &mut [u8], reading: Reading) -> usize
-    ensures { WriteLinePromise out.old reading result out.new }
+pub fn write_line<R: Numbered>(out: &mut [u8], reading: Reading<R>) -> usize
+    ensures { WriteLinePromise R.number_of out.old reading result out.new }
 {
     if out.len() < LINE {
         return 0;

@@ -31,7 +31,7 @@ module _ (b : Desk) (log : List ℕ) (at count : ℕ) (out : List ℕ) where
   at_bad_lem r line bad e p = ap (λ (x : LinePut). printing (Last x.size) b x.out) p ∙ sym (ap (printed_by b log count out) e)
 
   -- a record
-  pub at_record : (f : Record) (packet : List ℕ) (r : Reading) (words streams messages response : List ℕ) (n : ℕ) (line : List ℕ)
+  pub at_record : (f : Record) (packet : List ℕ) (r : Reading _) (words streams messages response : List ℕ) (n : ℕ) (line : List ℕ)
       → next_record log at ≡ Ok (Some f) → packet ≡ take f.size (drop f.from log)
       → ReadPromise (lent b packet) r (desk words streams messages response)
       → line_put n line ≡ put_line out (line_of (said r.answer) r.dropped)

@@ -17,7 +17,7 @@ put promised r r' after after' p q =
     (ap (λ (l : LinePut). l.size) e, ap (λ (l : LinePut). l.out) e)
 
 pub write_line_once : WriteLineOnce
-write_line_once out reading r r' after after' p q = put _ r r' after after' p.0 q.0
+write_line_once R number_of out reading r r' after after' p q = put _ r r' after after' p.0 q.0
 
 pub write_end_once : WriteEndOnce
 write_end_once out count r r' after after' p q = put _ r r' after after' p.0 q.0

@@ -13,11 +13,12 @@ use Rattle.log_run.specs.Running.{LogRunPromise}
 abbrev pub NextRecordOnce : Type 0
 NextRecordOnce = (log : List ℕ) (at : ℕ) (r r' : Found) → NextRecordPromise log at r → NextRecordPromise log at r' → r ≡ r'
 
-abbrev pub WriteLineOnce : Type 0
+-- of whatever refuses, by its number
+abbrev pub WriteLineOnce : Type 1
 WriteLineOnce =
-    (out : List ℕ) (reading : Reading) (r r' : ℕ) (after after' : List ℕ)
-    → WriteLinePromise out reading r after
-    → WriteLinePromise out reading r' after'
+    (R : Type 0) (number_of : R → ℕ) (out : List ℕ) (reading : Reading R) (r r' : ℕ) (after after' : List ℕ)
+    → WriteLinePromise number_of out reading r after
+    → WriteLinePromise number_of out reading r' after'
     → (r ≡ r') × (after ≡ after')
 
 abbrev pub WriteEndOnce : Type 0

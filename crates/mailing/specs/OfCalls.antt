@@ -2,6 +2,7 @@
 use Rattle.std.specs.Prelude.{ℕ, ◌≤◌, ◌≡◌, List, [], ◌∷◌, length}
 use Rattle.std.specs.Borrow.{Bor}
 use Rattle.answers.specs.Answers.{Said, said, held, delivered, message, refused}
+use Rattle.refusals.specs.declared.Refusal.{Refusal}
 use Rattle.answers.specs.declared.Reading.{Reading}
 use Rattle.responses.specs.Type13.{response_size}
 use Rattle.contexts.specs.State.{ids_in}
@@ -34,7 +35,7 @@ FetchesMail d (refused number) mail = mail ≡ []
 -- each outcome one that its promise allows; and where it delivers a message, `message_room` before the next call of `read`
 pub data MailCalls : Desk → List (List ℕ) → List MailCall → Type 0 where
   all_made : {d : Desk} → MailCalls d [] []
-  made : {d : Desk} {p : List ℕ} {ps : List (List ℕ)} {cs : List MailCall} (given : List ℕ) (r : Reading) (left : Desk) (mail : List Mail)
+  made : {d : Desk} {p : List ℕ} {ps : List (List ℕ)} {cs : List MailCall} (given : List ℕ) (r : Reading Refusal) (left : Desk) (mail : List Mail)
       → response_size (ids_in (state_on d)) ≤ length given
       → ReadPromise (lent (with_response d given) p) r left
       → FetchesMail left (said r.answer) mail

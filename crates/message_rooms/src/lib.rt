@@ -2,8 +2,7 @@
 #![tactic(auto)]
 
 ghost use Rattle.std.specs.Prelude.{◌≡◌, false, ◌+◌, ◌<◌, ◌≤◌, ◌^◌, length};
-ghost use Rattle.refusals.specs.Numbers.{row_number};
-ghost use Rattle.answers.specs.Answers.{said};
+ghost use Rattle.answers.specs.Answers.{said, said_by};
 ghost use Rattle.responses.specs.Type13.{DONE, answered};
 ghost use Rattle.contexts.specs.State.{ids_in, message_contexts};
 ghost use Rattle.contexts.specs.Words.{state_of, state_words};
@@ -12,7 +11,7 @@ ghost use Rattle.message_rooms.specs.Placing.{message_joining, message_placed};
 ghost use Rattle.message_rooms.specs.Inside.{CanReply, reply_size, MessageReady, MessageFits, MessageKept, Replied};
 
 use answers::{Answer, Reading};
-use refusals::Refusal;
+use refusals::Numbered;
 use wire::MessageSegment;
 
 // The bytes of a message context's room, and of the memory that has one for each.
@@ -21,15 +20,15 @@ pub const ROOM: usize = 4096;
 pub const MEMORY: usize = contexts::MESSAGE_CONTEXTS * ROOM;
 
 // A refusal: its response is written, and nothing else. Every caller has a buffer for it, a packet with its head and a status.
-pub fn refuse(
+pub fn refuse<R: Numbered>(
     state: &[usize],
     response: &mut [u8],
     packet: &[u8],
-    refusal: Refusal,
+    refusal: R,
     status: u8,
-) -> Reading
+) -> Reading<R>
     requires { CanReply state.now response.old packet.now × (status < 16) }
-    ensures { Replied (state_of state.now) response.old packet.now (row_number refusal) status (said result.answer) response.new
+    ensures { Replied (state_of state.now) response.old packet.now (R.number_of refusal) status (said_by R.number_of result.answer) response.new
         × (result.dropped ≡ false) × (result.response ≡ reply_size (state_of state.now)) }
 {
     let written = responses::respond(response, packet, contexts::narrow(state), status);

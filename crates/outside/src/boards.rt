@@ -67,7 +67,7 @@ fn print_response(rt: &impl Print, response: &[u8]) {
 // Reads one packet, and prints its line and the response that was written, which has N bytes.
 pub fn print_packet<const N: usize>(rt: &impl Print, board: &mut Board, packet: &[u8])
     requires { N < 2 ^ 63 }
-    ensures { (reading : ReadingOf) × (response : List ℕ) × BoardReads N board.old packet.now reading response board.new }
+    ensures { (reading : ReadingOf Refusal) × (response : List ℕ) × BoardReads N board.old packet.now reading response board.new }
 {
     let (reading, response) = read::<N>(board, packet);
     let mut line = [0; log_lines::LINE];

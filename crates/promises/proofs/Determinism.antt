@@ -19,7 +19,7 @@ use Rattle.writing.specs.Writer.{Wrote}
 use Rattle.promises.specs.Determinism.{OneRoom, OneOutcomeEach}
 
 -- a reading is its answer, whether it dropped a PDU, and its count
-same-reading : (r r' : Reading) → r.answer ≡ r'.answer → r.dropped ≡ r'.dropped → r.response ≡ r'.response → r ≡ r'
+same-reading : (r r' : Reading Refusal) → r.answer ≡ r'.answer → r.dropped ≡ r'.dropped → r.response ≡ r'.response → r ≡ r'
 same-reading r r' a d n =
     ap₂ (λ (x : Result Answer Refusal) (y : Bool). record { answer = x; dropped = y; response = r.response }) a d
     ∙ ap (λ (k : ℕ). record { answer = r'.answer; dropped = r'.dropped; response = k }) n

@@ -23,7 +23,7 @@ OneRoom allowed = (r r' : Bor (List ℕ)) → allowed r → allowed r' → (r.re
 pub record OneOutcomeEach : Type 0 where
   pub state_length : OneOutcome LengthPromise
   pub setup : (words : List ℕ) (settings : Setup) → OneOutcome (λ (y : Outcome (Result ⊤ Refusal) (List ℕ)). SetupPromise words settings y.answer y.after)
-  pub read : (x : Lent) → OneOutcome (λ (y : Outcome Reading Desk). ReadPromise x y.answer y.after)
+  pub read : (x : Lent) → OneOutcome (λ (y : Outcome (Reading Refusal) Desk). ReadPromise x y.answer y.after)
   pub abandon_stream_lem : (words : List ℕ) (n : ℕ) → OneOutcome (λ (y : Outcome (Result Abandoned Refusal) (List ℕ)). AbandonStreamPromise words n y.answer y.after)
   pub abandon_message_lem : (words : List ℕ) (n : ℕ) → OneOutcome (λ (y : Outcome (Result Abandoned Refusal) (List ℕ)). AbandonMessagePromise words n y.answer y.after)
   pub stream_context : (words : List ℕ) (n : ℕ) → OneOutcome (StreamContextPromise words n)

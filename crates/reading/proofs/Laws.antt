@@ -26,7 +26,7 @@ use Rattle.reading.specs.Table.{Lent, state_in, wrong_sizes}
 use Rattle.reading.specs.Read.{settled, refusing, of_stream, of_message, reading, ReadPromise}
 
 -- a refusal that changes nothing
-pub refusal_promised : (x : Lent) (r : Refusal) (told : Reading) → told ≡ reading_of (Err r) false 0 → refusing x (row_number r) all ≡ reading x → ReadPromise x told x.desk
+pub refusal_promised : (x : Lent) (r : Refusal) (told : Reading Refusal) → told ≡ reading_of (Err r) false 0 → refusing x (row_number r) all ≡ reading x → ReadPromise x told x.desk
 refusal_promised x r told e w = rw e w
 
 -- what a step leaves in the words
@@ -41,12 +41,12 @@ message_settled x says words memory response j z e =
     ap (λ (w : List ℕ). settled says false (response_size (ids_in (state_in x))) (with_messages x.desk w memory response)) (sym (words_of_lem words z)) ∙ ap (of_message x) e
 
 -- and with the reading that says so
-pub stream_promised : (x : Lent) (t : Reading) (words memory : List ℕ) (j : stream_room.Joined) → length words ≡ state_words
+pub stream_promised : (x : Lent) (t : Reading Refusal) (words memory : List ℕ) (j : stream_room.Joined) → length words ≡ state_words
     → (stream_room.joining (said t.answer) t.dropped (state_of words) memory ≡ j) × (t.response ≡ 0) → of_stream x j ≡ reading x
     → ReadPromise x t (with_streams x.desk words memory)
 stream_promised x t words memory j z k e = rw k.1 (stream_settled x (said t.answer) t.dropped words memory j z k.0 ∙ e)
 
-pub message_promised : (x : Lent) (t : Reading) (words memory response : List ℕ) (j : message_room.MessageJoined) → length words ≡ state_words
+pub message_promised : (x : Lent) (t : Reading Refusal) (words memory response : List ℕ) (j : message_room.MessageJoined) → length words ≡ state_words
     → (message_room.message_joining (said t.answer) (state_of words) memory response ≡ j) × (t.dropped ≡ false) × (t.response ≡ response_size (ids_in (state_in x))) → of_message x j ≡ reading x
     → ReadPromise x t (with_messages x.desk words memory response)
 message_promised x t words memory response j z k e = rw (k.1, k.2) (message_settled x (said t.answer) words memory response j z k.0 ∙ e)

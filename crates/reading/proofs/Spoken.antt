@@ -9,6 +9,7 @@ use Rattle.tables.specs.Refusals.{Row, Leaves, all, flow_closed, all_error, all_
 use Rattle.wire.specs.Head.{is9, head_rows}
 use Rattle.wire.specs.Type11.{is_single}
 use Rattle.refusals.proofs.Back.{IsRow, refusal_of}
+use Rattle.refusals.specs.declared.Refusal.{Refusal}
 use Rattle.answers.specs.declared.Reading.{Reading}
 use Rattle.answers.specs.Answers.{Said, said, held, delivered, message, refused}
 use Rattle.answers.proofs.Once as once
@@ -81,7 +82,7 @@ module _ (x : Lent) where
 
   -- ---- so what reading says
 
-  abbrev pub answered_by : Reading
+  abbrev pub answered_by : Reading Refusal
   answered_by = record { answer = once.answer_of (reading x).says; dropped = (reading x).dropped; response = (reading x).replied }
 
   pub says_it : said answered_by.answer ≡ (reading x).says

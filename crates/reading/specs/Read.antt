@@ -1,6 +1,7 @@
 -- What reading one packet answers, and what it leaves in the state and in every lent byte.
 use Rattle.std.specs.Prelude.{ℕ, ◌≡◌, List, [], Bool, false, cond}
 use Rattle.answers.specs.Answers.{Said, said, refused}
+use Rattle.refusals.specs.declared.Refusal.{Refusal}
 use Rattle.answers.specs.declared.Reading.{Reading}
 use Rattle.tables.specs.Refusals.{Leaves, all, flow_closed, all_error, all_retry, Verdict, verdict, by_verdict}
 use Rattle.wire.specs.Head.{is9}
@@ -63,5 +64,5 @@ unfoldable pub reading : Lent → Settled
 reading x = outcome x (verdict (table x))
 
 -- the promise of `read`: the answer, and the desk as it is left
-abbrev pub ReadPromise : Lent → Reading → Desk → Type 0
+abbrev pub ReadPromise : Lent → Reading Refusal → Desk → Type 0
 ReadPromise x r after = settled (said r.answer) r.dropped r.response after ≡ reading x

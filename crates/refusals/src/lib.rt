@@ -4,6 +4,10 @@
 ghost use Rattle.std.specs.Prelude.{◌≡◌};
 ghost use Rattle.refusals.specs.Numbers.{row_number};
 
+mod numbers;
+
+pub use numbers::Numbered;
+
 // The rows, by their numbers (docs/REFUSALS.md says what each means; include/kaiverohm.h has the same names).
 #[derive(Clone, Copy, Debug, PartialEq, Eq)]
 pub enum Refusal {

@@ -31,7 +31,7 @@ put_nowhere s n z h =
     (sym (set_out s.streams n closed_stream (omega arith)))
 
 -- what is said, by the parts of the reading
-pub joined_told : {answer : Result Answer Refusal} {dropped : Bool} {t : Reading} {state : State} {memory : List ℕ} {j : Joined} → t ≡ reading_of answer dropped 0
+pub joined_told : {answer : Result Answer Refusal} {dropped : Bool} {t : Reading Refusal} {state : State} {memory : List ℕ} {j : Joined} → t ≡ reading_of answer dropped 0
     → joining (said answer) dropped state memory ≡ j → (joining (said t.answer) t.dropped state memory ≡ j) × (t.response ≡ 0)
 joined_told e k = rw e (k, refl)
 

@@ -3,21 +3,24 @@
 
 ghost use Rattle.std.specs.Prelude.{◌≡◌, IfSome, unwrap_or, ◌+◌, ◌*◌, ◌<◌, length};
 ghost use Rattle.lists.specs.Bytes.{written};
-ghost use Rattle.refusals.specs.Numbers.{row_number};
-ghost use Rattle.answers.specs.Answers.{said};
+ghost use Rattle.answers.specs.Answers.{said, said_by};
 ghost use Rattle.contexts.specs.Words.{state_of, state_words};
 ghost use Rattle.contexts.specs.State.{stream_contexts};
 ghost use Rattle.stream_rooms.specs.Placing.{data_of};
 ghost use Rattle.stream_rooms.specs.Inside.{Ready, Closing, Delivering, Fits, stream_for};
 
 use answers::{Answer, Reading};
-use refusals::Refusal;
+use refusals::Numbered;
 use wire::Flow;
 
 // A refusal that closes the flow's context, where it has one. Every caller has tested the state, and `found` is what was found.
-pub fn refused_closing(state: &mut [usize], found: Option<usize>, refusal: Refusal) -> Reading
+pub fn refused_closing<R: Numbered>(
+    state: &mut [usize],
+    found: Option<usize>,
+    refusal: R,
+) -> Reading<R>
     requires { (length state.old ≡ state_words) × IfSome found (λ n. n < stream_contexts) }
-    ensures { Closing (state_of state.old) (unwrap_or found stream_contexts) (row_number refusal) (said result.answer) result.dropped (state_of state.new)
+    ensures { Closing (state_of state.old) (unwrap_or found stream_contexts) (R.number_of refusal) (said_by R.number_of result.answer) result.dropped (state_of state.new)
         × (result.response ≡ 0) }
 {
     let Some(open) = found else {

@@ -8,6 +8,6 @@ use Rattle.stream_rooms.proofs.refused_closing.Goals as goal
 
 -- none is open
 pub returns-in_default : goal.returns-in_default
-returns-in_default c =
+returns-in_default g c =
     let words = c.args.state.now in
     rw (c.in_default.is, c.refusal.ensures) (record { answer = refl; drop = refl; state = put_nowhere (state_of words) _ (sixteen words) (omega arith) }, refl)

@@ -3,4 +3,4 @@ use Rattle.log_lines.proofs.Lines.{refused_is}
 use Rattle.log_lines.proofs.Line.answer.Goals as goal
 
 pub returns-in-Err : goal.returns-in-Err
-returns-in-Err c = refused_is c.in-Err.is c.number.ensures c.requires c.text.ensures c.spaced.ensures
+returns-in-Err g c = refused_is g.R.Numbered.number_of c.in-Err.is c.number.ensures c.requires c.text.ensures c.spaced.ensures
