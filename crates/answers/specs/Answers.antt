@@ -25,13 +25,10 @@ pub data Said : Type 0 where
   refused : (number : ℕ) → Said
 
 abbrev pub said_by : {R : Type 0} → (R → ℕ) → Result Answer R → Said
-said_by {R} number_of = said
-  where
-    said : Result Answer R → Said
-    said (Ok answer.Held) = held
-    said (Ok (answer.Delivered context flow stream size)) = delivered context flow stream size
-    said (Ok (answer.Message context source letter mailbox size)) = message context source letter mailbox size
-    said (Err refusal) = refused (number_of refusal)
+said_by number_of (Ok answer.Held) = held
+said_by number_of (Ok (answer.Delivered context flow stream size)) = delivered context flow stream size
+said_by number_of (Ok (answer.Message context source letter mailbox size)) = message context source letter mailbox size
+said_by number_of (Err refusal) = refused (number_of refusal)
 
 abbrev pub said : Result Answer Refusal → Said
 said = said_by row_number

@@ -1,5 +1,5 @@
-// A reader that holds the lent log and its place in it. `found` and `next` take it apart and call that of `log_records`,
-// over a slice and a number. `record_at` and `place_after` stand above them: whoever calls one sees no reader.
+// A reader that holds the lent log and its place in it. `found` takes it apart and calls that of `log_records`,
+// over a slice and a number; `next` calls `found`. `record_at` and `place_after` stand above them: whoever calls one sees no reader.
 #![tactic(auto)]
 
 ghost use Rattle.log_reader.specs.Reader.{NewReaderPromise, PlacePromise, MovedPromise, FoundPromise, PlaceBehindPromise, NextPromise, RecordAtPromise, PlaceAfterPromise, CountRecordsPromise};
